@@ -1,0 +1,156 @@
+-- Bytes, and the tests on them that the other files of definitions are written in.
+-- A byte is a number; a text and a file are lists of bytes.
+use Prim.Native.Nat.{ℕ, _+_}
+use Prim.Native.Char.{code}
+use Prim.Native.String.{String, [] as []ˢ, _∷_ as _∷ˢ_}
+use mathlib.Core.Bool.{Bool, true, false, not, _&&_, _||_}
+use mathlib.Core.List.{List, [], _∷_}
+use mathlib.Core.Option.{Option, none, some}
+use lib.Dec.{eqb, leb, ltb}
+
+infixr 10 if_then_else_
+abbrev pub if_then_else_ {ℓ} : {A : Type ℓ} → Bool → A → A → A
+if_then_else_ true a b = a
+if_then_else_ false a b = b
+
+-- ---- bytes with a name, and quoted text as bytes
+
+abbrev pub TAB : ℕ
+TAB = 9
+
+abbrev pub LF : ℕ
+LF = 10
+
+abbrev pub CR : ℕ
+CR = 13
+
+abbrev pub SPACE : ℕ
+SPACE = 32
+
+-- `#`
+abbrev pub HASH : ℕ
+HASH = 35
+
+-- `%`
+abbrev pub PERCENT : ℕ
+PERCENT = 37
+
+-- `+`
+abbrev pub PLUS : ℕ
+PLUS = 43
+
+-- `-`
+abbrev pub MINUS : ℕ
+MINUS = 45
+
+-- `:`
+abbrev pub COLON : ℕ
+COLON = 58
+
+-- `=`
+abbrev pub EQUALS : ℕ
+EQUALS = 61
+
+-- the backslash
+abbrev pub BACKSLASH : ℕ
+BACKSLASH = 92
+
+-- the bytes of a quoted text, one for each of its characters, all of them ASCII
+abbrev pub bytes : String → List ℕ
+bytes []ˢ = []
+bytes (c ∷ˢ s) = code c ∷ bytes s
+
+-- ---- tests on a byte
+
+-- from a to z, both included
+abbrev pub between : ℕ → ℕ → ℕ → Bool
+between a z b = leb a b && leb b z
+
+-- a space or a tab
+abbrev pub spaceOrTab : ℕ → Bool
+spaceOrTab b = eqb b SPACE || eqb b TAB
+
+-- `0` to `9`
+abbrev pub isDigit : ℕ → Bool
+isDigit b = between 48 57 b
+
+-- a letter `A` to `Z` as its small letter, any other byte as itself
+abbrev pub small : ℕ → ℕ
+small b = if between 65 90 b then b + 32 else b
+
+-- ---- tests on texts
+
+unfoldable pub every : (ℕ → Bool) → List ℕ → Bool
+every p [] = true
+every p (b ∷ s) = p b && every p s
+
+-- the same bytes
+unfoldable pub same : List ℕ → List ℕ → Bool
+same [] [] = true
+same [] (c ∷ t) = false
+same (b ∷ s) [] = false
+same (b ∷ s) (c ∷ t) = eqb b c && same s t
+
+-- the same but for the case of letters
+unfoldable pub alike : List ℕ → List ℕ → Bool
+alike [] [] = true
+alike [] (c ∷ t) = false
+alike (b ∷ s) [] = false
+alike (b ∷ s) (c ∷ t) = eqb (small b) (small c) && alike s t
+
+-- the second text begins with the first
+unfoldable pub beginsWith : List ℕ → List ℕ → Bool
+beginsWith [] t = true
+beginsWith (b ∷ s) [] = false
+beginsWith (b ∷ s) (c ∷ t) = eqb b c && beginsWith s t
+
+-- a number is in a list of numbers, as a byte in a text
+unfoldable pub isIn : ℕ → List ℕ → Bool
+isIn n [] = false
+isIn n (m ∷ ms) = eqb n m || isIn n ms
+
+abbrev pub isEmpty : List ℕ → Bool
+isEmpty [] = true
+isEmpty (b ∷ s) = false
+
+-- ---- lists of words
+
+-- the word is one of these, ignoring case
+unfoldable pub isAny : List ℕ → List String → Bool
+isAny w [] = false
+isAny w (n ∷ ns) = alike w (bytes n) || isAny w ns
+
+-- the number, from 0 for the first that is asked, of the row that has the word, ignoring case
+unfoldable pub rowFrom : ℕ → List ℕ → List (List String) → Option ℕ
+rowFrom i w [] = none
+rowFrom i w (r ∷ rs) = if isAny w r then some i else rowFrom (i + 1) w rs
+
+abbrev pub rowOf : List ℕ → List (List String) → Option ℕ
+rowOf w rs = rowFrom 0 w rs
+
+-- ---- answers that may be missing
+
+module _ {A : Type 0} where
+  abbrev pub isSome : Option A → Bool
+  isSome none = false
+  isSome (some a) = true
+
+  -- what is there, or else d
+  abbrev pub orDefault : A → Option A → A
+  orDefault d none = d
+  orDefault d (some a) = a
+
+  -- the first of two that is there
+  abbrev pub orElse : Option A → Option A → Option A
+  orElse none o = o
+  orElse (some a) o = some a
+
+-- a byte in front of a text that may be missing
+abbrev pub onto : ℕ → Option (List ℕ) → Option (List ℕ)
+onto b none = none
+onto b (some t) = some (b ∷ t)
+
+-- go on with a text that may be missing
+abbrev pub andThen : Option (List ℕ) → (List ℕ → Option (List ℕ)) → Option (List ℕ)
+andThen none next = none
+andThen (some t) next = next t

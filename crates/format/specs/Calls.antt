@@ -1,0 +1,262 @@
+-- The whole answer of each public call: its result and every lent byte and entry as it returns, refused or not.
+-- Document 01 fixes the part that comes with a refused data call, and that a refused setting leaves length and count;
+-- with any other refusal come zeros (docs/DECISIONS.md, "What comes with a refusal").
+use Prim.Native.Nat.{ℕ, _+_, _-_}
+use mathlib.Core.Bool.{Bool, true, false, not, _&&_, _||_}
+use mathlib.Core.List.{List, [], _∷_, _++_, map}
+use mathlib.Core.Option.{Option, none, some}
+use lib.Dec.{eqb, ltb}
+use lib.IntN.{ℤ}
+use lib.ListN.{length, take, drop, replicate}
+use Rattle.format.specs.declared.Refusal.{Refusal}
+use Rattle.format.specs.declared.Reading.{Reading}
+use Rattle.format.specs.declared.ReadAnswer.{ReadAnswer}
+use Rattle.format.specs.declared.PlaceAnswer.{PlaceAnswer}
+use Rattle.format.specs.declared.ValueAnswer.{ValueAnswer}
+use Rattle.format.specs.declared.DataAnswer.{DataAnswer}
+use Rattle.format.specs.declared.CountAnswer.{CountAnswer}
+use Rattle.format.specs.declared.NumberAnswer.{NumberAnswer}
+use Rattle.format.specs.declared.WriteAnswer.{WriteAnswer}
+use Rattle.format.specs.declared.SetAnswer.{SetAnswer}
+use Rattle.format.specs.Bytes.{if_then_else_, isSome}
+use Rattle.format.specs.Limits.{maxAxes}
+use Rattle.format.specs.Refusals.{lentTooShort, badCoordinates, refusal, fine}
+use Rattle.format.specs.Lines.{text, size}
+use Rattle.format.specs.Pairs.{Marked, unmarked, fieldMark, pairMark, mark, escape}
+use Rattle.format.specs.Fields.{Given}
+use Rattle.format.specs.Descriptors.{fromDescriptor, isDetached, dimensionOf, typeOf, encodingOf, endianOf, sizesOf, lineSkipOf, byteSkipOf, extentOf, sampleBytes, kindOf, product}
+use Rattle.format.specs.Header.{Item, magic, comment, field, pair, closing, Entry, entry, Outcome, refused, accepted, header, versionOf, valueOf, valueIn, tableOf, headerLength}
+use Rattle.format.specs.Data.{Place, nowhere, part, placeOf, partOf}
+use Rattle.format.specs.Samples.{Decoded, samplesOf}
+use Rattle.format.specs.Axes.{inside, sampleNumber}
+use Rattle.format.specs.Writer.{fileBytes, writeRefusal}
+use Rattle.format.specs.Settings.{Lent, lent, Setting, setting, SetOutcome, kept, changed, setKey, hasKey}
+
+-- a lent list with its front replaced; what is past it stays
+abbrev pub over : {A : Type 0} → List A → List A → List A
+over new old = new ++ drop (length new) old
+
+-- ---- header::read_header: the reading without the table
+
+unfoldable pub noReading : Reading
+noReading =
+    record { version = 0; form = 0; dimension = 0; sampletype = 0; encoding = 0; endian = 0; sizes = replicate maxAxes 0; lineskip = 0; byteskip = 0; extent = 0; length = 0; lines = 0 }
+
+abbrev pub formOf : List Given → ℕ
+formOf gs = if isDetached gs then 1 else 0
+
+unfoldable pub readingOf : List Entry → List Given → Reading
+readingOf es gs =
+    record
+      { version = versionOf es
+      ; form = formOf gs
+      ; dimension = dimensionOf gs
+      ; sampletype = typeOf gs
+      ; encoding = encodingOf gs
+      ; endian = endianOf gs
+      ; sizes = sizesOf gs ++ replicate (maxAxes - length (sizesOf gs)) 0
+      ; lineskip = lineSkipOf gs
+      ; byteskip = byteSkipOf gs
+      ; extent = extentOf gs
+      ; length = headerLength es
+      ; lines = length es
+      }
+
+abbrev pub readAnswer : Outcome → ReadAnswer
+readAnswer (refused r) = record { refusal = r; reading = noReading }
+readAnswer (accepted es gs ls) = record { refusal = fine; reading = readingOf es gs }
+
+abbrev pub readHeaderCall : List ℕ → ReadAnswer
+readHeaderCall file = readAnswer (header file)
+
+-- ---- header::read: the reading, then 22 for the table; the lent table as it returns
+
+abbrev pub noReadAnswer : Refusal → ReadAnswer
+noReadAnswer r = record { refusal = r; reading = noReading }
+
+unfoldable pub withTable : List ℕ → Outcome → ReadAnswer × List ℕ
+withTable table (refused r) = (noReadAnswer r, table)
+withTable table (accepted es gs ls) =
+    if ltb (length table) (length es) then (noReadAnswer (refusal lentTooShort), table)
+    else (readAnswer (accepted es gs ls), over (tableOf es) table)
+
+abbrev pub readCall : List ℕ → List ℕ → ReadAnswer × List ℕ
+readCall file table = withTable table (header file)
+
+-- ---- header::find_key, header::find_field: where the bytes lie in the file, or that they are absent
+
+abbrev pub noPlace : Refusal → PlaceAnswer
+noPlace r = record { refusal = r; found = false; start = 0; length = 0 }
+
+abbrev pub foundAt : ℕ → ℕ → PlaceAnswer
+foundAt at n = record { refusal = fine; found = true; start = at; length = n }
+
+-- the value's text of a pair, in a line that starts at `at`: it follows the key's text and `:=`
+abbrev pub valuePlace : ℕ → Item → PlaceAnswer
+valuePlace at (magic n) = noPlace fine
+valuePlace at comment = noPlace fine
+valuePlace at (field f d) = noPlace fine
+valuePlace at (pair k v) = foundAt (at + (length (escape k) + 2)) (length (escape v))
+valuePlace at closing = noPlace fine
+
+-- the place of the value's text in the last line with the key, in entries that start at `at`
+unfoldable pub keyPlace : List ℕ → ℕ → List Entry → PlaceAnswer
+keyPlace k at [] = noPlace fine
+keyPlace k at (entry l i ∷ es) =
+    if hasKey k es then keyPlace k (at + size l) es
+    else if isSome (valueIn k i) then valuePlace at i
+    else noPlace fine
+
+abbrev pub findKeyIn : List ℕ → Outcome → PlaceAnswer
+findKeyIn k (refused r) = noPlace r
+findKeyIn k (accepted es gs ls) = keyPlace k 0 es
+
+abbrev pub findKeyCall : List ℕ → List ℕ → PlaceAnswer
+findKeyCall file k = findKeyIn k (header file)
+
+-- what follows the mark of a field's line
+abbrev pub afterMark : Marked → List ℕ
+afterMark unmarked = []
+afterMark (fieldMark n rest) = rest
+afterMark (pairMark k v) = []
+
+-- how many bytes of a field's line stand before its descriptor
+abbrev pub beforeDescriptor : ℕ → List ℕ → ℕ
+beforeDescriptor f t = length t - length (fromDescriptor f (afterMark (mark t)))
+
+-- the place of the descriptor that a line gives the field f, or what the lines after it say
+abbrev pub descriptorPlace : ℕ → ℕ → List ℕ → Item → PlaceAnswer → PlaceAnswer
+descriptorPlace f at t (magic n) rest = rest
+descriptorPlace f at t comment rest = rest
+descriptorPlace f at t (field g d) rest = if eqb f g then foundAt (at + beforeDescriptor f t) (length d) else rest
+descriptorPlace f at t (pair k v) rest = rest
+descriptorPlace f at t closing rest = rest
+
+unfoldable pub fieldPlace : ℕ → ℕ → List Entry → PlaceAnswer
+fieldPlace f at [] = noPlace fine
+fieldPlace f at (entry l i ∷ es) = descriptorPlace f at (text l) i (fieldPlace f (at + size l) es)
+
+abbrev pub findFieldIn : ℕ → Outcome → PlaceAnswer
+findFieldIn f (refused r) = noPlace r
+findFieldIn f (accepted es gs ls) = fieldPlace f 0 es
+
+abbrev pub findFieldCall : List ℕ → ℕ → PlaceAnswer
+findFieldCall file f = findFieldIn f (header file)
+
+-- ---- header::copy_value: the value of a key, escapes resolved, at the front of a lent buffer; 22 if it is short
+
+abbrev pub noValue : Refusal → ValueAnswer
+noValue r = record { refusal = r; found = false; length = 0 }
+
+abbrev pub copyValue : List ℕ → Option (List ℕ) → ValueAnswer × List ℕ
+copyValue buf none = (noValue fine, buf)
+copyValue buf (some v) =
+    if ltb (length buf) (length v) then (noValue (refusal lentTooShort), buf)
+    else (record { refusal = fine; found = true; length = length v }, over v buf)
+
+abbrev pub copyValueIn : List ℕ → List ℕ → Outcome → ValueAnswer × List ℕ
+copyValueIn k buf (refused r) = (noValue r, buf)
+copyValueIn k buf (accepted es gs ls) = copyValue buf (valueOf k es)
+
+abbrev pub copyValueCall : List ℕ → List ℕ → List ℕ → ValueAnswer × List ℕ
+copyValueCall file k buf = copyValueIn k buf (header file)
+
+-- ---- volume::data_place and volume::data
+
+abbrev pub noData : Refusal → DataAnswer
+noData r = record { refusal = r; second = false; start = 0; length = 0 }
+
+abbrev pub dataAnswer : Place → DataAnswer
+dataAnswer (nowhere n) = noData (refusal n)
+dataAnswer (part s start n) = record { refusal = fine; second = s; start = start; length = n }
+
+abbrev pub dataPlaceIn : List ℕ → List ℕ → Outcome → DataAnswer
+dataPlaceIn file second (refused r) = noData r
+dataPlaceIn file second (accepted es gs ls) = dataAnswer (placeOf false gs (headerLength es) file second)
+
+abbrev pub dataPlaceCall : List ℕ → List ℕ → DataAnswer
+dataPlaceCall file second = dataPlaceIn file second (header file)
+
+-- the part itself; with a refusal the empty part at the start of the header's file
+abbrev pub dataIn : DataAnswer → List ℕ → List ℕ → List ℕ
+dataIn d file second = take (d .length) (drop (d .start) (if d .second then second else file))
+
+abbrev pub dataCall : List ℕ → List ℕ → List ℕ
+dataCall file second = dataIn (dataPlaceCall file second) file second
+
+-- where the part starts, as a pointer (block and offset), in the file that holds it
+abbrev pub dataPointer : ℕ × ℕ → ℕ × ℕ → DataAnswer → ℕ × ℕ
+dataPointer file second d = if d .second then (second .0, d .start + second .1) else (file .0, d .start + file .1)
+
+-- ---- volume::check_samples and volume::samples: a list of `room` entries is lent
+
+abbrev pub noSamples : Refusal → CountAnswer
+noSamples r = record { refusal = r; count = 0 }
+
+-- how many samples the sizes ask for
+abbrev pub countOf : List Given → ℕ
+countOf gs = product (sizesOf gs)
+
+abbrev pub decoded : List Given → List ℕ → Decoded
+decoded gs s = samplesOf (encodingOf gs) (kindOf (typeOf gs)) (sampleBytes (typeOf gs)) (endianOf gs) (countOf gs) s
+
+abbrev pub answerDecoded : ℕ → Decoded → CountAnswer
+answerDecoded n d = if eqb (d .number) 0 then record { refusal = fine; count = n } else noSamples (refusal (d .number))
+
+abbrev pub checkAt : List Given → Place → ℕ → List ℕ → List ℕ → CountAnswer
+checkAt gs (nowhere n) room file second = noSamples (refusal n)
+checkAt gs (part s start n) room file second =
+    if ltb room (countOf gs) then noSamples (refusal lentTooShort)
+    else answerDecoded (countOf gs) (decoded gs (partOf (part s start n) file second))
+
+abbrev pub checkIn : ℕ → List ℕ → List ℕ → Outcome → CountAnswer
+checkIn room file second (refused r) = noSamples r
+checkIn room file second (accepted es gs ls) = checkAt gs (placeOf true gs (headerLength es) file second) room file second
+
+abbrev pub checkSamplesCall : List ℕ → List ℕ → ℕ → CountAnswer
+checkSamplesCall file second room = checkIn room file second (header file)
+
+-- the samples where nothing is refused
+abbrev pub seenIn : List ℕ → List ℕ → Outcome → List ℤ
+seenIn file second (refused r) = []
+seenIn file second (accepted es gs ls) = decoded gs (partOf (placeOf true gs (headerLength es) file second) file second) .seen
+
+-- the lent list as it returns: the samples at its front, or as it was where they are refused
+abbrev pub listAfter : CountAnswer → List ℤ → List ℤ → List ℤ
+listAfter a zs list = if eqb (a .refusal .number) 0 then over zs list else list
+
+abbrev pub samplesCall : List ℕ → List ℕ → List ℤ → CountAnswer × List ℤ
+samplesCall file second list =
+    let a = checkSamplesCall file second (length list) in (a, listAfter a (seenIn file second (header file)) list)
+
+-- ---- volume::sample_number
+
+abbrev pub numberAnswer : List ℕ → Outcome → NumberAnswer
+numberAnswer cs (refused r) = record { refusal = r; number = 0 }
+numberAnswer cs (accepted es gs ls) =
+    if inside (sizesOf gs) cs then record { refusal = fine; number = sampleNumber (sizesOf gs) cs }
+    else record { refusal = refusal badCoordinates; number = 0 }
+
+abbrev pub sampleNumberCall : List ℕ → List ℕ → NumberAnswer
+sampleNumberCall file cs = numberAnswer cs (header file)
+
+-- ---- writer::write: the answer, and the lent buffer as it returns
+
+abbrev pub writeAnswer : ℕ → List ℕ → List ℕ → WriteAnswer × List ℕ
+writeAnswer n file out =
+    if eqb n 0 then (record { refusal = fine; length = length file }, over file out)
+    else (record { refusal = refusal n; length = 0 }, out)
+
+abbrev pub writeCall : ℕ → List ℕ → ℕ → ℕ → ℕ → List ℤ → List ℕ → WriteAnswer × List ℕ
+writeCall version sizes t e endian zs out =
+    writeAnswer (writeRefusal version sizes t e endian zs (length out)) (fileBytes version sizes t e endian zs) out
+
+-- ---- settings::set_key: the answer, and the lent buffer and table as it returns
+
+abbrev pub setAnswer : List ℕ → ℕ → List ℕ → ℕ → SetOutcome → SetAnswer × (List ℕ × List ℕ)
+setAnswer buf used table count (kept r) = (record { refusal = r; length = used; count = count }, (buf, table))
+setAnswer buf used table count (changed (lent buf′ used′ table′ count′)) =
+    (record { refusal = fine; length = used′; count = count′ }, (buf′, table′))
+
+abbrev pub setKeyCall : List ℕ → ℕ → List ℕ → ℕ → List ℕ → List ℕ → SetAnswer × (List ℕ × List ℕ)
+setKeyCall buf used table count k v = setAnswer buf used table count (setKey (lent buf used table count) (setting k v))

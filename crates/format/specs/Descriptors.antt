@@ -1,0 +1,250 @@
+-- Descriptors and what they mean (document 01, "Lines and headers", point 5; "Understood fields", "Needed", "Types";
+-- "Data and samples", extent).
+use Prim.Native.Nat.{ℕ, _+_, _-_, _*_}
+use Prim.Native.String.{String}
+use mathlib.Core.Bool.{Bool, true, false, not, _&&_, _||_}
+use mathlib.Core.List.{List, [], _∷_, _++_, map}
+use mathlib.Core.Option.{Option, none, some}
+use lib.Dec.{eqb, leb, ltb}
+use lib.ListN.{length, getD}
+use Rattle.format.specs.Bytes.{if_then_else_, bytes, between, spaceOrTab, isDigit, same, beginsWith, isIn, isEmpty, rowOf, isSome, orDefault, PERCENT}
+use Rattle.format.specs.Limits.{maxAxes, maxSize, maxSkip}
+use Rattle.format.specs.Fields.{Given, descriptorOf, isGiven, understood, dimension, type, encoding, endian, sizes, lineSkip, byteSkip, dataFile}
+
+-- ---- the text of a descriptor
+
+-- without the spaces and tabs at its front
+unfoldable pub trimFront : List ℕ → List ℕ
+trimFront [] = []
+trimFront (b ∷ s) = if spaceOrTab b then trimFront s else b ∷ s
+
+-- a byte before a trimmed text: a space or tab stays only before something
+abbrev pub trimByte : ℕ → List ℕ → List ℕ
+trimByte b [] = if spaceOrTab b then [] else b ∷ []
+trimByte b (c ∷ s) = b ∷ c ∷ s
+
+-- without the spaces and tabs at its end
+unfoldable pub trimEnd : List ℕ → List ℕ
+trimEnd [] = []
+trimEnd (b ∷ s) = trimByte b (trimEnd s)
+
+-- what follows the mark of a field, from where its descriptor starts: in understood fields past the spaces and tabs
+abbrev pub fromDescriptor : ℕ → List ℕ → List ℕ
+fromDescriptor f rest = if understood f then trimFront rest else rest
+
+-- the descriptor of a field in what follows its mark
+unfoldable pub descriptor : ℕ → List ℕ → List ℕ
+descriptor f rest = trimEnd (fromDescriptor f rest)
+
+-- ---- numbers: digits without sign, leading zeros allowed
+
+-- the number that the digits of the text write after those of n, or none where one is no digit
+unfoldable pub digitsFrom : ℕ → List ℕ → Option ℕ
+digitsFrom n [] = some n
+digitsFrom n (b ∷ s) = if isDigit b then digitsFrom (n * 10 + (b - 48)) s else none
+
+-- one digit or more
+unfoldable pub number : List ℕ → Option ℕ
+number [] = none
+number (b ∷ s) = digitsFrom 0 (b ∷ s)
+
+abbrev pub within : ℕ → ℕ → Option ℕ → Bool
+within least most none = false
+within least most (some n) = between least most n
+
+abbrev pub numberIn : ℕ → ℕ → List ℕ → Bool
+numberIn least most t = within least most (number t)
+
+-- the value of a number, 0 where it is none
+abbrev pub valueOfNumber : List ℕ → ℕ
+valueOfNumber t = orDefault 0 (number t)
+
+-- ---- numbers parted by spaces or tabs
+
+-- a byte in front of the first word
+abbrev pub joinFirst : ℕ → List (List ℕ) → List (List ℕ)
+joinFirst b [] = (b ∷ []) ∷ []
+joinFirst b (w ∷ ws) = (b ∷ w) ∷ ws
+
+-- what each space or tab parts, empty parts included
+unfoldable pub parts : List ℕ → List (List ℕ)
+parts [] = [] ∷ []
+parts (b ∷ s) = if spaceOrTab b then [] ∷ parts s else joinFirst b (parts s)
+
+unfoldable pub notEmpty : List (List ℕ) → List (List ℕ)
+notEmpty [] = []
+notEmpty (w ∷ ws) = if isEmpty w then notEmpty ws else w ∷ notEmpty ws
+
+abbrev pub words : List ℕ → List (List ℕ)
+words t = notEmpty (parts t)
+
+unfoldable pub numbersIn : ℕ → ℕ → List (List ℕ) → Bool
+numbersIn least most [] = true
+numbersIn least most (w ∷ ws) = numberIn least most w && numbersIn least most ws
+
+-- ---- types, encodings, endians: numbered from 0 as listed, by names that ignore case
+
+pub data Kind : Type 0 where
+  signed unsigned floating : Kind
+
+-- a type: its name before the colon, the bytes of a sample, its kind, and all its names
+pub data SampleType : Type 0 where
+  sampleType : String → ℕ → Kind → List String → SampleType
+
+abbrev pub types : List SampleType
+types =
+    sampleType "int8" 1 signed ("signed char" ∷ "int8" ∷ "int8_t" ∷ [])
+    ∷ sampleType "uint8" 1 unsigned ("uchar" ∷ "unsigned char" ∷ "uint8" ∷ "uint8_t" ∷ [])
+    ∷ sampleType "int16" 2 signed ("short" ∷ "short int" ∷ "signed short" ∷ "signed short int" ∷ "int16" ∷ "int16_t" ∷ [])
+    ∷ sampleType "uint16" 2 unsigned ("ushort" ∷ "unsigned short" ∷ "unsigned short int" ∷ "uint16" ∷ "uint16_t" ∷ [])
+    ∷ sampleType "int32" 4 signed ("int" ∷ "signed int" ∷ "int32" ∷ "int32_t" ∷ [])
+    ∷ sampleType "uint32" 4 unsigned ("uint" ∷ "unsigned int" ∷ "uint32" ∷ "uint32_t" ∷ [])
+    ∷ sampleType "int64" 8 signed
+        ("longlong" ∷ "long long" ∷ "long long int" ∷ "signed long long" ∷ "signed long long int" ∷ "int64" ∷ "int64_t" ∷ [])
+    ∷ sampleType "uint64" 8 unsigned
+        ("ulonglong" ∷ "unsigned long long" ∷ "unsigned long long int" ∷ "uint64" ∷ "uint64_t" ∷ [])
+    ∷ sampleType "float" 4 floating ("float" ∷ [])
+    ∷ sampleType "double" 8 floating ("double" ∷ [])
+    ∷ []
+
+abbrev pub encodings : List (List String)
+encodings = ("raw" ∷ []) ∷ ("txt" ∷ "text" ∷ "ascii" ∷ []) ∷ ("hex" ∷ []) ∷ []
+
+abbrev pub raw : ℕ
+raw = 0
+
+abbrev pub asText : ℕ
+asText = 1
+
+abbrev pub hex : ℕ
+hex = 2
+
+abbrev pub endians : List (List String)
+endians = ("little" ∷ []) ∷ ("big" ∷ []) ∷ []
+
+abbrev pub little : ℕ
+little = 0
+
+abbrev pub big : ℕ
+big = 1
+
+-- the endian that is not given
+abbrev pub noEndian : ℕ
+noEndian = 2
+
+abbrev pub typeNames : SampleType → List String
+typeNames (sampleType name n k ns) = ns
+
+abbrev pub typeName : SampleType → String
+typeName (sampleType name n k ns) = name
+
+abbrev pub bytesOfType : SampleType → ℕ
+bytesOfType (sampleType name n k ns) = n
+
+abbrev pub kindOfType : SampleType → Kind
+kindOfType (sampleType name n k ns) = k
+
+-- the type of a number; past the list the type of number 0
+unfoldable pub typeAt : ℕ → SampleType
+typeAt t = getD types t (sampleType "int8" 1 signed [])
+
+-- the bytes of a sample
+abbrev pub sampleBytes : ℕ → ℕ
+sampleBytes t = bytesOfType (typeAt t)
+
+abbrev pub kindOf : ℕ → Kind
+kindOf t = kindOfType (typeAt t)
+
+abbrev pub isFloating : Kind → Bool
+isFloating signed = false
+isFloating unsigned = false
+isFloating floating = true
+
+abbrev pub typeNamed : List ℕ → Option ℕ
+typeNamed w = rowOf w (map typeNames types)
+
+abbrev pub encodingNamed : List ℕ → Option ℕ
+encodingNamed w = rowOf w encodings
+
+abbrev pub endianNamed : List ℕ → Option ℕ
+endianNamed w = rowOf w endians
+
+-- endian matters where a sample has more than one byte and the encoding is raw or hex
+abbrev pub endianNeeded : ℕ → ℕ → Bool
+endianNeeded t e = ltb 1 (sampleBytes t) && (eqb e raw || eqb e hex)
+
+-- ---- what the given fields mean
+
+-- the meaning of a field's descriptor, or d where the field is not given
+abbrev pub meaning : {A : Type 0} → A → (List ℕ → A) → Option (List ℕ) → A
+meaning d f none = d
+meaning d f (some t) = f t
+
+abbrev pub dimensionOf : List Given → ℕ
+dimensionOf gs = meaning 0 valueOfNumber (descriptorOf dimension gs)
+
+abbrev pub typeOf : List Given → ℕ
+typeOf gs = meaning 0 (λ t. orDefault 0 (typeNamed t)) (descriptorOf type gs)
+
+abbrev pub encodingOf : List Given → ℕ
+encodingOf gs = meaning 0 (λ t. orDefault 0 (encodingNamed t)) (descriptorOf encoding gs)
+
+abbrev pub endianOf : List Given → ℕ
+endianOf gs = meaning noEndian (λ t. orDefault noEndian (endianNamed t)) (descriptorOf endian gs)
+
+abbrev pub sizesOf : List Given → List ℕ
+sizesOf gs = meaning [] (λ t. map valueOfNumber (words t)) (descriptorOf sizes gs)
+
+abbrev pub lineSkipOf : List Given → ℕ
+lineSkipOf gs = meaning 0 valueOfNumber (descriptorOf lineSkip gs)
+
+abbrev pub byteSkipOf : List Given → ℕ
+byteSkipOf gs = meaning 0 valueOfNumber (descriptorOf byteSkip gs)
+
+-- a header with a data file field is detached
+abbrev pub isDetached : List Given → Bool
+isDetached gs = isGiven dataFile gs
+
+-- ---- the descriptor that a field may have (refusal 11)
+
+-- as many sizes as the dimension
+abbrev pub sizesFine : ℕ → List (List ℕ) → Bool
+sizesFine n ws = eqb (length ws) n && numbersIn 1 maxSize ws
+
+-- a name is not empty, not `LIST`, does not start with `LIST `, and has no `%`
+abbrev pub isName : List ℕ → Bool
+isName t = not (isEmpty t) && (not (same t (bytes "LIST")) && (not (beginsWith (bytes "LIST ") t) && not (isIn PERCENT t)))
+
+-- the field may have the descriptor t after the fields given; a carried field may have any
+unfoldable pub mayDescribe : List Given → ℕ → List ℕ → Bool
+mayDescribe gs f t =
+    if eqb f dimension then numberIn 1 maxAxes t
+    else if eqb f type then isSome (typeNamed t)
+    else if eqb f encoding then isSome (encodingNamed t)
+    else if eqb f endian then isSome (endianNamed t)
+    else if eqb f sizes then sizesFine (dimensionOf gs) (words t)
+    else if eqb f lineSkip then numberIn 0 maxSkip t
+    else if eqb f byteSkip then numberIn 0 maxSkip t
+    else if eqb f dataFile then isName t
+    else true
+
+-- ---- what is needed (refusal 14), and the extent
+
+unfoldable pub hasNeeded : List Given → Bool
+hasNeeded gs =
+    isGiven dimension gs
+    && (isGiven type gs
+    && (isGiven encoding gs
+    && (isGiven sizes gs
+    && (isGiven endian gs || not (endianNeeded (typeOf gs) (encodingOf gs))))))
+
+unfoldable pub product : List ℕ → ℕ
+product [] = 1
+product (n ∷ ns) = n * product ns
+
+-- the product of the sizes times the bytes of a sample
+abbrev pub extent : List ℕ → ℕ → ℕ
+extent ns t = product ns * sampleBytes t
+
+abbrev pub extentOf : List Given → ℕ
+extentOf gs = extent (sizesOf gs) (typeOf gs)

@@ -1,0 +1,194 @@
+-- The header: what each line is, the walk over the lines with its refusals in order, the reading and the line table
+-- (document 01, "Lines and headers", "Numbers of refusal", order for reading).
+use Prim.Native.Nat.{ℕ, _+_}
+use Prim.Native.String.{String}
+use mathlib.Core.Bool.{Bool, true, false, not, _&&_, _||_}
+use mathlib.Core.List.{List, [], _∷_, _++_, map}
+use mathlib.Core.Option.{Option, none, some}
+use lib.Dec.{eqb, ltb}
+use lib.ListN.{length}
+use Rattle.format.specs.declared.Refusal.{Refusal}
+use Rattle.format.specs.Bytes.{if_then_else_, bytes, every, same, orElse, HASH}
+use Rattle.format.specs.Limits.{maxFile, maxHeader, maxLines, maxExtent}
+use Rattle.format.specs.Refusals.{fileTooLong, noMagic, headerTooLong, tooManyLines, badByte, noMark, unknownField, notInVersion, repeatedField, outOfOrder, badDescriptor, badBackslash, noEnd, missingField, extentTooLarge, atLine, refusal}
+use Rattle.format.specs.Lines.{Line, line, Ending, lf, crlf, eof, text, size, lines, unlines, starts}
+use Rattle.format.specs.Pairs.{plain, Marked, unmarked, fieldMark, pairMark, mark, unescape}
+use Rattle.format.specs.Fields.{fieldNamed, pairsSince, fieldSince, Given, given, isGiven, inOrder}
+use Rattle.format.specs.Descriptors.{descriptor, mayDescribe, hasNeeded, extentOf, isDetached}
+
+-- ---- what a line is
+
+pub data Item : Type 0 where
+  -- line 1, with its version
+  magic : ℕ → Item
+  comment : Item
+  -- a field and its descriptor
+  field : ℕ → List ℕ → Item
+  -- a key and its value, escapes resolved
+  pair : List ℕ → List ℕ → Item
+  -- the empty line that closes the header
+  closing : Item
+
+-- a line of the header, and what it is
+pub data Entry : Type 0 where
+  entry : Line → Item → Entry
+
+abbrev pub lineOf : Entry → Line
+lineOf (entry l i) = l
+
+abbrev pub itemOf : Entry → Item
+itemOf (entry l i) = i
+
+abbrev pub linesOf : List Entry → List Line
+linesOf es = map lineOf es
+
+-- ---- line 1: the magic, exactly, with its ending
+
+unfoldable pub magicVersion : List ℕ → Option ℕ
+magicVersion t =
+    if same t (bytes "NRRD0001") then some 1
+    else if same t (bytes "NRRD00.01") then some 1
+    else if same t (bytes "NRRD0002") then some 2
+    else if same t (bytes "NRRD0003") then some 3
+    else if same t (bytes "NRRD0004") then some 4
+    else if same t (bytes "NRRD0005") then some 5
+    else none
+
+abbrev pub versionOfLine : Line → Option ℕ
+versionOfLine (line t lf) = magicVersion t
+versionOfLine (line t crlf) = magicVersion t
+versionOfLine (line t eof) = none
+
+-- ---- one line after line 1: what it is, or the number of its refusal; 5 to 12 in order
+
+pub data Judged : Type 0 where
+  wrong : ℕ → Judged
+  right : Item → Judged
+
+abbrev pub unescaped : Option (List ℕ) → Option (List ℕ) → Judged
+unescaped none v = wrong badBackslash
+unescaped (some k) none = wrong badBackslash
+unescaped (some k) (some v) = right (pair k v)
+
+-- a pair of the key and the value as they stand in the line
+unfoldable pub onPair : ℕ → List ℕ → List ℕ → Judged
+onPair version [] v = wrong noMark
+onPair version (b ∷ k) v =
+    if ltb version pairsSince then wrong notInVersion
+    else unescaped (unescape (b ∷ k)) (unescape v)
+
+-- a field f, or an unknown one, with what follows its mark, after the fields given
+unfoldable pub onField : ℕ → List Given → Option ℕ → List ℕ → Judged
+onField version gs none rest = wrong unknownField
+onField version gs (some f) rest =
+    if ltb version (fieldSince f) then wrong notInVersion
+    else if isGiven f gs then wrong repeatedField
+    else if not (inOrder f gs) then wrong outOfOrder
+    else if not (mayDescribe gs f (descriptor f rest)) then wrong badDescriptor
+    else right (field f (descriptor f rest))
+
+abbrev pub onMark : ℕ → List Given → Marked → Judged
+onMark version gs unmarked = wrong noMark
+onMark version gs (fieldMark name rest) = onField version gs (fieldNamed name) rest
+onMark version gs (pairMark k v) = onPair version k v
+
+-- a line by its text; of a file's lines an empty one always has its ending (law `shape-of-lines`)
+unfoldable pub judge : ℕ → List Given → List ℕ → Judged
+judge version gs [] = right closing
+judge version gs (b ∷ t) =
+    if eqb b HASH then right comment
+    else if not (every plain (b ∷ t)) then wrong badByte
+    else onMark version gs (mark (b ∷ t))
+
+-- ---- the walk over the lines
+
+-- refused; or accepted: the header's lines with what they are, the fields given, and the lines after the header
+pub data Outcome : Type 0 where
+  refused : Refusal → Outcome
+  accepted : List Entry → List Given → List Line → Outcome
+
+abbrev pub withEntry : Entry → Outcome → Outcome
+withEntry e (refused r) = refused r
+withEntry e (accepted es gs ls) = accepted (e ∷ es) gs ls
+
+abbrev pub closes : Item → Bool
+closes (magic n) = false
+closes comment = false
+closes (field f d) = false
+closes (pair k v) = false
+closes closing = true
+
+-- the fields given once the line is read
+abbrev pub afterItem : Item → List Given → List Given
+afterItem (magic n) gs = gs
+afterItem comment gs = gs
+afterItem (field f d) gs = given f d ∷ gs
+afterItem (pair k v) gs = gs
+afterItem closing gs = gs
+
+-- the header is at its end, before the lines ls
+unfoldable pub complete : List Given → List Line → Outcome
+complete gs ls =
+    if not (hasNeeded gs) then refused (refusal missingField)
+    else if ltb maxExtent (extentOf gs) then refused (refusal extentTooLarge)
+    else accepted [] gs ls
+
+abbrev pub onJudged : ℕ → Line → Judged → (Item → Outcome) → Outcome
+onJudged n l (wrong w) next = refused (atLine w n)
+onJudged n l (right i) next = withEntry (entry l i) (next i)
+
+-- the lines from line n on, which starts at byte `at`, after the fields given
+unfoldable pub walk : ℕ → ℕ → ℕ → List Given → List Line → Outcome
+walk version n at gs [] = if isDetached gs then complete gs [] else refused (refusal noEnd)
+walk version n at gs (l ∷ ls) =
+    if ltb maxHeader (at + size l) then refused (atLine headerTooLong n)
+    else if ltb maxLines n then refused (atLine tooManyLines n)
+    else onJudged n l (judge version gs (text l)) λ i.
+        if closes i then complete gs ls
+        else walk version (n + 1) (at + size l) (afterItem i gs) ls
+
+abbrev pub afterMagic : Line → Option ℕ → List Line → Outcome
+afterMagic l none ls = refused (atLine noMagic 1)
+afterMagic l (some v) ls = withEntry (entry l (magic v)) (walk v 2 (size l) [] ls)
+
+abbrev pub fromFirst : List Line → Outcome
+fromFirst [] = refused (atLine noMagic 1)
+fromFirst (l ∷ ls) = afterMagic l (versionOfLine l) ls
+
+-- the header of a file
+unfoldable pub header : List ℕ → Outcome
+header file = if ltb maxFile (length file) then refused (refusal fileTooLong) else fromFirst (lines file)
+
+-- ---- the reading: version, form (`isDetached`), each field's descriptor (`descriptorOf`), each key's value
+
+abbrev pub versionOfItem : Item → ℕ
+versionOfItem (magic n) = n
+versionOfItem comment = 0
+versionOfItem (field f d) = 0
+versionOfItem (pair k v) = 0
+versionOfItem closing = 0
+
+abbrev pub versionOf : List Entry → ℕ
+versionOf [] = 0
+versionOf (e ∷ es) = versionOfItem (itemOf e)
+
+-- the value that a line gives the key k
+abbrev pub valueIn : List ℕ → Item → Option (List ℕ)
+valueIn k (magic n) = none
+valueIn k comment = none
+valueIn k (field f d) = none
+valueIn k (pair j v) = if same k j then some v else none
+valueIn k closing = none
+
+-- the value of a key: of several pairs with one key the last counts
+unfoldable pub valueOf : List ℕ → List Entry → Option (List ℕ)
+valueOf k [] = none
+valueOf k (e ∷ es) = orElse (valueOf k es) (valueIn k (itemOf e))
+
+-- ---- the line table, and the header's length
+
+abbrev pub tableOf : List Entry → List ℕ
+tableOf es = starts 0 (linesOf es)
+
+abbrev pub headerLength : List Entry → ℕ
+headerLength es = length (unlines (linesOf es))

@@ -1,0 +1,15 @@
+pub mod Bytes
+pub mod Limits
+pub mod Refusals
+pub mod Lines
+pub mod Pairs
+pub mod Fields
+pub mod Descriptors
+pub mod Header
+pub mod Data
+pub mod Samples
+pub mod Axes
+pub mod Writer
+pub mod Settings
+pub mod Calls
+pub mod Listing

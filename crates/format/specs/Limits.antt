@@ -1,0 +1,34 @@
+-- The limits of document 01, each named once.
+use Prim.Native.Nat.{ℕ}
+
+-- no file is longer ("Numbers of refusal", 1)
+abbrev pub maxFile : ℕ
+maxFile = 4_294_967_295
+
+-- the last byte, counted from 1, that a header line may end at (3)
+abbrev pub maxHeader : ℕ
+maxHeader = 65_535
+
+-- the last line of the longest header (4)
+abbrev pub maxLines : ℕ
+maxLines = 1_024
+
+-- the largest dimension ("Understood fields")
+abbrev pub maxAxes : ℕ
+maxAxes = 16
+
+-- the largest size of an axis ("Understood fields")
+abbrev pub maxSize : ℕ
+maxSize = 4_294_967_295
+
+-- the largest line skip and byte skip ("Understood fields")
+abbrev pub maxSkip : ℕ
+maxSkip = 4_294_967_295
+
+-- the largest extent ("Numbers of refusal", 15)
+abbrev pub maxExtent : ℕ
+maxExtent = 4_294_967_295
+
+-- the largest sample: samples go to a list of signed 64-bit numbers (20)
+abbrev pub maxSample : ℕ
+maxSample = 9_223_372_036_854_775_807

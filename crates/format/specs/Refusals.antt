@@ -1,0 +1,125 @@
+-- The numbers of refusal by name, in document 01's order ("Numbers of refusal").
+-- A refusal is one record, the number and a line: the line for 2 to 12 from the reader, else 0.
+use Prim.Native.Nat.{ℕ}
+use Rattle.format.specs.declared.Refusal.{Refusal}
+
+-- a file is longer than `maxFile`
+abbrev pub fileTooLong : ℕ
+fileTooLong = 1
+
+-- line 1 is no magic
+abbrev pub noMagic : ℕ
+noMagic = 2
+
+-- a line, ending included, ends past `maxHeader`
+abbrev pub headerTooLong : ℕ
+headerTooLong = 3
+
+-- a line past `maxLines`
+abbrev pub tooManyLines : ℕ
+tooManyLines = 4
+
+-- a byte that no field or pair may hold
+abbrev pub badByte : ℕ
+badByte = 5
+
+-- neither mark in the line, or an empty key
+abbrev pub noMark : ℕ
+noMark = 6
+
+-- no field has this name
+abbrev pub unknownField : ℕ
+unknownField = 7
+
+-- a field or a key pair that this version does not have
+abbrev pub notInVersion : ℕ
+notInVersion = 8
+
+-- a field given before, in either spelling
+abbrev pub repeatedField : ℕ
+repeatedField = 9
+
+-- a field before the one that it needs
+abbrev pub outOfOrder : ℕ
+outOfOrder = 10
+
+-- a descriptor that its field cannot have; from the writer, a number that is not in its list or range
+abbrev pub badDescriptor : ℕ
+badDescriptor = 11
+
+-- a backslash before anything but `n` and a backslash
+abbrev pub badBackslash : ℕ
+badBackslash = 12
+
+-- the bytes run out before the header closes, and there is no data file field
+abbrev pub noEnd : ℕ
+noEnd = 13
+
+-- a needed field is missing
+abbrev pub missingField : ℕ
+missingField = 14
+
+-- the extent is above `maxExtent`
+abbrev pub extentTooLarge : ℕ
+extentTooLarge = 15
+
+-- a skip passes the end of the data area
+abbrev pub skipPastEnd : ℕ
+skipPastEnd = 16
+
+-- start plus extent needs more than 64 bits; both are below 2 to the 33, so this never happens
+abbrev pub placeTooLarge : ℕ
+placeTooLarge = 17
+
+-- raw data with fewer bytes than the extent
+abbrev pub dataTooShort : ℕ
+dataTooShort = 18
+
+-- samples wanted of a floating point type
+abbrev pub floatSamples : ℕ
+floatSamples = 19
+
+-- not a sample, outside its type, or above `maxSample`
+abbrev pub badSample : ℕ
+badSample = 20
+
+-- text or hex data ends before the last sample
+abbrev pub dataEndsEarly : ℕ
+dataEndsEarly = 21
+
+-- a lent buffer, table or list is too short
+abbrev pub lentTooShort : ℕ
+lentTooShort = 22
+
+-- coordinates that are not one for each axis, each below its size
+abbrev pub badCoordinates : ℕ
+badCoordinates = 23
+
+-- a key that no line can hold
+abbrev pub badKey : ℕ
+badKey = 24
+
+-- a value that no line can hold
+abbrev pub badValue : ℕ
+badValue = 25
+
+-- the lent table is not that of the file
+abbrev pub wrongTable : ℕ
+wrongTable = 26
+
+-- the writer is given another number of samples than the product of the sizes
+abbrev pub wrongCount : ℕ
+wrongCount = 27
+
+-- ---- the record
+
+abbrev pub atLine : ℕ → ℕ → Refusal
+atLine n l = record { number = n; line = l }
+
+-- a refusal that names no line
+abbrev pub refusal : ℕ → Refusal
+refusal n = atLine n 0
+
+-- nothing is refused
+abbrev pub fine : Refusal
+fine = refusal 0

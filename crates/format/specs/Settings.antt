@@ -1,0 +1,134 @@
+-- Setting a key, and lists of settings (document 01, "Setting a key", "Lists of settings").
+-- Order for a setting: 22 if the used length passes the buffer; the reading; 8 in version 1; 24; 25; 26; for the new file 3, 4, 1, 22.
+use Prim.Native.Nat.{ℕ, _+_, _-_, max}
+use mathlib.Core.Bool.{Bool, true, false, not, _&&_, _||_}
+use mathlib.Core.List.{List, [], _∷_, _++_}
+use mathlib.Core.Option.{Option, none, some}
+use lib.Dec.{eqb, ltb, leb}
+use lib.ListN.{length, take, drop, replicate}
+use Rattle.format.specs.declared.Refusal.{Refusal}
+use Rattle.format.specs.Bytes.{if_then_else_, bytes, between, every, same, isSome, TAB, LF, HASH}
+use Rattle.format.specs.Limits.{maxFile, maxHeader, maxLines}
+use Rattle.format.specs.Refusals.{fileTooLong, headerTooLong, tooManyLines, notInVersion, lentTooShort, badKey, badValue, wrongTable, refusal}
+use Rattle.format.specs.Lines.{Line, line, ending, lines, unlines, starts}
+use Rattle.format.specs.Pairs.{Marked, unmarked, fieldMark, pairMark, mark, escape}
+use Rattle.format.specs.Fields.{pairsSince}
+use Rattle.format.specs.Header.{Entry, entry, linesOf, Outcome, refused, accepted, header, versionOf, valueIn, valueOf, tableOf}
+
+-- ---- keys and values that a line can hold (24, 25)
+
+-- bytes 9, 10 and 32 to 126
+abbrev pub settable : ℕ → Bool
+settable b = eqb b TAB || (eqb b LF || between 32 126 b)
+
+abbrev pub hasMark : Marked → Bool
+hasMark unmarked = false
+hasMark (fieldMark n d) = true
+hasMark (pairMark k v) = true
+
+-- not empty, and its first byte is not `#`
+abbrev pub beginsFine : List ℕ → Bool
+beginsFine [] = false
+beginsFine (b ∷ s) = not (eqb b HASH)
+
+unfoldable pub keyFine : List ℕ → Bool
+keyFine k = beginsFine k && (every settable k && not (hasMark (mark (escape k))))
+
+unfoldable pub valueFine : List ℕ → Bool
+valueFine v = every settable v
+
+-- ---- the lines
+
+-- key, `:=`, value, each escaped
+unfoldable pub pairText : List ℕ → List ℕ → List ℕ
+pairText k v = escape k ++ (bytes ":=" ++ escape v)
+
+abbrev pub hasKey : List ℕ → List Entry → Bool
+hasKey k es = isSome (valueOf k es)
+
+-- the last line with the key k gets the text t and keeps its ending
+unfoldable pub replaced : List ℕ → List ℕ → List Entry → List Line
+replaced k t [] = []
+replaced k t (entry l i ∷ es) =
+    if hasKey k es then l ∷ replaced k t es
+    else if isSome (valueIn k i) then line t (ending l) ∷ linesOf es
+    else l ∷ linesOf es
+
+-- a line with the text t goes in right after line 1, with line 1's ending
+abbrev pub inserted : List ℕ → List Entry → List Line
+inserted t [] = []
+inserted t (entry l i ∷ es) = l ∷ line t (ending l) ∷ linesOf es
+
+-- the header's lines once the key k is set to the value v
+unfoldable pub newLines : List ℕ → List ℕ → List Entry → List Line
+newLines k v es = if hasKey k es then replaced k (pairText k v) es else inserted (pairText k v) es
+
+-- ---- what is lent, and what it holds afterwards
+
+-- a buffer, its used length, the line table and its count
+pub data Lent : Type 0 where
+  lent : List ℕ → ℕ → List ℕ → ℕ → Lent
+
+-- the file in the buffer
+abbrev pub fileOf : Lent → List ℕ
+fileOf (lent buf used table count) = take used buf
+
+-- a buffer with a file of `used` bytes, once it holds another: what a shorter one vacates becomes 0, bytes past both stay
+unfoldable pub refilled : List ℕ → ℕ → List ℕ → List ℕ
+refilled buf used file = file ++ (replicate (used - length file) 0 ++ drop (max used (length file)) buf)
+
+-- a table with its front replaced; entries past the new ones stay
+unfoldable pub retabled : List ℕ → List ℕ → List ℕ
+retabled table new = new ++ drop (length new) table
+
+-- the table is that of the file: its count is the file's line count, is within the lent table, and no entry differs (26)
+unfoldable pub tableFine : List ℕ → ℕ → List ℕ → Bool
+tableFine table count right = eqb count (length right) && (leb count (length table) && same (take count table) right)
+
+-- ---- one setting
+
+pub data Setting : Type 0 where
+  setting : List ℕ → List ℕ → Setting
+
+-- refused, and nothing lent changes; or done, with what is lent as it is then
+pub data SetOutcome : Type 0 where
+  kept : Refusal → SetOutcome
+  changed : Lent → SetOutcome
+
+-- the new header's lines ls, before the rest of the file
+unfoldable pub store : List ℕ → ℕ → List ℕ → List Line → List ℕ → SetOutcome
+store buf used table ls rest =
+    if ltb maxHeader (length (unlines ls)) then kept (refusal headerTooLong)
+    else if ltb maxLines (length ls) then kept (refusal tooManyLines)
+    else if ltb maxFile (length (unlines ls ++ rest)) then kept (refusal fileTooLong)
+    else if ltb (length buf) (length (unlines ls ++ rest)) || ltb (length table) (length ls) then kept (refusal lentTooShort)
+    else changed (lent (refilled buf used (unlines ls ++ rest)) (length (unlines ls ++ rest)) (retabled table (starts 0 ls)) (length ls))
+
+unfoldable pub setRead : List ℕ → ℕ → List ℕ → ℕ → List ℕ → List ℕ → Outcome → SetOutcome
+setRead buf used table count k v (refused r) = kept r
+setRead buf used table count k v (accepted es gs ls) =
+    if ltb (versionOf es) pairsSince then kept (refusal notInVersion)
+    else if not (keyFine k) then kept (refusal badKey)
+    else if not (valueFine v) then kept (refusal badValue)
+    else if not (tableFine table count (tableOf es)) then kept (refusal wrongTable)
+    else store buf used table (newLines k v es) (unlines ls)
+
+unfoldable pub setKey : Lent → Setting → SetOutcome
+setKey (lent buf used table count) (setting k v) =
+    if ltb (length buf) used then kept (refusal lentTooShort)
+    else setRead buf used table count k v (header (take used buf))
+
+-- ---- a list of settings, each lent what the one before it left
+
+abbrev pub leaves : SetOutcome → Lent → Lent
+leaves (kept r) l = l
+leaves (changed l) old = l
+
+abbrev pub accepts : SetOutcome → Setting → List Setting → List Setting
+accepts (kept r) s done = done
+accepts (changed l) s done = s ∷ done
+
+-- what is lent after the list, and the settings accepted, the last of them first; `done` were accepted before
+unfoldable pub setKeys : List Setting → Lent → List Setting → Lent × List Setting
+setKeys [] l done = (l, done)
+setKeys (s ∷ ss) l done = setKeys ss (leaves (setKey l s) l) (accepts (setKey l s) s done)
