@@ -47,20 +47,20 @@ formOf gs = if isDetached gs then 1 else 0
 
 unfoldable pub readingOf : List Entry → List Given → Reading
 readingOf es gs =
-    record
-      { version = versionOf es
-      ; form = formOf gs
-      ; dimension = dimensionOf gs
-      ; sampletype = typeOf gs
-      ; encoding = encodingOf gs
-      ; endian = endianOf gs
-      ; sizes = sizesOf gs ++ replicate (maxAxes - length (sizesOf gs)) 0
-      ; lineskip = lineSkipOf gs
-      ; byteskip = byteSkipOf gs
-      ; extent = extentOf gs
-      ; length = headerLength es
-      ; lines = length es
-      }
+    record {
+      version = versionOf es;
+      form = formOf gs;
+      dimension = dimensionOf gs;
+      sampletype = typeOf gs;
+      encoding = encodingOf gs;
+      endian = endianOf gs;
+      sizes = sizesOf gs ++ replicate (maxAxes - length (sizesOf gs)) 0;
+      lineskip = lineSkipOf gs;
+      byteskip = byteSkipOf gs;
+      extent = extentOf gs;
+      length = headerLength es;
+      lines = length es;
+    }
 
 abbrev pub readAnswer : Outcome → ReadAnswer
 readAnswer (refused r) = record { refusal = r; reading = noReading }

@@ -100,9 +100,9 @@ types =
     ∷ sampleType "int32" 4 signed ("int" ∷ "signed int" ∷ "int32" ∷ "int32_t" ∷ [])
     ∷ sampleType "uint32" 4 unsigned ("uint" ∷ "unsigned int" ∷ "uint32" ∷ "uint32_t" ∷ [])
     ∷ sampleType "int64" 8 signed
-        ("longlong" ∷ "long long" ∷ "long long int" ∷ "signed long long" ∷ "signed long long int" ∷ "int64" ∷ "int64_t" ∷ [])
+    ("longlong" ∷ "long long" ∷ "long long int" ∷ "signed long long" ∷ "signed long long int" ∷ "int64" ∷ "int64_t" ∷ [])
     ∷ sampleType "uint64" 8 unsigned
-        ("ulonglong" ∷ "unsigned long long" ∷ "unsigned long long int" ∷ "uint64" ∷ "uint64_t" ∷ [])
+    ("ulonglong" ∷ "unsigned long long" ∷ "unsigned long long int" ∷ "uint64" ∷ "uint64_t" ∷ [])
     ∷ sampleType "float" 4 floating ("float" ∷ [])
     ∷ sampleType "double" 8 floating ("double" ∷ [])
     ∷ []

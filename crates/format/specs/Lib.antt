@@ -13,3 +13,4 @@ pub mod Writer
 pub mod Settings
 pub mod Calls
 pub mod Listing
+pub mod Trials

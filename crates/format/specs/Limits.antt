@@ -1,5 +1,6 @@
 -- The limits of document 01, each named once.
 use Prim.Native.Nat.{ℕ}
+use mathlib.Core.List.{List, [], _∷_}
 
 -- no file is longer ("Numbers of refusal", 1)
 abbrev pub maxFile : ℕ
@@ -32,3 +33,6 @@ maxExtent = 4_294_967_295
 -- the largest sample: samples go to a list of signed 64-bit numbers (20)
 abbrev pub maxSample : ℕ
 maxSample = 9_223_372_036_854_775_807
+
+abbrev pub limits : List ℕ
+limits = maxFile ∷ maxHeader ∷ maxLines ∷ maxAxes ∷ maxSize ∷ maxSkip ∷ maxExtent ∷ maxSample ∷ []

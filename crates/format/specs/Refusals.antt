@@ -1,6 +1,7 @@
 -- The numbers of refusal by name, in document 01's order ("Numbers of refusal").
 -- A refusal is one record, the number and a line: the line for 2 to 12 from the reader, else 0.
 use Prim.Native.Nat.{ℕ}
+use mathlib.Core.List.{List, [], _∷_}
 use Rattle.format.specs.declared.Refusal.{Refusal}
 
 -- a file is longer than `maxFile`
@@ -110,6 +111,10 @@ wrongTable = 26
 -- the writer is given another number of samples than the product of the sizes
 abbrev pub wrongCount : ℕ
 wrongCount = 27
+
+abbrev pub refusalNumbers : List ℕ
+refusalNumbers =
+    fileTooLong ∷ noMagic ∷ headerTooLong ∷ tooManyLines ∷ badByte ∷ noMark ∷ unknownField ∷ notInVersion ∷ repeatedField ∷ outOfOrder ∷ badDescriptor ∷ badBackslash ∷ noEnd ∷ missingField ∷ extentTooLarge ∷ skipPastEnd ∷ placeTooLarge ∷ dataTooShort ∷ floatSamples ∷ badSample ∷ dataEndsEarly ∷ lentTooShort ∷ badCoordinates ∷ badKey ∷ badValue ∷ wrongTable ∷ wrongCount ∷ []
 
 -- ---- the record
 

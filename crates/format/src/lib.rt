@@ -1,6 +1,81 @@
-// The NRRD format: its numbers by name, and the values that answers are made of.
+// The NRRD format: its limits and numbers by name, and the values that answers are made of.
 // What is right is said in specs/; the laws that make it believable are in proofs/.
 ghost use mathlib.Core.Path.{_≡_};
+ghost use Rattle.format.specs.Limits.{limits};
+ghost use Rattle.format.specs.Refusals.{refusalNumbers};
+ghost use Rattle.format.specs.Trials.{StarredTrials};
+
+// The limits of document 01.
+pub const MAX_FILE: u64 = 4294967295;
+
+pub const MAX_HEADER: u64 = 65535;
+
+pub const MAX_LINES: u64 = 1024;
+
+pub const MAX_AXES: u64 = 16;
+
+pub const MAX_SIZE: u64 = 4294967295;
+
+pub const MAX_SKIP: u64 = 4294967295;
+
+pub const MAX_EXTENT: u64 = 4294967295;
+
+pub const MAX_SAMPLE: u64 = 9223372036854775807;
+
+// The numbers of refusal.
+pub const FILE_TOO_LONG: u32 = 1;
+
+pub const NO_MAGIC: u32 = 2;
+
+pub const HEADER_TOO_LONG: u32 = 3;
+
+pub const TOO_MANY_LINES: u32 = 4;
+
+pub const BAD_BYTE: u32 = 5;
+
+pub const NO_MARK: u32 = 6;
+
+pub const UNKNOWN_FIELD: u32 = 7;
+
+pub const NOT_IN_VERSION: u32 = 8;
+
+pub const REPEATED_FIELD: u32 = 9;
+
+pub const OUT_OF_ORDER: u32 = 10;
+
+pub const BAD_DESCRIPTOR: u32 = 11;
+
+pub const BAD_BACKSLASH: u32 = 12;
+
+pub const NO_END: u32 = 13;
+
+pub const MISSING_FIELD: u32 = 14;
+
+pub const EXTENT_TOO_LARGE: u32 = 15;
+
+pub const SKIP_PAST_END: u32 = 16;
+
+pub const PLACE_TOO_LARGE: u32 = 17;
+
+pub const DATA_TOO_SHORT: u32 = 18;
+
+pub const FLOAT_SAMPLES: u32 = 19;
+
+pub const BAD_SAMPLE: u32 = 20;
+
+pub const DATA_ENDS_EARLY: u32 = 21;
+
+pub const LENT_TOO_SHORT: u32 = 22;
+
+pub const BAD_COORDINATES: u32 = 23;
+
+pub const BAD_KEY: u32 = 24;
+
+pub const BAD_VALUE: u32 = 25;
+
+pub const WRONG_TABLE: u32 = 26;
+
+pub const WRONG_COUNT: u32 = 27;
 
 // A refusal: document 01's number, and the line for 2 to 12 from the reader, else 0. Number 0: nothing is refused.
 pub struct Refusal {
@@ -85,4 +160,62 @@ pub struct SetAnswer {
     pub refusal: Refusal,
     pub length: u64,
     pub count: u64,
+}
+
+// The limits are those of the definitions.
+pub fn limits() -> [u64; 8]
+    ensures { λ r. ⌜ r ≡ limits ⌝ }
+{
+    [
+        MAX_FILE,
+        MAX_HEADER,
+        MAX_LINES,
+        MAX_AXES,
+        MAX_SIZE,
+        MAX_SKIP,
+        MAX_EXTENT,
+        MAX_SAMPLE,
+    ]
+}
+
+// The numbers of refusal are those of the definitions.
+pub fn refusal_numbers() -> [u32; 27]
+    ensures { λ r. ⌜ r ≡ refusalNumbers ⌝ }
+{
+    [
+        FILE_TOO_LONG,
+        NO_MAGIC,
+        HEADER_TOO_LONG,
+        TOO_MANY_LINES,
+        BAD_BYTE,
+        NO_MARK,
+        UNKNOWN_FIELD,
+        NOT_IN_VERSION,
+        REPEATED_FIELD,
+        OUT_OF_ORDER,
+        BAD_DESCRIPTOR,
+        BAD_BACKSLASH,
+        NO_END,
+        MISSING_FIELD,
+        EXTENT_TOO_LARGE,
+        SKIP_PAST_END,
+        PLACE_TOO_LARGE,
+        DATA_TOO_SHORT,
+        FLOAT_SAMPLES,
+        BAD_SAMPLE,
+        DATA_ENDS_EARLY,
+        LENT_TOO_SHORT,
+        BAD_COORDINATES,
+        BAD_KEY,
+        BAD_VALUE,
+        WRONG_TABLE,
+        WRONG_COUNT,
+    ]
+}
+
+// The starred trials of document 01 hold of the definitions.
+pub fn starred_trials() -> u64
+    ensures { λ r. ⌜ StarredTrials ⌝ }
+{
+    0
 }
