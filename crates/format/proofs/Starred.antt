@@ -7,13 +7,12 @@ use Rattle.format.specs.Fields.{fieldSince, descriptorOf, inOrder}
 use Rattle.format.specs.Descriptors.{trimFront, trimEnd, descriptor, digitsFrom, number, parts, notEmpty, numbersIn, typeAt, mayDescribe, hasNeeded, product}
 use Rattle.format.specs.Header.{magicVersion, onPair, onField, judge, complete, walk, header, valueOf}
 use Rattle.format.specs.Data.{skipLine, skipLines, skipBytes, placeOf}
-use Rattle.format.specs.Samples.{inType, fromBytes, toBytes, sampleValue, valueBytes, rawSamples, unblanked, hexDigit, hexBytes, hexSamples, unblank, token, afterToken, tokenValue, tokens, samplesOf}
+use Rattle.format.specs.Samples.{inType, fromBytes, sampleValue, rawSamples, unblank, token, afterToken, tokenValue, tokens, samplesOf}
 use Rattle.format.specs.Axes.{inside, sampleNumber}
-use Rattle.format.specs.Writer.{decimalFrom, hexText, rawData, textData, dataBytes, spaced, headerLines, fileBytes, allInType, writable, writeRefusal}
-use Rattle.format.specs.Settings.{keyFine, valueFine, pairText, replaced, newLines, refilled, retabled, tableFine, store, setRead, setKey, setKeys}
-use Rattle.format.specs.Calls.{noReading, readingOf, withTable, keyPlace, fieldPlace}
+use Rattle.format.specs.Settings.{keyFine, valueFine, pairText, replaced, newLines, refilled, retabled, tableFine, store, setRead, setKey}
+use Rattle.format.specs.Calls.{noReading, readingOf, withTable}
 use Rattle.format.specs.Trials.{texts, StarredTrials}
 
 pub starred-trials : StarredTrials
-unfolding every same alike beginsWith isIn isAny rowFrom lines unlines starts mark escape unescapeFrom fieldSince descriptorOf inOrder trimFront trimEnd descriptor digitsFrom number parts notEmpty numbersIn typeAt mayDescribe hasNeeded product magicVersion onPair onField judge complete walk header valueOf skipLine skipLines skipBytes placeOf inType fromBytes toBytes sampleValue valueBytes rawSamples unblanked hexDigit hexBytes hexSamples unblank token afterToken tokenValue tokens samplesOf inside sampleNumber decimalFrom hexText rawData textData dataBytes spaced headerLines fileBytes allInType writable writeRefusal keyFine valueFine pairText replaced newLines refilled retabled tableFine store setRead setKey setKeys noReading readingOf withTable keyPlace fieldPlace texts
+unfolding every same alike beginsWith isIn isAny rowFrom lines unlines starts mark escape unescapeFrom fieldSince descriptorOf inOrder trimFront trimEnd descriptor digitsFrom number parts notEmpty numbersIn typeAt mayDescribe hasNeeded product magicVersion onPair onField judge complete walk header valueOf skipLine skipLines skipBytes placeOf inType fromBytes sampleValue rawSamples unblank token afterToken tokenValue tokens samplesOf inside sampleNumber keyFine valueFine pairText replaced newLines refilled retabled tableFine store setRead setKey noReading readingOf withTable texts
 starred-trials = (refl, (refl, (refl, (refl, (refl, (refl, (refl, (refl, (refl, (refl, (refl, (refl, (refl, (refl, (refl, (refl, (refl, (refl, (refl, (refl, (refl, (refl, (refl, tt)))))))))))))))))))))))

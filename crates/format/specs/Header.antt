@@ -143,9 +143,7 @@ walk version n at gs [] = if isDetached gs then complete gs [] else refused (ref
 walk version n at gs (l ∷ ls) =
     if ltb maxHeader (at + size l) then refused (atLine headerTooLong n)
     else if ltb maxLines n then refused (atLine tooManyLines n)
-    else onJudged n l (judge version gs (text l)) λ i.
-    if closes i then complete gs ls
-    else walk version (n + 1) (at + size l) (afterItem i gs) ls
+    else onJudged n l (judge version gs (text l)) λ i. if closes i then complete gs ls else walk version (n + 1) (at + size l) (afterItem i gs) ls
 
 abbrev pub afterMagic : Line → Option ℕ → List Line → Outcome
 afterMagic l none ls = refused (atLine noMagic 1)
