@@ -1,0 +1,92 @@
+-- Laws of the tests on bytes and texts.
+-- Assumes nothing.
+use mathlib.Core.Path.{_≡_, refl, sym, _∙_}
+use Prim.Native.Nat.{ℕ}
+use mathlib.Core.Bool.{Bool, true, false, _&&_, false≢true}
+use mathlib.Core.List.{List, [], _∷_, _++_}
+use mathlib.Core.Option.{Option, none, some}
+use lib.Dec.{eqb}
+use borrow.Author.Tests.{eqb-true, eq-eqb}
+use Rattle.format.specs.Bytes.{every, same, onto}
+
+-- ---- two tests at once
+
+pub and-left : (a b : Bool) → (a && b) ≡ true → a ≡ true
+and-left true b h = refl
+and-left false b h = h
+
+pub and-right : (a b : Bool) → (a && b) ≡ true → b ≡ true
+and-right true b h = h
+and-right false b h = absurd (false≢true h)
+
+pub and-both : (a b : Bool) → a ≡ true → b ≡ true → (a && b) ≡ true
+and-both true b h i = i
+and-both false b h i = h
+
+-- ---- `same` is equality
+
+pub same-refl : (a : List ℕ) → same a a ≡ true
+unfolding same
+same-refl [] = refl
+same-refl (b ∷ a) = and-both (eqb b b) (same a a) (eq-eqb b b refl) (same-refl a)
+
+pub same-true : (a c : List ℕ) → same a c ≡ true → a ≡ c
+unfolding same
+same-true [] [] h = refl
+same-true [] (d ∷ c) h = absurd (false≢true h)
+same-true (b ∷ a) [] h = absurd (false≢true h)
+same-true (b ∷ a) (d ∷ c) h =
+    let p : b ≡ d = eqb-true b d (and-left (eqb b d) (same a c) h) in
+    let q : a ≡ c = same-true a c (and-right (eqb b d) (same a c) h) in
+    cc
+
+pub same-false : (a c : List ℕ) → same a c ≡ false → a ≡ c → ⊥
+same-false a c h e = false≢true (sym h ∙ rw e (same-refl c))
+
+-- the order of the two texts does not matter
+pub same-comm : (a c : List ℕ) → same a c ≡ same c a
+same-comm a c = go (same a c) refl (same c a) refl
+  where
+    go : (x : Bool) → same a c ≡ x → (y : Bool) → same c a ≡ y → x ≡ y
+    go true e true f = refl
+    go true e false f = absurd (same-false c a f (sym (same-true a c e)))
+    go false e true f = absurd (same-false a c e (sym (same-true c a f)))
+    go false e false f = refl
+
+pub same-swap : (a c : List ℕ) → same a c ≡ false → same c a ≡ false
+same-swap a c h = same-comm c a ∙ h
+
+-- ---- a test of every byte
+
+module _ (p : ℕ → Bool) where
+  pub every-append : (a c : List ℕ) → every p a ≡ true → every p c ≡ true → every p (a ++ c) ≡ true
+  unfolding every
+  every-append [] c h i = i
+  every-append (b ∷ a) c h i =
+      and-both (p b) (every p (a ++ c)) (and-left (p b) (every p a) h) (every-append a c (and-right (p b) (every p a) h) i)
+
+  pub every-left : (a c : List ℕ) → every p (a ++ c) ≡ true → every p a ≡ true
+  unfolding every
+  every-left [] c h = refl
+  every-left (b ∷ a) c h =
+      and-both (p b) (every p a) (and-left (p b) (every p (a ++ c)) h) (every-left a c (and-right (p b) (every p (a ++ c)) h))
+
+  pub every-right : (a c : List ℕ) → every p (a ++ c) ≡ true → every p c ≡ true
+  unfolding every
+  every-right [] c h = h
+  every-right (b ∷ a) c h = every-right a c (and-right (p b) (every p (a ++ c)) h)
+
+-- a test that another one implies
+pub every-weaker : (p q : ℕ → Bool) → ((b : ℕ) → p b ≡ true → q b ≡ true) → (s : List ℕ)
+    → every p s ≡ true → every q s ≡ true
+unfolding every
+every-weaker p q w [] h = refl
+every-weaker p q w (b ∷ s) h =
+    and-both (q b) (every q s) (w b (and-left (p b) (every p s) h)) (every-weaker p q w s (and-right (p b) (every p s) h))
+
+-- ---- answers that may be missing
+
+-- where a byte stands in front of what is there, something is there
+pub onto-some : (b : ℕ) (o : Option (List ℕ)) (s : List ℕ) → onto b o ≡ some s → (u : List ℕ) × (o ≡ some u) × (s ≡ b ∷ u)
+onto-some b none s h = ([], cc, cc)
+onto-some b (some u) s h = (u, refl, cc)

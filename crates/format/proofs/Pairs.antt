@@ -1,0 +1,383 @@
+-- Laws of pair lines: escapes, the first mark of a line, and what the reader takes for a pair.
+-- Assumes nothing.
+use mathlib.Core.Path.{_≡_, refl, sym, ap, _∙_}
+use Prim.Native.Nat.{ℕ, _≤_}
+use mathlib.Core.Bool.{Bool, true, false, not, _&&_, false≢true}
+use mathlib.Core.List.{List, [], _∷_, _++_}
+use mathlib.Core.Option.{Option, none, some}
+use lib.Dec.{eqb, ltb}
+use borrow.Author.Tests.{eqb-true, not-true, le-ltb, ltb-false}
+use Rattle.format.specs.Bytes.{if_then_else_, bytes, every, onto, LF, HASH, COLON, SPACE, EQUALS, BACKSLASH}
+use Rattle.format.specs.Refusals.{badByte, notInVersion}
+use Rattle.format.specs.Pairs.{plain, Marked, unmarked, fieldMark, pairMark, afterColon, moreBefore, firstMark, mark, escape, unescapeFrom, unescape}
+use Rattle.format.specs.Fields.{pairsSince, fieldSince, fieldNamed, Given, isGiven, inOrder}
+use Rattle.format.specs.Descriptors.{descriptor, mayDescribe}
+use Rattle.format.specs.Header.{magic, comment, field, pair, closing, Judged, wrong, right, unescaped, onPair, onField, onMark, judge}
+use Rattle.format.specs.Settings.{settable, hasMark, beginsFine, keyFine, valueFine, pairText}
+use Rattle.format.proofs.Bytes.{and-left, and-right, every-append, every-left, every-right, every-weaker, onto-some}
+use Rattle.format.proofs.Lines.{notLF}
+
+-- ---- escapes
+
+-- a text means itself once it is escaped
+pub unescape-of-escape : (s : List ℕ) → unescape (escape s) ≡ some s
+unfolding escape unescapeFrom
+unescape-of-escape [] = refl
+unescape-of-escape (b ∷ s) = go (eqb b LF) refl (eqb b BACKSLASH) refl (unescape-of-escape s)
+  where
+    go : (x : Bool) → eqb b LF ≡ x → (y : Bool) → eqb b BACKSLASH ≡ y → unescape (escape s) ≡ some s
+        → unescape (if x then bytes "\\n" ++ escape s else if y then bytes "\\\\" ++ escape s else b ∷ escape s) ≡ some (b ∷ s)
+    go true e y f r = rw (r, eqb-true b LF e)
+    go false e true f r = rw (r, eqb-true b BACKSLASH f)
+    go false e false f r = rw (f, r)
+
+-- plain bytes are not LF
+pub plain-not-LF : (b : ℕ) → plain b ≡ true → notLF b ≡ true
+plain-not-LF b h = go (eqb b LF) refl
+  where
+    go : (x : Bool) → eqb b LF ≡ x → not x ≡ true
+    go true e = rw (eqb-true b LF e) at h
+    go false e = refl
+
+pub plain-no-LF : (s : List ℕ) → every plain s ≡ true → every notLF s ≡ true
+plain-no-LF = every-weaker plain notLF plain-not-LF
+
+-- the flag's backslash in front of the text
+abbrev slashed : Bool → List ℕ → List ℕ
+slashed false t = t
+slashed true t = BACKSLASH ∷ t
+
+escape-from : (f : Bool) (t s : List ℕ) → every notLF t ≡ true → unescapeFrom f t ≡ some s → escape s ≡ slashed f t
+unfolding every escape unescapeFrom
+escape-from false [] s n h = let e : s ≡ [] = cc in rw e
+escape-from true [] s n h = cc
+escape-from false (b ∷ t) s n h = go (eqb b BACKSLASH) refl h (escape-from true t s rest) (λ u. escape-from false t u rest)
+  where
+    first : eqb b LF ≡ false
+    first = not-true (eqb b LF) (and-left (notLF b) (every notLF t) n)
+
+    rest : every notLF t ≡ true
+    rest = and-right (notLF b) (every notLF t) n
+
+    go : (x : Bool) → eqb b BACKSLASH ≡ x → (if x then unescapeFrom true t else onto b (unescapeFrom false t)) ≡ some s
+        → (unescapeFrom true t ≡ some s → escape s ≡ BACKSLASH ∷ t)
+        → ((u : List ℕ) → unescapeFrom false t ≡ some u → escape u ≡ t)
+        → escape s ≡ b ∷ t
+    go true e h i j = rw (eqb-true b BACKSLASH e) (i h)
+    go false e h i j =
+        let r = onto-some b (unescapeFrom false t) s h in
+        rw (r .2, first, e, j (r .0) (r .1))
+escape-from true (b ∷ t) s n h =
+    go (eqb b 110) refl (eqb b BACKSLASH) refl h (λ u. escape-from false t u (and-right (notLF b) (every notLF t) n))
+  where
+    go : (x : Bool) → eqb b 110 ≡ x → (y : Bool) → eqb b BACKSLASH ≡ y
+        → (if x then onto LF (unescapeFrom false t) else if y then onto BACKSLASH (unescapeFrom false t) else none) ≡ some s
+        → ((u : List ℕ) → unescapeFrom false t ≡ some u → escape u ≡ t)
+        → escape s ≡ BACKSLASH ∷ b ∷ t
+    go true e y f h j =
+        let r = onto-some LF (unescapeFrom false t) s h in
+        rw (r .2, eqb-true b 110 e, j (r .0) (r .1))
+    go false e true f h j =
+        let r = onto-some BACKSLASH (unescapeFrom false t) s h in
+        rw (r .2, eqb-true b BACKSLASH f, j (r .0) (r .1))
+    go false e false f h j = cc
+
+-- a text without LF is what its meaning is written as
+pub escape-of-unescape : (t s : List ℕ) → every notLF t ≡ true → unescape t ≡ some s → escape s ≡ t
+escape-of-unescape t s n h = escape-from false t s n h
+
+pub escape-of-plain : (t s : List ℕ) → every plain t ≡ true → unescape t ≡ some s → escape s ≡ t
+escape-of-plain t s n h = escape-of-unescape t s (plain-no-LF t n) h
+
+pub escape-injective : (a b : List ℕ) → escape a ≡ escape b → a ≡ b
+escape-injective a b e =
+    let p : unescape (escape a) ≡ some a = unescape-of-escape a in
+    let q : unescape (escape b) ≡ some b = unescape-of-escape b in
+    cc
+
+-- two texts without LF that mean the same are the same text
+pub unescape-injective : (t u s : List ℕ) → every notLF t ≡ true → every notLF u ≡ true
+    → unescape t ≡ some s → unescape u ≡ some s → t ≡ u
+unescape-injective t u s m n h i = sym (escape-of-unescape t s m h) ∙ escape-of-unescape u s n i
+
+-- an escaped text has only plain bytes if and only if the text has only bytes that can be set
+plain-escape : (s : List ℕ) → every plain (escape s) ≡ every settable s
+unfolding every escape
+plain-escape [] = refl
+plain-escape (b ∷ s) = go (eqb b LF) refl (eqb b BACKSLASH) refl (plain-escape s)
+  where
+    go : (x : Bool) → eqb b LF ≡ x → (y : Bool) → eqb b BACKSLASH ≡ y → every plain (escape s) ≡ every settable s
+        → every plain (if x then bytes "\\n" ++ escape s else if y then bytes "\\\\" ++ escape s else b ∷ escape s)
+        ≡ (settable b && every settable s)
+    go true e y f r = rw (eqb-true b LF e, r)
+    go false e true f r = rw (eqb-true b BACKSLASH f, r)
+    go false e false f r = rw (e, r)
+
+pub plain-of-escape : (s : List ℕ) → every settable s ≡ true → every plain (escape s) ≡ true
+plain-of-escape s h = plain-escape s ∙ h
+
+pub settable-of-plain : (s : List ℕ) → every plain (escape s) ≡ true → every settable s ≡ true
+settable-of-plain s h = sym (plain-escape s) ∙ h
+
+-- an escaped text is empty or begins with `#` if and only if the text does
+pub begins-of-escape : (s : List ℕ) → beginsFine (escape s) ≡ beginsFine s
+unfolding escape
+begins-of-escape [] = refl
+begins-of-escape (b ∷ s) = go (eqb b LF) refl (eqb b BACKSLASH) refl
+  where
+    go : (x : Bool) → eqb b LF ≡ x → (y : Bool) → eqb b BACKSLASH ≡ y
+        → beginsFine (if x then bytes "\\n" ++ escape s else if y then bytes "\\\\" ++ escape s else b ∷ escape s) ≡ beginsFine (b ∷ s)
+    go true e y f = rw (eqb-true b LF e)
+    go false e true f = rw (eqb-true b BACKSLASH f)
+    go false e false f = refl
+
+-- ---- the first mark
+
+-- what a mark says of the text: its two parts with the mark between them are the text, and the first part has no mark
+abbrev pub Parts : List ℕ → Marked → Type 0
+Parts t unmarked = Unit
+Parts t (fieldMark n d) = (t ≡ n ++ (bytes ": " ++ d)) × (mark n ≡ unmarked)
+Parts t (pairMark k v) = (t ≡ k ++ (bytes ":=" ++ v)) × (mark k ≡ unmarked)
+
+unmarked-is : (m : Marked) → hasMark m ≡ false → m ≡ unmarked
+unmarked-is unmarked h = refl
+unmarked-is (fieldMark n d) h = cc
+unmarked-is (pairMark k v) h = cc
+
+-- the mark that the byte b makes with the text s right after it
+abbrev markAt : ℕ → List ℕ → Marked
+markAt b s = if eqb b COLON then afterColon s else unmarked
+
+-- a text that has another colon after it makes a mark with b if and only if it does so alone
+mark-at-more : (b : ℕ) (a r : List ℕ) → hasMark (markAt b (a ++ (COLON ∷ r))) ≡ hasMark (markAt b a)
+mark-at-more b [] r = refl
+mark-at-more b (c ∷ a) r = go (eqb b COLON) (eqb c SPACE) (eqb c EQUALS)
+  where
+    go : (x y z : Bool)
+        → hasMark (if x then if y then fieldMark [] (a ++ (COLON ∷ r)) else if z then pairMark [] (a ++ (COLON ∷ r)) else unmarked else unmarked)
+        ≡ hasMark (if x then if y then fieldMark [] a else if z then pairMark [] a else unmarked else unmarked)
+    go true true z = refl
+    go true false true = refl
+    go true false false = refl
+    go false y z = refl
+
+parts-first : (b : ℕ) (s : List ℕ) → Parts (b ∷ s) (markAt b s)
+unfolding mark
+parts-first b [] = go (eqb b COLON)
+  where
+    go : (x : Bool) → Parts (b ∷ []) (if x then unmarked else unmarked)
+    go true = tt
+    go false = tt
+parts-first b (c ∷ s) = go (eqb b COLON) refl (eqb c SPACE) refl (eqb c EQUALS) refl
+  where
+    go : (x : Bool) → eqb b COLON ≡ x → (y : Bool) → eqb c SPACE ≡ y → (z : Bool) → eqb c EQUALS ≡ z
+        → Parts (b ∷ c ∷ s) (if x then if y then fieldMark [] s else if z then pairMark [] s else unmarked else unmarked)
+    go true e true f z g = (rw (eqb-true b COLON e, eqb-true c SPACE f), refl)
+    go true e false f true g = (rw (eqb-true b COLON e, eqb-true c EQUALS g), refl)
+    go true e false f false g = tt
+    go false e y f z g = tt
+
+-- b before a text without a mark: there is none either, if none begins at b
+unmarked-more : (b : ℕ) (a r : List ℕ) → markAt b (a ++ (COLON ∷ r)) ≡ unmarked → mark a ≡ unmarked → mark (b ∷ a) ≡ unmarked
+unfolding mark
+unmarked-more b a r h i =
+    let e : markAt b a ≡ unmarked = unmarked-is (markAt b a) (sym (mark-at-more b a r) ∙ ap hasMark h) in
+    rw (e, i)
+
+parts-more : (b : ℕ) (s : List ℕ) (m : Marked) → markAt b s ≡ unmarked → Parts s m → Parts (b ∷ s) (moreBefore b m)
+parts-more b s unmarked h p = tt
+parts-more b s (fieldMark n d) h p = (rw (p .0), unmarked-more b n (SPACE ∷ d) (rw (p .0) at h) (p .1))
+parts-more b s (pairMark k v) h p = (rw (p .0), unmarked-more b k (EQUALS ∷ v) (rw (p .0) at h) (p .1))
+
+-- the text of a marked line, from its parts
+pub mark-parts : (t : List ℕ) → Parts t (mark t)
+unfolding mark
+mark-parts [] = tt
+mark-parts (b ∷ s) = go (markAt b s) refl (parts-first b s) (mark-parts s)
+  where
+    go : (m : Marked) → markAt b s ≡ m → Parts (b ∷ s) m → Parts s (mark s) → Parts (b ∷ s) (firstMark m (moreBefore b (mark s)))
+    go unmarked e p q = parts-more b s (mark s) e q
+    go (fieldMark n d) e p q = p
+    go (pairMark k v) e p q = p
+
+-- where the first of two marks is missing, both are
+first-left : (m o : Marked) → firstMark m o ≡ unmarked → m ≡ unmarked
+first-left unmarked o h = refl
+first-left (fieldMark n d) o h = h
+first-left (pairMark k v) o h = h
+
+first-right : (b : ℕ) (m o : Marked) → firstMark m (moreBefore b o) ≡ unmarked → o ≡ unmarked
+first-right b unmarked unmarked h = refl
+first-right b unmarked (fieldMark n d) h = cc
+first-right b unmarked (pairMark k v) h = cc
+first-right b (fieldMark n d) o h = cc
+first-right b (pairMark k v) o h = cc
+
+-- after a text without a mark, `:=` is the first mark
+pub mark-of-append : (a r : List ℕ) → mark a ≡ unmarked → mark (a ++ (bytes ":=" ++ r)) ≡ pairMark a r
+unfolding mark
+mark-of-append [] r h = refl
+mark-of-append (b ∷ a) r h =
+    let n : markAt b a ≡ unmarked = first-left (markAt b a) (moreBefore b (mark a)) h in
+    let s = a ++ (bytes ":=" ++ r) in
+    let e : markAt b s ≡ unmarked = unmarked-is (markAt b s) (mark-at-more b a (EQUALS ∷ r) ∙ ap hasMark n) in
+    rw (e, mark-of-append a r (first-right b (markAt b a) (mark a) h))
+
+-- ---- keys that can be set, and the line of a pair
+
+-- a key that can be set, by its parts
+pub record FineKey (k : List ℕ) : Type 0 where
+  pub begins : beginsFine k ≡ true
+  pub bytes-fine : every settable k ≡ true
+  pub no-mark : mark (escape k) ≡ unmarked
+
+pub fine-key : (k : List ℕ) → keyFine k ≡ true → FineKey k
+unfolding keyFine
+fine-key k h =
+    let rest : (every settable k && not (hasMark (mark (escape k)))) ≡ true = and-right (beginsFine k) _ h in
+    record {
+      begins = and-left (beginsFine k) _ h;
+      bytes-fine = and-left (every settable k) _ rest;
+      no-mark = unmarked-is (mark (escape k)) (not-true (hasMark (mark (escape k))) (and-right (every settable k) _ rest));
+    }
+
+pub key-fine : (k : List ℕ) → FineKey k → keyFine k ≡ true
+unfolding keyFine
+key-fine k f = rw (f .begins, f .bytes-fine, f .no-mark)
+
+-- the first mark of a set line is its `:=`
+pub mark-of-pair : (k v : List ℕ) → keyFine k ≡ true → mark (pairText k v) ≡ pairMark (escape k) (escape v)
+unfolding pairText
+mark-of-pair k v h = mark-of-append (escape k) (escape v) (fine-key k h .no-mark)
+
+begins-append : (a r : List ℕ) → beginsFine a ≡ true → beginsFine (a ++ r) ≡ true
+begins-append [] r h = absurd (false≢true h)
+begins-append (b ∷ a) r h = h
+
+-- a set line is neither empty nor a comment
+pub begins-of-pair : (k v : List ℕ) → keyFine k ≡ true → beginsFine (pairText k v) ≡ true
+unfolding pairText
+begins-of-pair k v h = begins-append (escape k) (bytes ":=" ++ escape v) (begins-of-escape k ∙ fine-key k h .begins)
+
+pub plain-of-pair : (k v : List ℕ) → keyFine k ≡ true → valueFine v ≡ true → every plain (pairText k v) ≡ true
+unfolding pairText valueFine every
+plain-of-pair k v h i =
+    every-append plain (escape k) (bytes ":=" ++ escape v) (plain-of-escape k (fine-key k h .bytes-fine)) (plain-of-escape v i)
+
+-- ---- what the reader takes for a pair
+
+on-pair-is : (version : ℕ) (a c k v : List ℕ) → pairsSince ≤ version → beginsFine a ≡ true
+    → unescape a ≡ some k → unescape c ≡ some v → onPair version a c ≡ right (pair k v)
+unfolding onPair
+on-pair-is version [] c k v n h i j = absurd (false≢true h)
+on-pair-is version (b ∷ a) c k v n h i j = rw (le-ltb version pairsSince n, i, j)
+
+judge-is : (version : ℕ) (gs : List Given) (t : List ℕ) → beginsFine t ≡ true → every plain t ≡ true
+    → judge version gs t ≡ onMark version gs (mark t)
+unfolding judge
+judge-is version gs [] h p = absurd (false≢true h)
+judge-is version gs (b ∷ t) h p = rw (not-true (eqb b HASH) h, p)
+
+-- the line that sets k to v is read as the pair of k and v
+pub judge-of-pair : (version : ℕ) (gs : List Given) (k v : List ℕ) → 2 ≤ version → keyFine k ≡ true → valueFine v ≡ true
+    → judge version gs (pairText k v) ≡ right (pair k v)
+judge-of-pair version gs k v n h i =
+    rw (judge-is version gs (pairText k v) (begins-of-pair k v h) (plain-of-pair k v h i), mark-of-pair k v h)
+    (on-pair-is version (escape k) (escape v) k v n (begins-of-escape k ∙ fine-key k h .begins) (unescape-of-escape k) (unescape-of-escape v))
+
+-- of a line t of that version: it is the line that sets k to v, and both can be set
+pub record PairLine (version : ℕ) (t k v : List ℕ) : Type 0 where
+  pub since : 2 ≤ version
+  pub text-is : t ≡ pairText k v
+  pub key : keyFine k ≡ true
+  pub value : valueFine v ≡ true
+
+-- what holds of a line t by its judgement: the above of a pair, nothing of the others
+abbrev Told : ℕ → List ℕ → Judged → Type 0
+Told version t (wrong n) = Unit
+Told version t (right (magic n)) = Unit
+Told version t (right comment) = Unit
+Told version t (right (field f d)) = Unit
+Told version t (right (pair k v)) = PairLine version t k v
+Told version t (right closing) = Unit
+
+told-unless : (version : ℕ) (t : List ℕ) (x : Bool) (n : ℕ) (j : Judged) → Told version t j → Told version t (if x then wrong n else j)
+told-unless version t true n j h = tt
+told-unless version t false n j h = h
+
+told-field : (version : ℕ) (gs : List Given) (t : List ℕ) (o : Option ℕ) (rest : List ℕ) → Told version t (onField version gs o rest)
+unfolding onField
+told-field version gs t none rest = tt
+told-field version gs t (some f) rest =
+    told-unless version t (ltb version (fieldSince f)) _ _
+    (told-unless version t (isGiven f gs) _ _
+    (told-unless version t (not (inOrder f gs)) _ _
+    (told-unless version t (not (mayDescribe gs f (descriptor f rest))) _ (right (field f (descriptor f rest))) tt)))
+
+told-pair : (version : ℕ) (a c : List ℕ)
+    → beginsFine (a ++ (bytes ":=" ++ c)) ≡ true → every plain (a ++ (bytes ":=" ++ c)) ≡ true → mark a ≡ unmarked
+    → Told version (a ++ (bytes ":=" ++ c)) (onPair version a c)
+unfolding onPair every pairText valueFine
+told-pair version [] c h p m = tt
+told-pair version (b ∷ s) c h p m = go (ltb version pairsSince) refl (unescape a) refl (unescape c) refl
+  where
+    a : List ℕ
+    a = b ∷ s
+
+    plain-key : every plain a ≡ true
+    plain-key = every-left plain a (bytes ":=" ++ c) p
+
+    plain-value : every plain c ≡ true
+    plain-value = every-right plain a (bytes ":=" ++ c) p
+
+    fine : (k v : List ℕ) → pairsSince ≤ version → escape k ≡ a → escape v ≡ c → PairLine version (a ++ (bytes ":=" ++ c)) k v
+    fine k v n i j = record {
+      since = n;
+      text-is = rw (i, j);
+      key = key-fine k record {
+        begins = sym (begins-of-escape k) ∙ rw i h;
+        bytes-fine = settable-of-plain k (rw i plain-key);
+        no-mark = rw i m;
+      };
+      value = settable-of-plain v (rw j plain-value);
+    }
+
+    go : (x : Bool) → ltb version pairsSince ≡ x → (o : Option (List ℕ)) → unescape a ≡ o → (q : Option (List ℕ)) → unescape c ≡ q
+        → Told version (a ++ (bytes ":=" ++ c)) (if x then wrong notInVersion else unescaped o q)
+    go true n o i q j = tt
+    go false n none i q j = tt
+    go false n (some k) i none j = tt
+    go false n (some k) i (some v) j =
+        fine k v (ltb-false version pairsSince n) (escape-of-plain a k plain-key i) (escape-of-plain c v plain-value j)
+
+told-mark : (version : ℕ) (gs : List Given) (t : List ℕ) (m : Marked) → Parts t m → beginsFine t ≡ true → every plain t ≡ true
+    → Told version t (onMark version gs m)
+told-mark version gs t unmarked q h p = tt
+told-mark version gs t (fieldMark n d) q h p = told-field version gs t (fieldNamed n) d
+told-mark version gs t (pairMark a c) q h p = rw (q .0) (told-pair version a c (rw (q .0) at h) (rw (q .0) at p) (q .1))
+
+told-judge : (version : ℕ) (gs : List Given) (t : List ℕ) → Told version t (judge version gs t)
+unfolding judge
+told-judge version gs [] = tt
+told-judge version gs (b ∷ t) = go (eqb b HASH) refl (every plain (b ∷ t)) refl
+  where
+    go : (x : Bool) → eqb b HASH ≡ x → (y : Bool) → every plain (b ∷ t) ≡ y
+        → Told version (b ∷ t) (if x then right comment else if not y then wrong badByte else onMark version gs (mark (b ∷ t)))
+    go true e y p = tt
+    go false e true p = told-mark version gs (b ∷ t) (mark (b ∷ t)) (mark-parts (b ∷ t)) (rw e) p
+    go false e false p = tt
+
+-- what holds of every line that is read as a pair
+pub pair-line : (version : ℕ) (gs : List Given) (t k v : List ℕ) → judge version gs t ≡ right (pair k v) → PairLine version t k v
+pair-line version gs t k v e = rw e at (told-judge version gs t)
+
+-- a pair's line is the one that sets its key to its value, byte for byte
+pub pair-is-canonical : (version : ℕ) (gs : List Given) (t k v : List ℕ) → judge version gs t ≡ right (pair k v) → t ≡ pairText k v
+pair-is-canonical version gs t k v e = pair-line version gs t k v e .text-is
+
+-- every key that a file holds can be set, and so can every value
+pub pair-key-fine : (version : ℕ) (gs : List Given) (t k v : List ℕ) → judge version gs t ≡ right (pair k v) → keyFine k ≡ true
+pair-key-fine version gs t k v e = pair-line version gs t k v e .key
+
+pub pair-value-fine : (version : ℕ) (gs : List Given) (t k v : List ℕ) → judge version gs t ≡ right (pair k v) → valueFine v ≡ true
+pair-value-fine version gs t k v e = pair-line version gs t k v e .value
