@@ -11,7 +11,7 @@ use lib.IntN.{ℤ, pos, negsuc}
 use lib.ListN.{length, getD, length-reverse}
 use borrow.Author.Tests.{lt-ltb, le-ltb, ltb-true, leb-true}
 use Rattle.format.specs.Bytes.{if_then_else_}
-use Rattle.format.specs.Descriptors.{Kind, signed, unsigned, floating, big}
+use Rattle.format.specs.Descriptors.{NumberKind, signed, unsigned, floating, big}
 use Rattle.format.specs.Samples.{inType, fromBytes, toBytes, ordered, fromSigned, valueOfBits, sampleValue, valueBytes}
 
 -- ---- lists of bytes
@@ -111,7 +111,7 @@ module _ (w : ℕ) where
   power = one-le-pow w 256 (lit< tt)
 
   -- the bits of a value of the type are below 256 ^ w
-  bits-below : (k : Kind) (z : ℤ) → inType k w z ≡ true → fromSigned w z < 256 ^ w
+  bits-below : (k : NumberKind) (z : ℤ) → inType k w z ≡ true → fromSigned w z < 256 ^ w
   unfolding inType
   bits-below signed (pos n) e = omega (arith, power, leb-true)
   bits-below unsigned (pos n) e = omega (arith, power, leb-true)
@@ -119,7 +119,7 @@ module _ (w : ℕ) where
   bits-below k (negsuc n) e = omega (arith, power)
 
   -- the value of the bits of a value of the type is that value
-  value-of-bits : (k : Kind) (z : ℤ) → 1 ≤ w → inType k w z ≡ true → valueOfBits k w (fromSigned w z) ≡ z
+  value-of-bits : (k : NumberKind) (z : ℤ) → 1 ≤ w → inType k w z ≡ true → valueOfBits k w (fromSigned w z) ≡ z
   unfolding inType
   value-of-bits signed (pos n) h e =
       let l : 256 ^ 1 ≤ 256 ^ w = pow-le-pow-right (lit< tt) h in
@@ -134,7 +134,7 @@ module _ (w : ℕ) where
   value-of-bits floating (negsuc n) h e = absurd (omega (arith, ltb-true))
 
   -- the bits of the value of bits are those bits
-  bits-of-value : (k : Kind) (n : ℕ) → n < 256 ^ w → fromSigned w (valueOfBits k w n) ≡ n
+  bits-of-value : (k : NumberKind) (n : ℕ) → n < 256 ^ w → fromSigned w (valueOfBits k w n) ≡ n
   bits-of-value signed n h = go (ltb n (256 ^ w / 2))
     where
       go : (t : Bool) → fromSigned w (if t then pos n else negsuc (256 ^ w - 1 - n)) ≡ n
@@ -144,7 +144,7 @@ module _ (w : ℕ) where
   bits-of-value floating n h = refl
 
 -- the value of the bytes of a value of the type is that value
-pub value-of-bytes : (k : Kind) (w endian : ℕ) (z : ℤ) → 1 ≤ w → inType k w z ≡ true → sampleValue k endian (valueBytes w endian z) ≡ z
+pub value-of-bytes : (k : NumberKind) (w endian : ℕ) (z : ℤ) → 1 ≤ w → inType k w z ≡ true → sampleValue k endian (valueBytes w endian z) ≡ z
 unfolding sampleValue valueBytes
 value-of-bytes k w endian z h e =
     let s = toBytes w (fromSigned w z) in
@@ -152,7 +152,7 @@ value-of-bytes k w endian z h e =
     rw (l, ordered-twice endian s, from-to-bytes w (fromSigned w z) (bits-below w k z e)) (value-of-bits w k z h e)
 
 -- the bytes of the value of bytes are those bytes
-pub bytes-of-value : (k : Kind) (endian : ℕ) (s : List ℕ) → AllBytes s → valueBytes (length s) endian (sampleValue k endian s) ≡ s
+pub bytes-of-value : (k : NumberKind) (endian : ℕ) (s : List ℕ) → AllBytes s → valueBytes (length s) endian (sampleValue k endian s) ≡ s
 unfolding sampleValue valueBytes
 bytes-of-value k endian s p =
     let o = ordered endian s in

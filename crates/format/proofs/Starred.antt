@@ -1,5 +1,5 @@
 -- The starred trials hold: both sides of each are computed.
-use mathlib.Core.Path.{_≡_, refl}
+use mathlib.Core.Path.{refl}
 use Rattle.format.specs.Bytes.{every, same, alike, beginsWith, isIn, isAny, rowFrom}
 use Rattle.format.specs.Lines.{lines, unlines, starts}
 use Rattle.format.specs.Pairs.{mark, escape, unescapeFrom}
@@ -7,12 +7,12 @@ use Rattle.format.specs.Fields.{fieldSince, descriptorOf, inOrder}
 use Rattle.format.specs.Descriptors.{trimFront, trimEnd, descriptor, digitsFrom, number, parts, notEmpty, numbersIn, typeAt, mayDescribe, hasNeeded, product}
 use Rattle.format.specs.Header.{magicVersion, onPair, onField, judge, complete, walk, header, valueOf}
 use Rattle.format.specs.Data.{skipLine, skipLines, skipBytes, placeOf}
-use Rattle.format.specs.Samples.{inType, fromBytes, sampleValue, rawSamples, unblank, token, afterToken, tokenValue, tokens, samplesOf}
+use Rattle.format.specs.Samples.{inType, fromBytes, sampleValue, rawSamples, skipBlanks, token, afterToken, tokenValue, tokens, samplesOf}
 use Rattle.format.specs.Axes.{inside, sampleNumber}
-use Rattle.format.specs.Settings.{keyFine, valueFine, pairText, replaced, newLines, refilled, retabled, tableFine, store, setRead, setKey}
+use Rattle.format.specs.Settings.{keyFine, valueFine, pairText, replaced, newLines, refilled, tableFine, store, setRead, setKey}
 use Rattle.format.specs.Calls.{noReading, readingOf, withTable}
 use Rattle.format.specs.Trials.{texts, StarredTrials}
 
 pub starred-trials : StarredTrials
-unfolding every same alike beginsWith isIn isAny rowFrom lines unlines starts mark escape unescapeFrom fieldSince descriptorOf inOrder trimFront trimEnd descriptor digitsFrom number parts notEmpty numbersIn typeAt mayDescribe hasNeeded product magicVersion onPair onField judge complete walk header valueOf skipLine skipLines skipBytes placeOf inType fromBytes sampleValue rawSamples unblank token afterToken tokenValue tokens samplesOf inside sampleNumber keyFine valueFine pairText replaced newLines refilled retabled tableFine store setRead setKey noReading readingOf withTable texts
+unfolding every same alike beginsWith isIn isAny rowFrom lines unlines starts mark escape unescapeFrom fieldSince descriptorOf inOrder trimFront trimEnd descriptor digitsFrom number parts notEmpty numbersIn typeAt mayDescribe hasNeeded product magicVersion onPair onField judge complete walk header valueOf skipLine skipLines skipBytes placeOf inType fromBytes sampleValue rawSamples skipBlanks token afterToken tokenValue tokens samplesOf inside sampleNumber keyFine valueFine pairText replaced newLines refilled tableFine store setRead setKey noReading readingOf withTable texts
 starred-trials = (refl, (refl, (refl, (refl, (refl, (refl, (refl, (refl, (refl, (refl, (refl, (refl, (refl, (refl, (refl, (refl, (refl, (refl, (refl, (refl, (refl, (refl, (refl, tt)))))))))))))))))))))))

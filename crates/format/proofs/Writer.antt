@@ -12,9 +12,9 @@ use lib.ListN.{length, getD, length-append, List·getD-append}
 use lib.Seq.{take-at, drop-at}
 use borrow.Author.Tests.{ltb-true, ltb-false, leb-true, le-leb, lt-leb, ne-eqb}
 use Rattle.format.specs.Bytes.{if_then_else_, between, isDigit, every, LF}
-use Rattle.format.specs.Descriptors.{Kind, digitsFrom, number, raw, asText}
-use Rattle.format.specs.Samples.{inType, valueBytes, rawSamples, blank, unblanked, hexDigit, hexRun, hexBytes, hexSamples, unblank, token, afterToken, signedBy, tokenValue, textSample, tokens, textSamples, samplesOf}
-use Rattle.format.specs.Writer.{digit, decimalFrom, decimal, signedDecimal, hexLetter, hexText, rawData, textData, dataBytes, allInType}
+use Rattle.format.specs.Descriptors.{NumberKind, digitsFrom, number, raw, asText}
+use Rattle.format.specs.Samples.{inType, valueBytes, rawSamples, blank, withoutBlanks, hexDigit, hexRun, hexBytes, hexSamples, skipBlanks, token, afterToken, signedBy, tokenValue, textSample, tokens, textSamples, samplesOf}
+use Rattle.format.specs.Writer.{digit, byDigits, decimalFrom, decimal, signedDecimal, hexLetter, hexText, rawData, textData, dataBytes, allInType}
 use Rattle.format.proofs.Samples.{AllBytes, length-value-bytes, value-bytes-bytes, value-of-bytes}
 
 -- ---- tests on a byte
@@ -43,7 +43,7 @@ module _ (P : ℕ → List ℕ → Type 0)
   of-bounded zero n h = one n (omega arith)
   of-bounded (suc m) n h = go (ltb n 10) refl (of-bounded m (n / 10) (omega arith))
     where
-      go : (t : Bool) → ltb n 10 ≡ t → P (n / 10) (decimalFrom m (n / 10)) → P n (if t then digit n ∷ [] else decimalFrom m (n / 10) ++ (digit (n % 10) ∷ []))
+      go : (t : Bool) → ltb n 10 ≡ t → P (n / 10) (decimalFrom m (n / 10)) → P n (byDigits t n (λ k. decimalFrom m k))
       go true q p = one n (ltb-true n 10 q)
       go false q p = more n (decimalFrom m (n / 10)) (ltb-false n 10 q) p
 
@@ -169,10 +169,10 @@ hex-append [] t = refl
 hex-append (b ∷ s) t = rw (hex-append s t)
 
 -- nothing of hex text is a blank
-pub hex-unblanked : (s r : List ℕ) → unblanked (hexText s ++ r) ≡ hexText s ++ unblanked r
-unfolding hexText unblanked
-hex-unblanked [] r = refl
-hex-unblanked (b ∷ s) r = rw (hex-letter-not-blank (b / 16), hex-letter-not-blank (b % 16), hex-unblanked s r)
+pub hex-without-blanks : (s r : List ℕ) → withoutBlanks (hexText s ++ r) ≡ hexText s ++ withoutBlanks r
+unfolding hexText withoutBlanks
+hex-without-blanks [] r = refl
+hex-without-blanks (b ∷ s) r = rw (hex-letter-not-blank (b / 16), hex-letter-not-blank (b % 16), hex-without-blanks s r)
 
 -- ---- samples as lines of text
 
@@ -208,15 +208,15 @@ after-line [] r p = refl
 after-line (b ∷ s) r p = rw (p .0, after-line s r (p .1))
 
 -- a line that is one token, and what is read after it
-tokens-of-line : (k : Kind) (w n : ℕ) (s r : List ℕ) → 1 ≤ length s → NoBlanks s → textSamples k w (suc n) (s ++ LF ∷ r) ≡ textSample k w (tokenValue s) (textSamples k w n r)
-unfolding tokens unblank
+tokens-of-line : (k : NumberKind) (w n : ℕ) (s r : List ℕ) → 1 ≤ length s → NoBlanks s → textSamples k w (suc n) (s ++ LF ∷ r) ≡ textSample k w (tokenValue s) (textSamples k w n r)
+unfolding tokens skipBlanks
 tokens-of-line k w n [] r h p = absurd (omega arith)
 tokens-of-line k w n (b ∷ s) r h p = rw (p .0, token-of-line (b ∷ s) r p, after-line (b ∷ s) r p)
 
 -- ---- the data of samples is read back
 
 -- raw data, and r after it
-pub raw-read-back : (k : Kind) (w endian : ℕ) (zs : List ℤ) (r : List ℕ) → 1 ≤ w → allInType k w zs ≡ true
+pub raw-read-back : (k : NumberKind) (w endian : ℕ) (zs : List ℤ) (r : List ℕ) → 1 ≤ w → allInType k w zs ≡ true
     → rawSamples k w endian (length zs) (rawData w endian zs ++ r) ≡ record { number = 0; seen = zs }
 unfolding allInType rawSamples rawData
 raw-read-back k w endian [] r h e = refl
@@ -227,7 +227,7 @@ raw-read-back k w endian (z ∷ zs) r h e =
     rw (append-assoc, take-at s (rawData w endian zs ++ r) w l, drop-at s (rawData w endian zs ++ r) w l, value-of-bytes k w endian z h (p .0), p .0, raw-read-back k w endian zs r h (p .1))
 
 -- hex text without blanks, and r after it
-hex-samples-back : (k : Kind) (w endian : ℕ) (zs : List ℤ) (r : List ℕ) → 1 ≤ w → allInType k w zs ≡ true
+hex-samples-back : (k : NumberKind) (w endian : ℕ) (zs : List ℤ) (r : List ℕ) → 1 ≤ w → allInType k w zs ≡ true
     → hexSamples k w endian (length zs) (hexText (rawData w endian zs) ++ r) ≡ record { number = 0; seen = zs }
 unfolding allInType hexSamples rawData
 hex-samples-back k w endian [] r h e = refl
@@ -239,13 +239,13 @@ hex-samples-back k w endian (z ∷ zs) r h e =
     rw (hex-append, append-assoc, q, value-of-bytes k w endian z h (p .0), p .0, hex-samples-back k w endian zs r h (p .1))
 
 -- hex data: blanks are taken out, also the LF that closes it
-pub hex-read-back : (k : Kind) (w endian : ℕ) (zs : List ℤ) → 1 ≤ w → allInType k w zs ≡ true
-    → hexSamples k w endian (length zs) (unblanked (hexText (rawData w endian zs) ++ LF ∷ [])) ≡ record { number = 0; seen = zs }
-unfolding unblanked
-hex-read-back k w endian zs h e = rw (hex-unblanked (rawData w endian zs) (LF ∷ [])) (hex-samples-back k w endian zs [] h e)
+pub hex-read-back : (k : NumberKind) (w endian : ℕ) (zs : List ℤ) → 1 ≤ w → allInType k w zs ≡ true
+    → hexSamples k w endian (length zs) (withoutBlanks (hexText (rawData w endian zs) ++ LF ∷ [])) ≡ record { number = 0; seen = zs }
+unfolding withoutBlanks
+hex-read-back k w endian zs h e = rw (hex-without-blanks (rawData w endian zs) (LF ∷ [])) (hex-samples-back k w endian zs [] h e)
 
 -- text data
-pub text-read-back : (k : Kind) (w : ℕ) (zs : List ℤ) → allInType k w zs ≡ true → textSamples k w (length zs) (textData zs) ≡ record { number = 0; seen = zs }
+pub text-read-back : (k : NumberKind) (w : ℕ) (zs : List ℤ) → allInType k w zs ≡ true → textSamples k w (length zs) (textData zs) ≡ record { number = 0; seen = zs }
 unfolding allInType tokens textData
 text-read-back k w [] e = refl
 text-read-back k w (z ∷ zs) e =
@@ -253,7 +253,7 @@ text-read-back k w (z ∷ zs) e =
     tokens-of-line k w (length zs) (signedDecimal z) (textData zs) (sample-not-empty z) (sample-no-blanks z) ∙ rw (value-of-decimal z, p .0, text-read-back k w zs (p .1))
 
 -- the data that is written reads back as the samples given, in every encoding
-pub data-read-back : (encoding : ℕ) (k : Kind) (w endian : ℕ) (zs : List ℤ) → 1 ≤ w → allInType k w zs ≡ true
+pub data-read-back : (encoding : ℕ) (k : NumberKind) (w endian : ℕ) (zs : List ℤ) → 1 ≤ w → allInType k w zs ≡ true
     → samplesOf encoding k w endian (length zs) (dataBytes encoding w endian zs) ≡ record { number = 0; seen = zs }
 unfolding samplesOf dataBytes
 data-read-back encoding k w endian zs h e = go (eqb encoding raw) (eqb encoding asText) refl refl

@@ -1,12 +1,19 @@
 -- Bytes, and the tests on them that the other files of definitions are written in.
 -- A byte is a number; a text and a file are lists of bytes.
+--
+-- How to read the definitions. A line `f : A → B → C` says that f takes an A and a B and gives a C; the lines `f x y = ..` below it say what,
+-- each for inputs of the shape on its left. `[]` is the empty list, `b ∷ s` a list with b before s, `s ++ t` two lists joined.
+-- An `Option` is `none` or `some` value. `λ x. ..` is a function of x. `p .0` and `p .1` are the parts of a pair, `r .name` a part of a record.
+-- Numbers are whole and unbounded; `a - b` is 0 where b is larger. `eqb`, `ltb` and `leb` test for equal, less, and less or equal.
+-- `abbrev` and `unfoldable` say how proofs see a definition and change nothing of what it means.
 use Prim.Native.Nat.{ℕ, _+_}
 use Prim.Native.Char.{code}
 use Prim.Native.String.{String, [] as []ˢ, _∷_ as _∷ˢ_}
-use mathlib.Core.Bool.{Bool, true, false, not, _&&_, _||_}
-use mathlib.Core.List.{List, [], _∷_}
+use mathlib.Core.Bool.{Bool, true, false, _&&_, _||_}
+use mathlib.Core.List.{List, [], _∷_, _++_}
 use mathlib.Core.Option.{Option, none, some}
-use lib.Dec.{eqb, leb, ltb}
+use lib.Dec.{eqb, leb}
+use lib.ListN.{length, drop}
 
 infixr 10 if_then_else_
 abbrev pub if_then_else_ {ℓ} : {A : Type ℓ} → Bool → A → A → A
@@ -127,6 +134,12 @@ rowFrom i w (r ∷ rs) = if isAny w r then some i else rowFrom (i + 1) w rs
 
 abbrev pub rowOf : List ℕ → List (List String) → Option ℕ
 rowOf w rs = rowFrom 0 w rs
+
+-- ---- lent lists
+
+-- a lent list once `new` is written to its front; what is past that stays
+abbrev pub over {ℓ} : {A : Type ℓ} → List A → List A → List A
+over new old = new ++ drop (length new) old
 
 -- ---- answers that may be missing
 

@@ -2,39 +2,35 @@
 -- Document 01 fixes the part that comes with a refused data call, and that a refused setting leaves length and count;
 -- with any other refusal come zeros (docs/DECISIONS.md, "What comes with a refusal").
 use Prim.Native.Nat.{ℕ, _+_, _-_}
-use mathlib.Core.Bool.{Bool, true, false, not, _&&_, _||_}
-use mathlib.Core.List.{List, [], _∷_, _++_, map}
+use mathlib.Core.Bool.{true, false}
+use mathlib.Core.List.{List, [], _∷_, _++_}
 use mathlib.Core.Option.{Option, none, some}
 use lib.Dec.{eqb, ltb}
 use lib.IntN.{ℤ}
-use lib.ListN.{length, take, drop, replicate}
+use lib.ListN.{length, replicate}
 use Rattle.format.specs.declared.Refusal.{Refusal}
 use Rattle.format.specs.declared.Reading.{Reading}
 use Rattle.format.specs.declared.ReadAnswer.{ReadAnswer}
-use Rattle.format.specs.declared.PlaceAnswer.{PlaceAnswer}
+use Rattle.format.specs.declared.FindAnswer.{FindAnswer}
 use Rattle.format.specs.declared.ValueAnswer.{ValueAnswer}
 use Rattle.format.specs.declared.DataAnswer.{DataAnswer}
 use Rattle.format.specs.declared.CountAnswer.{CountAnswer}
 use Rattle.format.specs.declared.NumberAnswer.{NumberAnswer}
 use Rattle.format.specs.declared.WriteAnswer.{WriteAnswer}
 use Rattle.format.specs.declared.SetAnswer.{SetAnswer}
-use Rattle.format.specs.Bytes.{if_then_else_, isSome}
+use Rattle.format.specs.Bytes.{if_then_else_, isSome, over}
 use Rattle.format.specs.Limits.{maxAxes}
 use Rattle.format.specs.Refusals.{lentTooShort, badCoordinates, refusal, fine}
 use Rattle.format.specs.Lines.{text, size}
 use Rattle.format.specs.Pairs.{Marked, unmarked, fieldMark, pairMark, mark, escape}
 use Rattle.format.specs.Fields.{Given}
-use Rattle.format.specs.Descriptors.{fromDescriptor, isDetached, dimensionOf, typeOf, encodingOf, endianOf, sizesOf, lineSkipOf, byteSkipOf, extentOf, sampleBytes, kindOf, product}
+use Rattle.format.specs.Descriptors.{fromDescriptor, isDetached, dimensionOf, typeOf, encodingOf, endianOf, sizesOf, lineSkipOf, byteSkipOf, extentOf, sampleBytes, numberKind, product}
 use Rattle.format.specs.Header.{Item, magic, comment, field, pair, closing, Entry, entry, Outcome, refused, accepted, header, versionOf, valueOf, valueIn, tableOf, headerLength}
 use Rattle.format.specs.Data.{Place, nowhere, part, placeOf, partOf}
 use Rattle.format.specs.Samples.{Decoded, samplesOf}
 use Rattle.format.specs.Axes.{inside, sampleNumber}
 use Rattle.format.specs.Writer.{fileBytes, writeRefusal}
-use Rattle.format.specs.Settings.{Lent, lent, Setting, setting, SetOutcome, kept, changed, setKey, hasKey}
-
--- a lent list with its front replaced; what is past it stays
-abbrev pub over : {A : Type 0} → List A → List A → List A
-over new old = new ++ drop (length new) old
+use Rattle.format.specs.Settings.{lent, setting, SetOutcome, kept, changed, setKey, hasKey}
 
 -- ---- header::read_header: the reading without the table
 
@@ -71,13 +67,11 @@ readHeaderCall file = readAnswer (header file)
 
 -- ---- header::read: the reading, then 22 for the table; the lent table as it returns
 
-abbrev pub noReadAnswer : Refusal → ReadAnswer
-noReadAnswer r = record { refusal = r; reading = noReading }
-
+-- the answer and the table, by the reading of the file
 unfoldable pub withTable : List ℕ → Outcome → ReadAnswer × List ℕ
-withTable table (refused r) = (noReadAnswer r, table)
+withTable table (refused r) = (readAnswer (refused r), table)
 withTable table (accepted es gs ls) =
-    if ltb (length table) (length es) then (noReadAnswer (refusal lentTooShort), table)
+    if ltb (length table) (length es) then (readAnswer (refused (refusal lentTooShort)), table)
     else (readAnswer (accepted es gs ls), over (tableOf es) table)
 
 abbrev pub readCall : List ℕ → List ℕ → ReadAnswer × List ℕ
@@ -85,14 +79,14 @@ readCall file table = withTable table (header file)
 
 -- ---- header::find_key, header::find_field: where the bytes lie in the file, or that they are absent
 
-abbrev pub noPlace : Refusal → PlaceAnswer
+abbrev pub noPlace : Refusal → FindAnswer
 noPlace r = record { refusal = r; found = false; start = 0; length = 0 }
 
-abbrev pub foundAt : ℕ → ℕ → PlaceAnswer
+abbrev pub foundAt : ℕ → ℕ → FindAnswer
 foundAt at n = record { refusal = fine; found = true; start = at; length = n }
 
 -- the value's text of a pair, in a line that starts at `at`: it follows the key's text and `:=`
-abbrev pub valuePlace : ℕ → Item → PlaceAnswer
+abbrev pub valuePlace : ℕ → Item → FindAnswer
 valuePlace at (magic n) = noPlace fine
 valuePlace at comment = noPlace fine
 valuePlace at (field f d) = noPlace fine
@@ -100,18 +94,18 @@ valuePlace at (pair k v) = foundAt (at + (length (escape k) + 2)) (length (escap
 valuePlace at closing = noPlace fine
 
 -- the place of the value's text in the last line with the key, in entries that start at `at`
-unfoldable pub keyPlace : List ℕ → ℕ → List Entry → PlaceAnswer
+unfoldable pub keyPlace : List ℕ → ℕ → List Entry → FindAnswer
 keyPlace k at [] = noPlace fine
 keyPlace k at (entry l i ∷ es) =
     if hasKey k es then keyPlace k (at + size l) es
     else if isSome (valueIn k i) then valuePlace at i
     else noPlace fine
 
-abbrev pub findKeyIn : List ℕ → Outcome → PlaceAnswer
+abbrev pub findKeyIn : List ℕ → Outcome → FindAnswer
 findKeyIn k (refused r) = noPlace r
 findKeyIn k (accepted es gs ls) = keyPlace k 0 es
 
-abbrev pub findKeyCall : List ℕ → List ℕ → PlaceAnswer
+abbrev pub findKeyCall : List ℕ → List ℕ → FindAnswer
 findKeyCall file k = findKeyIn k (header file)
 
 -- what follows the mark of a field's line
@@ -125,22 +119,22 @@ abbrev pub beforeDescriptor : ℕ → List ℕ → ℕ
 beforeDescriptor f t = length t - length (fromDescriptor f (afterMark (mark t)))
 
 -- the place of the descriptor that a line gives the field f, or what the lines after it say
-abbrev pub descriptorPlace : ℕ → ℕ → List ℕ → Item → PlaceAnswer → PlaceAnswer
+abbrev pub descriptorPlace : ℕ → ℕ → List ℕ → Item → FindAnswer → FindAnswer
 descriptorPlace f at t (magic n) rest = rest
 descriptorPlace f at t comment rest = rest
 descriptorPlace f at t (field g d) rest = if eqb f g then foundAt (at + beforeDescriptor f t) (length d) else rest
 descriptorPlace f at t (pair k v) rest = rest
 descriptorPlace f at t closing rest = rest
 
-unfoldable pub fieldPlace : ℕ → ℕ → List Entry → PlaceAnswer
+unfoldable pub fieldPlace : ℕ → ℕ → List Entry → FindAnswer
 fieldPlace f at [] = noPlace fine
 fieldPlace f at (entry l i ∷ es) = descriptorPlace f at (text l) i (fieldPlace f (at + size l) es)
 
-abbrev pub findFieldIn : ℕ → Outcome → PlaceAnswer
+abbrev pub findFieldIn : ℕ → Outcome → FindAnswer
 findFieldIn f (refused r) = noPlace r
 findFieldIn f (accepted es gs ls) = fieldPlace f 0 es
 
-abbrev pub findFieldCall : List ℕ → ℕ → PlaceAnswer
+abbrev pub findFieldCall : List ℕ → ℕ → FindAnswer
 findFieldCall file f = findFieldIn f (header file)
 
 -- ---- header::copy_value: the value of a key, escapes resolved, at the front of a lent buffer; 22 if it is short
@@ -177,14 +171,15 @@ dataPlaceIn file second (accepted es gs ls) = dataAnswer (placeOf false gs (head
 abbrev pub dataPlaceCall : List ℕ → List ℕ → DataAnswer
 dataPlaceCall file second = dataPlaceIn file second (header file)
 
--- the part itself; with a refusal the empty part at the start of the header's file
-abbrev pub dataIn : DataAnswer → List ℕ → List ℕ → List ℕ
-dataIn d file second = take (d .length) (drop (d .start) (if d .second then second else file))
+-- the bytes of the part, none with a refusal; `dataPlaceCall` has the refusal's number and line
+abbrev pub dataIn : List ℕ → List ℕ → Outcome → List ℕ
+dataIn file second (refused r) = []
+dataIn file second (accepted es gs ls) = partOf (placeOf false gs (headerLength es) file second) file second
 
 abbrev pub dataCall : List ℕ → List ℕ → List ℕ
-dataCall file second = dataIn (dataPlaceCall file second) file second
+dataCall file second = dataIn file second (header file)
 
--- where the part starts, as a pointer (block and offset), in the file that holds it
+-- where the part starts, as a pointer (block and offset): in the file that holds it; with a refusal the start of the header's file
 abbrev pub dataPointer : ℕ × ℕ → ℕ × ℕ → DataAnswer → ℕ × ℕ
 dataPointer file second d = if d .second then (second .0, d .start + second .1) else (file .0, d .start + file .1)
 
@@ -198,7 +193,7 @@ abbrev pub countOf : List Given → ℕ
 countOf gs = product (sizesOf gs)
 
 abbrev pub decoded : List Given → List ℕ → Decoded
-decoded gs s = samplesOf (encodingOf gs) (kindOf (typeOf gs)) (sampleBytes (typeOf gs)) (endianOf gs) (countOf gs) s
+decoded gs s = samplesOf (encodingOf gs) (numberKind (typeOf gs)) (sampleBytes (typeOf gs)) (endianOf gs) (countOf gs) s
 
 abbrev pub answerDecoded : ℕ → Decoded → CountAnswer
 answerDecoded n d = if eqb (d .number) 0 then record { refusal = fine; count = n } else noSamples (refusal (d .number))

@@ -1,17 +1,16 @@
 -- The place of the data (document 01, "Data and samples", the first paragraph).
--- Order for data after the reading: 1 for a second file in use, 16, 17, 18; samples add 19 before 16.
+-- After the reading its refusals are tried in this order: 1 (a detached header's second file), 19 (where samples are wanted), 16, 17, 18.
 use Prim.Native.Nat.{ℕ, zero, suc, _+_, _-_, _^_}
 use mathlib.Core.Bool.{Bool, true, false, _&&_}
 use mathlib.Core.List.{List, [], _∷_}
 use mathlib.Core.Option.{Option, none, some}
 use lib.Dec.{eqb, ltb, leb}
 use lib.ListN.{length, take, drop}
-use Rattle.format.specs.declared.Refusal.{Refusal}
 use Rattle.format.specs.Bytes.{if_then_else_, andThen, LF}
 use Rattle.format.specs.Limits.{maxFile}
 use Rattle.format.specs.Refusals.{fileTooLong, skipPastEnd, placeTooLarge, dataTooShort, floatSamples}
 use Rattle.format.specs.Fields.{Given}
-use Rattle.format.specs.Descriptors.{isDetached, lineSkipOf, byteSkipOf, encodingOf, typeOf, kindOf, isFloating, extentOf, raw}
+use Rattle.format.specs.Descriptors.{isDetached, lineSkipOf, byteSkipOf, encodingOf, typeOf, numberKind, isFloating, extentOf, raw}
 
 -- ---- the skips: first lines, then bytes; none where a skip passes the end
 
@@ -20,10 +19,12 @@ unfoldable pub skipLine : List ℕ → Option (List ℕ)
 skipLine [] = none
 skipLine (b ∷ s) = if eqb b LF then some s else skipLine s
 
+-- what follows so many lines
 unfoldable pub skipLines : ℕ → List ℕ → Option (List ℕ)
 skipLines zero s = some s
 skipLines (suc n) s = andThen (skipLine s) (λ t. skipLines n t)
 
+-- what follows so many bytes; a skip to the very end is taken
 unfoldable pub skipBytes : ℕ → List ℕ → Option (List ℕ)
 skipBytes n s = if ltb (length s) n then none else some (drop n s)
 
@@ -54,7 +55,7 @@ placeFrom gs second whole (some left) =
 unfoldable pub placeOf : Bool → List Given → ℕ → List ℕ → List ℕ → Place
 placeOf wanted gs h file second =
     if isDetached gs && ltb maxFile (length second) then nowhere fileTooLong
-    else if wanted && isFloating (kindOf (typeOf gs)) then nowhere floatSamples
+    else if wanted && isFloating (numberKind (typeOf gs)) then nowhere floatSamples
     else if isDetached gs then placeFrom gs true (length second) (afterSkips gs second)
     else placeFrom gs false (length file) (afterSkips gs (drop h file))
 

@@ -3,9 +3,9 @@
 use Prim.Native.Nat.{ℕ, _+_, _-_, _*_}
 use Prim.Native.String.{String}
 use mathlib.Core.Bool.{Bool, true, false, not, _&&_, _||_}
-use mathlib.Core.List.{List, [], _∷_, _++_, map}
+use mathlib.Core.List.{List, [], _∷_, map}
 use mathlib.Core.Option.{Option, none, some}
-use lib.Dec.{eqb, leb, ltb}
+use lib.Dec.{eqb, ltb}
 use lib.ListN.{length, getD}
 use Rattle.format.specs.Bytes.{if_then_else_, bytes, between, spaceOrTab, isDigit, same, beginsWith, isIn, isEmpty, rowOf, isSome, orDefault, PERCENT}
 use Rattle.format.specs.Limits.{maxAxes, maxSize, maxSkip}
@@ -84,12 +84,12 @@ numbersIn least most (w ∷ ws) = numberIn least most w && numbersIn least most 
 
 -- ---- types, encodings, endians: numbered from 0 as listed, by names that ignore case
 
-pub data Kind : Type 0 where
-  signed unsigned floating : Kind
+pub data NumberKind : Type 0 where
+  signed unsigned floating : NumberKind
 
 -- a type: its name before the colon, the bytes of a sample, its kind, and all its names
 pub data SampleType : Type 0 where
-  sampleType : String → ℕ → Kind → List String → SampleType
+  sampleType : String → ℕ → NumberKind → List String → SampleType
 
 abbrev pub types : List SampleType
 types =
@@ -141,10 +141,10 @@ typeName (sampleType name n k ns) = name
 abbrev pub bytesOfType : SampleType → ℕ
 bytesOfType (sampleType name n k ns) = n
 
-abbrev pub kindOfType : SampleType → Kind
-kindOfType (sampleType name n k ns) = k
+abbrev pub numberKindType : SampleType → NumberKind
+numberKindType (sampleType name n k ns) = k
 
--- the type of a number; past the list the type of number 0
+-- the type of a number, and a stand-in past the list
 unfoldable pub typeAt : ℕ → SampleType
 typeAt t = getD types t (sampleType "int8" 1 signed [])
 
@@ -152,10 +152,10 @@ typeAt t = getD types t (sampleType "int8" 1 signed [])
 abbrev pub sampleBytes : ℕ → ℕ
 sampleBytes t = bytesOfType (typeAt t)
 
-abbrev pub kindOf : ℕ → Kind
-kindOf t = kindOfType (typeAt t)
+abbrev pub numberKind : ℕ → NumberKind
+numberKind t = numberKindType (typeAt t)
 
-abbrev pub isFloating : Kind → Bool
+abbrev pub isFloating : NumberKind → Bool
 isFloating signed = false
 isFloating unsigned = false
 isFloating floating = true
@@ -169,7 +169,7 @@ encodingNamed w = rowOf w encodings
 abbrev pub endianNamed : List ℕ → Option ℕ
 endianNamed w = rowOf w endians
 
--- endian matters where a sample has more than one byte and the encoding is raw or hex
+-- whether the order of a sample's bytes matters ("Needed"): raw or hex samples of several bytes
 abbrev pub endianNeeded : ℕ → ℕ → Bool
 endianNeeded t e = ltb 1 (sampleBytes t) && (eqb e raw || eqb e hex)
 
@@ -201,7 +201,7 @@ lineSkipOf gs = meaning 0 valueOfNumber (descriptorOf lineSkip gs)
 abbrev pub byteSkipOf : List Given → ℕ
 byteSkipOf gs = meaning 0 valueOfNumber (descriptorOf byteSkip gs)
 
--- a header with a data file field is detached
+-- detached: the data file field is given
 abbrev pub isDetached : List Given → Bool
 isDetached gs = isGiven dataFile gs
 
@@ -230,6 +230,7 @@ mayDescribe gs f t =
 
 -- ---- what is needed (refusal 14), and the extent
 
+-- dimension, type, encoding and sizes are given, and endian where the order of bytes matters
 unfoldable pub hasNeeded : List Given → Bool
 hasNeeded gs =
     isGiven dimension gs
@@ -242,7 +243,7 @@ unfoldable pub product : List ℕ → ℕ
 product [] = 1
 product (n ∷ ns) = n * product ns
 
--- the product of the sizes times the bytes of a sample
+-- the bytes that all samples take in raw
 abbrev pub extent : List ℕ → ℕ → ℕ
 extent ns t = product ns * sampleBytes t
 

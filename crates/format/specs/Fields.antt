@@ -3,11 +3,11 @@
 -- A field is a number from 0: first the 8 understood ones, then the 22 carried ones, each as the document lists them.
 use Prim.Native.Nat.{ℕ}
 use Prim.Native.String.{String}
-use mathlib.Core.Bool.{Bool, true, false, not, _&&_, _||_}
+use mathlib.Core.Bool.{Bool, not, _&&_, _||_}
 use mathlib.Core.List.{List, [], _∷_}
 use mathlib.Core.Option.{Option, none, some}
 use lib.Dec.{eqb, ltb}
-use Rattle.format.specs.Bytes.{if_then_else_, isIn, rowOf, orElse, isSome}
+use Rattle.format.specs.Bytes.{if_then_else_, isIn, rowOf, isSome}
 
 -- ---- names
 

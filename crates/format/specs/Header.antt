@@ -1,9 +1,8 @@
 -- The header: what each line is, the walk over the lines with its refusals in order, the reading and the line table
 -- (document 01, "Lines and headers", "Numbers of refusal", order for reading).
 use Prim.Native.Nat.{ℕ, _+_}
-use Prim.Native.String.{String}
-use mathlib.Core.Bool.{Bool, true, false, not, _&&_, _||_}
-use mathlib.Core.List.{List, [], _∷_, _++_, map}
+use mathlib.Core.Bool.{Bool, true, false, not}
+use mathlib.Core.List.{List, [], _∷_, map}
 use mathlib.Core.Option.{Option, none, some}
 use lib.Dec.{eqb, ltb}
 use lib.ListN.{length}
@@ -11,7 +10,7 @@ use Rattle.format.specs.declared.Refusal.{Refusal}
 use Rattle.format.specs.Bytes.{if_then_else_, bytes, every, same, orElse, HASH}
 use Rattle.format.specs.Limits.{maxFile, maxHeader, maxLines, maxExtent}
 use Rattle.format.specs.Refusals.{fileTooLong, noMagic, headerTooLong, tooManyLines, badByte, noMark, unknownField, notInVersion, repeatedField, outOfOrder, badDescriptor, badBackslash, noEnd, missingField, extentTooLarge, atLine, refusal}
-use Rattle.format.specs.Lines.{Line, line, Ending, lf, crlf, eof, text, size, lines, unlines, starts}
+use Rattle.format.specs.Lines.{Line, line, lf, crlf, eof, text, size, lines, unlines, starts}
 use Rattle.format.specs.Pairs.{plain, Marked, unmarked, fieldMark, pairMark, mark, unescape}
 use Rattle.format.specs.Fields.{fieldNamed, pairsSince, fieldSince, Given, given, isGiven, inOrder}
 use Rattle.format.specs.Descriptors.{descriptor, mayDescribe, hasNeeded, extentOf, isDetached}
@@ -44,6 +43,7 @@ linesOf es = map lineOf es
 
 -- ---- line 1: the magic, exactly, with its ending
 
+-- the version of a magic
 unfoldable pub magicVersion : List ℕ → Option ℕ
 magicVersion t =
     if same t (bytes "NRRD0001") then some 1
@@ -102,7 +102,7 @@ judge version gs (b ∷ t) =
 
 -- ---- the walk over the lines
 
--- refused; or accepted: the header's lines with what they are, the fields given, and the lines after the header
+-- refused; or accepted: the header's lines with what they are, the fields among them (the last one first), and the lines after the header
 pub data Outcome : Type 0 where
   refused : Refusal → Outcome
   accepted : List Entry → List Given → List Line → Outcome
@@ -166,6 +166,7 @@ versionOfItem (field f d) = 0
 versionOfItem (pair k v) = 0
 versionOfItem closing = 0
 
+-- the version is that of line 1
 abbrev pub versionOf : List Entry → ℕ
 versionOf [] = 0
 versionOf (e ∷ es) = versionOfItem (itemOf e)
@@ -178,13 +179,14 @@ valueIn k (field f d) = none
 valueIn k (pair j v) = if same k j then some v else none
 valueIn k closing = none
 
--- the value of a key: of several pairs with one key the last counts
+-- the value of a key is that of its last pair
 unfoldable pub valueOf : List ℕ → List Entry → Option (List ℕ)
 valueOf k [] = none
 valueOf k (e ∷ es) = orElse (valueOf k es) (valueIn k (itemOf e))
 
 -- ---- the line table, and the header's length
 
+-- where each line of the header starts, the magic and the closing line included
 abbrev pub tableOf : List Entry → List ℕ
 tableOf es = starts 0 (linesOf es)
 

@@ -30,9 +30,17 @@ maxSkip = 4_294_967_295
 abbrev pub maxExtent : ℕ
 maxExtent = 4_294_967_295
 
+-- the latest version ("What is read, written and corrected")
+abbrev pub maxVersion : ℕ
+maxVersion = 5
+
+-- the most bytes that the listing program reads ("Trials")
+abbrev pub maxListed : ℕ
+maxListed = 65_536
+
 -- the largest sample: samples go to a list of signed 64-bit numbers (20)
 abbrev pub maxSample : ℕ
 maxSample = 9_223_372_036_854_775_807
 
 abbrev pub limits : List ℕ
-limits = maxFile ∷ maxHeader ∷ maxLines ∷ maxAxes ∷ maxSize ∷ maxSkip ∷ maxExtent ∷ maxSample ∷ []
+limits = maxFile ∷ maxHeader ∷ maxLines ∷ maxAxes ∷ maxSize ∷ maxSkip ∷ maxExtent ∷ maxVersion ∷ maxListed ∷ maxSample ∷ []

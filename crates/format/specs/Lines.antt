@@ -6,7 +6,7 @@ use lib.Dec.{eqb}
 use lib.ListN.{length}
 use Rattle.format.specs.Bytes.{if_then_else_, LF, CR}
 
--- a line ends at LF; one CR right before it belongs to the ending; the last line of the bytes may have no ending
+-- what ends a line: LF, CR LF, or, for the last line alone, the end of the bytes
 pub data Ending : Type 0 where
   lf crlf eof : Ending
 
@@ -49,6 +49,7 @@ extendFirst b (l ∷ ls) = extend b l ∷ ls
 abbrev pub withByte : ℕ → List Line → List Line
 withByte b ls = if eqb b LF then line [] lf ∷ ls else extendFirst b ls
 
+-- the lines of a file; no line starts at its end
 unfoldable pub lines : List ℕ → List Line
 lines [] = []
 lines (b ∷ s) = withByte b (lines s)

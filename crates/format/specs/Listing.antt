@@ -1,13 +1,14 @@
 -- What the listing program prints (document 01, "Trials", the listing program).
 use Prim.Native.Nat.{ℕ}
 use Prim.Native.String.{String}
-use mathlib.Core.Bool.{Bool, true, false, not, _&&_, _||_}
+use mathlib.Core.Bool.{false}
 use mathlib.Core.List.{List, [], _∷_, _++_}
-use mathlib.Core.Option.{Option, none, some}
+use mathlib.Core.Option.{none}
 use lib.Dec.{eqb, ltb}
 use lib.ListN.{length}
 use Rattle.format.specs.declared.Refusal.{Refusal}
 use Rattle.format.specs.Bytes.{if_then_else_, bytes, LF, SPACE, EQUALS}
+use Rattle.format.specs.Limits.{maxListed}
 use Rattle.format.specs.Refusals.{lentTooShort, refusal}
 use Rattle.format.specs.Pairs.{escape}
 use Rattle.format.specs.Fields.{Given}
@@ -17,14 +18,11 @@ use Rattle.format.specs.Data.{Place, nowhere, part, placeOf}
 use Rattle.format.specs.Writer.{decimal, spaced, nameAt}
 use Rattle.format.specs.Settings.{hasKey}
 
--- the most bytes that the program reads
-abbrev pub maxListed : ℕ
-maxListed = 65_536
-
 -- a line of output: a word, a space, a text
 abbrev pub shown : String → List ℕ → List ℕ
 shown word t = bytes word ++ SPACE ∷ (t ++ LF ∷ [])
 
+-- a refusal by its number and line
 unfoldable pub shownRefusal : Refusal → List ℕ
 shownRefusal r = bytes "refused " ++ (decimal (r .number) ++ (bytes " line " ++ (decimal (r .line) ++ LF ∷ [])))
 
@@ -74,5 +72,6 @@ shownHeader file (accepted es gs ls) =
     if isDetached gs then shownReading es gs 0
     else shownPlace es gs (placeOf false gs (headerLength es) file [])
 
+-- the whole output for a file on standard input
 unfoldable pub listing : List ℕ → List ℕ
 listing file = if ltb maxListed (length file) then shownRefusal (refusal lentTooShort) else shownHeader file (header file)

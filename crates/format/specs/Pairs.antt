@@ -34,12 +34,14 @@ firstMark unmarked m = m
 firstMark (fieldMark n d) m = fieldMark n d
 firstMark (pairMark k v) m = pairMark k v
 
+-- the first mark of a text
 unfoldable pub mark : List ℕ → Marked
 mark [] = unmarked
 mark (b ∷ s) = firstMark (if eqb b COLON then afterColon s else unmarked) (moreBefore b (mark s))
 
 -- ---- escapes: `\n` means LF and `\\` a backslash, in keys and in values
 
+-- how a text is written in a key or a value
 unfoldable pub escape : List ℕ → List ℕ
 escape [] = []
 escape (b ∷ s) =

@@ -1,10 +1,10 @@
 -- The numbers of refusal by name, in document 01's order ("Numbers of refusal").
--- A refusal is one record, the number and a line: the line for 2 to 12 from the reader, else 0.
+-- A refusal is one record: its number, and the line at which the reader met it (numbers 2 to 12); 0 where no line is meant.
 use Prim.Native.Nat.{ℕ}
 use mathlib.Core.List.{List, [], _∷_}
 use Rattle.format.specs.declared.Refusal.{Refusal}
 
--- a file is longer than `maxFile`
+-- a file of more than `maxFile` bytes
 abbrev pub fileTooLong : ℕ
 fileTooLong = 1
 
@@ -24,7 +24,7 @@ tooManyLines = 4
 abbrev pub badByte : ℕ
 badByte = 5
 
--- neither mark in the line, or an empty key
+-- a line without a mark, or a pair whose key is empty
 abbrev pub noMark : ℕ
 noMark = 6
 
@@ -56,7 +56,7 @@ badBackslash = 12
 abbrev pub noEnd : ℕ
 noEnd = 13
 
--- a needed field is missing
+-- a field that is needed is not given
 abbrev pub missingField : ℕ
 missingField = 14
 
@@ -68,7 +68,7 @@ extentTooLarge = 15
 abbrev pub skipPastEnd : ℕ
 skipPastEnd = 16
 
--- start plus extent needs more than 64 bits; both are below 2 to the 33, so this never happens
+-- the end of the data needs more than 64 bits; start and extent are both below 2 to the 32, so this never happens
 abbrev pub placeTooLarge : ℕ
 placeTooLarge = 17
 
@@ -80,7 +80,7 @@ dataTooShort = 18
 abbrev pub floatSamples : ℕ
 floatSamples = 19
 
--- not a sample, outside its type, or above `maxSample`
+-- bytes that write no sample, or one that its type or the signed 64-bit list cannot hold
 abbrev pub badSample : ℕ
 badSample = 20
 

@@ -1,7 +1,7 @@
 -- Integer samples in raw, hex and text (document 01, "Data and samples", the second paragraph).
 -- Of 20 and 21 the one that comes first in the data is told: samples are judged one after the other, each when it is whole.
 use Prim.Native.Nat.{ℕ, zero, suc, _+_, _*_, _-_, _^_, _/_, _%_, min}
-use mathlib.Core.Bool.{Bool, true, false, not, _&&_, _||_}
+use mathlib.Core.Bool.{Bool, _||_}
 use mathlib.Core.List.{List, [], _∷_, reverse}
 use mathlib.Core.Option.{Option, none, some}
 use lib.Dec.{eqb, leb, ltb}
@@ -10,27 +10,28 @@ use lib.ListN.{length, take, drop}
 use Rattle.format.specs.Bytes.{if_then_else_, between, isDigit, SPACE, PLUS, MINUS}
 use Rattle.format.specs.Limits.{maxSample}
 use Rattle.format.specs.Refusals.{badSample, dataEndsEarly}
-use Rattle.format.specs.Descriptors.{number, Kind, signed, unsigned, floating, raw, asText, big}
+use Rattle.format.specs.Descriptors.{number, NumberKind, signed, unsigned, floating, raw, asText, big}
 
 -- ---- the range of a type, over the bytes w of a sample
 
--- the least value is minus this
-abbrev pub lowest : Kind → ℕ → ℕ
+-- the least value is minus this; samples of a floating type are never decoded (refusal 19)
+abbrev pub lowest : NumberKind → ℕ → ℕ
 lowest signed w = 256 ^ w / 2
 lowest unsigned w = 0
 lowest floating w = 0
 
 -- the greatest value; none is above `maxSample`
-abbrev pub highest : Kind → ℕ → ℕ
+abbrev pub highest : NumberKind → ℕ → ℕ
 highest signed w = 256 ^ w / 2 - 1
 highest unsigned w = min (256 ^ w - 1) maxSample
 highest floating w = 0
 
-unfoldable pub inType : Kind → ℕ → ℤ → Bool
+-- the type has the value (refusal 20)
+unfoldable pub inType : NumberKind → ℕ → ℤ → Bool
 inType k w (pos n) = leb n (highest k w)
 inType k w (negsuc n) = ltb n (lowest k w)
 
--- ---- what samples come to: the number of the refusal, or 0, and the samples before it
+-- ---- what samples come to: the number of the refusal, or 0 for none, and the samples before it
 
 pub record Decoded : Type 0 where
   pub number : ℕ
@@ -43,7 +44,7 @@ abbrev pub withSample : ℤ → Decoded → Decoded
 withSample z d = record { number = d .number; seen = z ∷ d .seen }
 
 -- the sample z of a type, and the ones after it
-abbrev pub thenSamples : Kind → ℕ → ℤ → Decoded → Decoded
+abbrev pub thenSamples : NumberKind → ℕ → ℤ → Decoded → Decoded
 thenSamples k w z rest = if inType k w z then withSample z rest else stopped badSample
 
 -- ---- bytes to a value and back, over the width
@@ -58,7 +59,7 @@ unfoldable pub toBytes : ℕ → ℕ → List ℕ
 toBytes zero n = []
 toBytes (suc w) n = n % 256 ∷ toBytes w (n / 256)
 
--- the same bytes least first, or most first where the endian is big
+-- bytes least first to bytes in the order of the endian, and back: big turns them round
 abbrev pub ordered : ℕ → List ℕ → List ℕ
 ordered endian s = if eqb endian big then reverse s else s
 
@@ -70,13 +71,13 @@ abbrev pub fromSigned : ℕ → ℤ → ℕ
 fromSigned w (pos n) = n
 fromSigned w (negsuc n) = 256 ^ w - 1 - n
 
-abbrev pub valueOfBits : Kind → ℕ → ℕ → ℤ
+abbrev pub valueOfBits : NumberKind → ℕ → ℕ → ℤ
 valueOfBits signed w n = toSigned w n
 valueOfBits unsigned w n = pos n
 valueOfBits floating w n = pos n
 
--- the value of w bytes, and the bytes of a value
-unfoldable pub sampleValue : Kind → ℕ → List ℕ → ℤ
+-- the value of a sample's bytes, and the w bytes of a value
+unfoldable pub sampleValue : NumberKind → ℕ → List ℕ → ℤ
 sampleValue k endian s = valueOfBits k (length s) (fromBytes (ordered endian s))
 
 unfoldable pub valueBytes : ℕ → ℕ → ℤ → List ℕ
@@ -84,7 +85,7 @@ valueBytes w endian z = ordered endian (toBytes w (fromSigned w z))
 
 -- ---- raw: the next n samples of w bytes
 
-unfoldable pub rawSamples : Kind → ℕ → ℕ → ℕ → List ℕ → Decoded
+unfoldable pub rawSamples : NumberKind → ℕ → ℕ → ℕ → List ℕ → Decoded
 rawSamples k w endian zero s = stopped 0
 rawSamples k w endian (suc n) s = thenSamples k w (sampleValue k endian (take w s)) (rawSamples k w endian n (drop w s))
 
@@ -95,10 +96,12 @@ blank b = between 9 13 b || eqb b SPACE
 
 -- ---- hex: two digits a byte, either case; blanks are ignored anywhere
 
-unfoldable pub unblanked : List ℕ → List ℕ
-unblanked [] = []
-unblanked (b ∷ s) = if blank b then unblanked s else b ∷ unblanked s
+-- a text without its blanks
+unfoldable pub withoutBlanks : List ℕ → List ℕ
+withoutBlanks [] = []
+withoutBlanks (b ∷ s) = if blank b then withoutBlanks s else b ∷ withoutBlanks s
 
+-- the value of a hex digit in either case
 unfoldable pub hexDigit : ℕ → Option ℕ
 hexDigit b =
     if isDigit b then some (b - 48)
@@ -133,22 +136,22 @@ hexBytes (suc w) [] = noHex dataEndsEarly
 hexBytes (suc w) (b ∷ []) = hexAlone (hexDigit b)
 hexBytes (suc w) (b ∷ c ∷ s) = hexPair (hexDigit b) (hexDigit c) (hexBytes w s)
 
-abbrev pub hexSample : Kind → ℕ → ℕ → HexRun → (List ℕ → Decoded) → Decoded
+abbrev pub hexSample : NumberKind → ℕ → ℕ → HexRun → (List ℕ → Decoded) → Decoded
 hexSample k w endian (noHex n) next = stopped n
 hexSample k w endian (hexRun s r) next = thenSamples k w (sampleValue k endian s) (next r)
 
-unfoldable pub hexSamples : Kind → ℕ → ℕ → ℕ → List ℕ → Decoded
+unfoldable pub hexSamples : NumberKind → ℕ → ℕ → ℕ → List ℕ → Decoded
 hexSamples k w endian zero s = stopped 0
 hexSamples k w endian (suc n) s = hexSample k w endian (hexBytes w s) (λ r. hexSamples k w endian n r)
 
--- ---- text: runs of blanks and tokens take turns until the count is read; only the first run may be empty
+-- ---- text: tokens with blanks between them; blanks before the first one are optional
 
--- what is left past the run of blanks at the front
-unfoldable pub unblank : List ℕ → List ℕ
-unblank [] = []
-unblank (b ∷ s) = if blank b then unblank s else b ∷ s
+-- what follows the blanks at the front
+unfoldable pub skipBlanks : List ℕ → List ℕ
+skipBlanks [] = []
+skipBlanks (b ∷ s) = if blank b then skipBlanks s else b ∷ s
 
--- the token at the front, which reaches to the next blank or the end; and what follows it
+-- the token at the front: the bytes up to the next blank; and what follows it
 unfoldable pub token : List ℕ → List ℕ
 token [] = []
 token (b ∷ s) = if blank b then [] else b ∷ token s
@@ -157,11 +160,11 @@ unfoldable pub afterToken : List ℕ → List ℕ
 afterToken [] = []
 afterToken (b ∷ s) = if blank b then b ∷ s else afterToken s
 
--- the number of an optional `+` or `-`, then digits
 abbrev pub signedBy : (ℕ → ℤ) → Option ℕ → Option ℤ
 signedBy f none = none
 signedBy f (some n) = some (f n)
 
+-- the value of a token: digits, after one `+` or `-` if it has one
 unfoldable pub tokenValue : List ℕ → Option ℤ
 tokenValue [] = none
 tokenValue (b ∷ s) =
@@ -169,23 +172,23 @@ tokenValue (b ∷ s) =
     else if eqb b MINUS then signedBy (λ n. negℤ (pos n)) (number s)
     else signedBy pos (number (b ∷ s))
 
-abbrev pub textSample : Kind → ℕ → Option ℤ → Decoded → Decoded
+abbrev pub textSample : NumberKind → ℕ → Option ℤ → Decoded → Decoded
 textSample k w none rest = stopped badSample
 textSample k w (some z) rest = thenSamples k w z rest
 
 -- n samples of a text that is at its end or starts with a token
-unfoldable pub tokens : Kind → ℕ → ℕ → List ℕ → Decoded
+unfoldable pub tokens : NumberKind → ℕ → ℕ → List ℕ → Decoded
 tokens k w zero s = stopped 0
 tokens k w (suc n) [] = stopped dataEndsEarly
-tokens k w (suc n) (b ∷ s) = textSample k w (tokenValue (token (b ∷ s))) (tokens k w n (unblank (afterToken (b ∷ s))))
+tokens k w (suc n) (b ∷ s) = textSample k w (tokenValue (token (b ∷ s))) (tokens k w n (skipBlanks (afterToken (b ∷ s))))
 
-abbrev pub textSamples : Kind → ℕ → ℕ → List ℕ → Decoded
-textSamples k w n s = tokens k w n (unblank s)
+abbrev pub textSamples : NumberKind → ℕ → ℕ → List ℕ → Decoded
+textSamples k w n s = tokens k w n (skipBlanks s)
 
 -- ---- n samples of the data, by its encoding
 
-unfoldable pub samplesOf : ℕ → Kind → ℕ → ℕ → ℕ → List ℕ → Decoded
+unfoldable pub samplesOf : ℕ → NumberKind → ℕ → ℕ → ℕ → List ℕ → Decoded
 samplesOf encoding k w endian n s =
     if eqb encoding raw then rawSamples k w endian n s
     else if eqb encoding asText then textSamples k w n s
-    else hexSamples k w endian n (unblanked s)
+    else hexSamples k w endian n (withoutBlanks s)

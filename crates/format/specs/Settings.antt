@@ -1,16 +1,15 @@
 -- Setting a key, and lists of settings (document 01, "Setting a key", "Lists of settings").
--- Order for a setting: 22 if the used length passes the buffer; the reading; 8 in version 1; 24; 25; 26; for the new file 3, 4, 1, 22.
-use Prim.Native.Nat.{ℕ, _+_, _-_, max}
+-- A setting's refusals in order: 22 (the used length), the reading's, 8, 24, 25, 26, and of the new file 3, 4, 1, 22.
+use Prim.Native.Nat.{ℕ, _-_, max}
 use mathlib.Core.Bool.{Bool, true, false, not, _&&_, _||_}
 use mathlib.Core.List.{List, [], _∷_, _++_}
-use mathlib.Core.Option.{Option, none, some}
 use lib.Dec.{eqb, ltb, leb}
 use lib.ListN.{length, take, drop, replicate}
 use Rattle.format.specs.declared.Refusal.{Refusal}
-use Rattle.format.specs.Bytes.{if_then_else_, bytes, between, every, same, isSome, TAB, LF, HASH}
+use Rattle.format.specs.Bytes.{if_then_else_, bytes, between, every, same, isSome, over, TAB, LF, HASH}
 use Rattle.format.specs.Limits.{maxFile, maxHeader, maxLines}
 use Rattle.format.specs.Refusals.{fileTooLong, headerTooLong, tooManyLines, notInVersion, lentTooShort, badKey, badValue, wrongTable, refusal}
-use Rattle.format.specs.Lines.{Line, line, ending, lines, unlines, starts}
+use Rattle.format.specs.Lines.{Line, line, ending, unlines, starts}
 use Rattle.format.specs.Pairs.{Marked, unmarked, fieldMark, pairMark, mark, escape}
 use Rattle.format.specs.Fields.{pairsSince}
 use Rattle.format.specs.Header.{Entry, entry, linesOf, Outcome, refused, accepted, header, versionOf, valueIn, valueOf, tableOf}
@@ -31,9 +30,11 @@ abbrev pub beginsFine : List ℕ → Bool
 beginsFine [] = false
 beginsFine (b ∷ s) = not (eqb b HASH)
 
+-- a key that a line can hold: its bytes are settable, and its escaped text has no mark
 unfoldable pub keyFine : List ℕ → Bool
 keyFine k = beginsFine k && (every settable k && not (hasMark (mark (escape k))))
 
+-- a value that a line can hold
 unfoldable pub valueFine : List ℕ → Bool
 valueFine v = every settable v
 
@@ -54,7 +55,7 @@ replaced k t (entry l i ∷ es) =
     else if isSome (valueIn k i) then line t (ending l) ∷ linesOf es
     else l ∷ linesOf es
 
--- a line with the text t goes in right after line 1, with line 1's ending
+-- the text t as a new second line, ended as line 1 is; a header always has line 1
 abbrev pub inserted : List ℕ → List Entry → List Line
 inserted t [] = []
 inserted t (entry l i ∷ es) = l ∷ line t (ending l) ∷ linesOf es
@@ -69,21 +70,13 @@ newLines k v es = if hasKey k es then replaced k (pairText k v) es else inserted
 pub data Lent : Type 0 where
   lent : List ℕ → ℕ → List ℕ → ℕ → Lent
 
--- the file in the buffer
-abbrev pub fileOf : Lent → List ℕ
-fileOf (lent buf used table count) = take used buf
-
 -- a buffer with a file of `used` bytes, once it holds another: what a shorter one vacates becomes 0, bytes past both stay
 unfoldable pub refilled : List ℕ → ℕ → List ℕ → List ℕ
 refilled buf used file = file ++ (replicate (used - length file) 0 ++ drop (max used (length file)) buf)
 
--- a table with its front replaced; entries past the new ones stay
-unfoldable pub retabled : List ℕ → List ℕ → List ℕ
-retabled table new = new ++ drop (length new) table
-
--- the table is that of the file: its count is the file's line count, is within the lent table, and no entry differs (26)
+-- the lent table and count are those of the file (26): as many entries as lines, all of them lent, each where it should be
 unfoldable pub tableFine : List ℕ → ℕ → List ℕ → Bool
-tableFine table count right = eqb count (length right) && (leb count (length table) && same (take count table) right)
+tableFine table count expected = eqb count (length expected) && (leb count (length table) && same (take count table) expected)
 
 -- ---- one setting
 
@@ -102,8 +95,9 @@ store buf used table ls rest =
     else if ltb maxLines (length ls) then kept (refusal tooManyLines)
     else if ltb maxFile (length (unlines ls ++ rest)) then kept (refusal fileTooLong)
     else if ltb (length buf) (length (unlines ls ++ rest)) || ltb (length table) (length ls) then kept (refusal lentTooShort)
-    else changed (lent (refilled buf used (unlines ls ++ rest)) (length (unlines ls ++ rest)) (retabled table (starts 0 ls)) (length ls))
+    else changed (lent (refilled buf used (unlines ls ++ rest)) (length (unlines ls ++ rest)) (over (starts 0 ls) table) (length ls))
 
+-- a setting by the reading of the file in the buffer
 unfoldable pub setRead : List ℕ → ℕ → List ℕ → ℕ → List ℕ → List ℕ → Outcome → SetOutcome
 setRead buf used table count k v (refused r) = kept r
 setRead buf used table count k v (accepted es gs ls) =
@@ -113,6 +107,7 @@ setRead buf used table count k v (accepted es gs ls) =
     else if not (tableFine table count (tableOf es)) then kept (refusal wrongTable)
     else store buf used table (newLines k v es) (unlines ls)
 
+-- a setting of what is lent
 unfoldable pub setKey : Lent → Setting → SetOutcome
 setKey (lent buf used table count) (setting k v) =
     if ltb (length buf) used then kept (refusal lentTooShort)
@@ -124,11 +119,11 @@ abbrev pub leaves : SetOutcome → Lent → Lent
 leaves (kept r) l = l
 leaves (changed l) old = l
 
-abbrev pub accepts : SetOutcome → Setting → List Setting → List Setting
-accepts (kept r) s done = done
-accepts (changed l) s done = s ∷ done
+abbrev pub recorded : SetOutcome → Setting → List Setting → List Setting
+recorded (kept r) s done = done
+recorded (changed l) s done = s ∷ done
 
 -- what is lent after the list, and the settings accepted, the last of them first; `done` were accepted before
 unfoldable pub setKeys : List Setting → Lent → List Setting → Lent × List Setting
 setKeys [] l done = (l, done)
-setKeys (s ∷ ss) l done = setKeys ss (leaves (setKey l s) l) (accepts (setKey l s) s done)
+setKeys (s ∷ ss) l done = setKeys ss (leaves (setKey l s) l) (recorded (setKey l s) s done)

@@ -1,16 +1,16 @@
 -- The bytes of a written file, and the writer's refusals in order (document 01, "Writer"; order 11, 15, 19, 27, 20, 1, 22).
 use Prim.Native.Nat.{ℕ, zero, suc, _+_, _-_, _/_, _%_}
 use Prim.Native.String.{String}
-use mathlib.Core.Bool.{Bool, true, false, not, _&&_, _||_}
+use mathlib.Core.Bool.{Bool, true, false, not, _&&_}
 use mathlib.Core.List.{List, [], _∷_, _++_}
-use lib.Dec.{eqb, ltb, leb}
+use lib.Dec.{eqb, ltb}
 use lib.IntN.{ℤ, pos, negsuc}
 use lib.ListN.{length, getD}
 use Rattle.format.specs.Bytes.{if_then_else_, bytes, between, isIn, LF, SPACE, MINUS}
-use Rattle.format.specs.Limits.{maxFile, maxAxes, maxExtent}
+use Rattle.format.specs.Limits.{maxFile, maxAxes, maxExtent, maxVersion}
 use Rattle.format.specs.Refusals.{fileTooLong, badDescriptor, extentTooLarge, floatSamples, badSample, lentTooShort, wrongCount}
 use Rattle.format.specs.Lines.{Line, line, lf, unlines}
-use Rattle.format.specs.Descriptors.{Kind, types, typeAt, typeName, encodings, endians, sampleBytes, kindOf, isFloating, endianNeeded, product, extent, raw, asText}
+use Rattle.format.specs.Descriptors.{NumberKind, types, typeAt, typeName, encodings, endians, sampleBytes, numberKind, isFloating, endianNeeded, product, extent, raw, asText}
 use Rattle.format.specs.Samples.{inType, valueBytes}
 
 -- ---- numbers as text: no sign `+`, no leading zeros
@@ -18,10 +18,15 @@ use Rattle.format.specs.Samples.{inType, valueBytes}
 abbrev pub digit : ℕ → ℕ
 digit n = 48 + n
 
+-- n by its one digit (true), or by the digits of n / 10, which `front` gives, and its last one
+abbrev pub byDigits : Bool → ℕ → (ℕ → List ℕ) → List ℕ
+byDigits true n front = digit n ∷ []
+byDigits false n front = front (n / 10) ++ (digit (n % 10) ∷ [])
+
 -- the digits of n; the first argument only bounds the recursion, and n itself is enough
 unfoldable pub decimalFrom : ℕ → ℕ → List ℕ
 decimalFrom zero n = digit n ∷ []
-decimalFrom (suc m) n = if ltb n 10 then digit n ∷ [] else decimalFrom m (n / 10) ++ (digit (n % 10) ∷ [])
+decimalFrom (suc m) n = byDigits (ltb n 10) n (λ k. decimalFrom m k)
 
 abbrev pub decimal : ℕ → List ℕ
 decimal n = decimalFrom n n
@@ -98,14 +103,15 @@ fileBytes version sizes t e endian zs = unlines (headerLines version sizes t e e
 
 -- ---- refusals
 
-unfoldable pub allInType : Kind → ℕ → List ℤ → Bool
+-- the type has every sample (refusal 20)
+unfoldable pub allInType : NumberKind → ℕ → List ℤ → Bool
 allInType k w [] = true
 allInType k w (z ∷ zs) = inType k w z && allInType k w zs
 
--- the version is 1 to 5, each number is in its list, there are 1 to 16 sizes, and none is 0
+-- the version is known, each number is in its list, there is a size for each of 1 to 16 axes, and none is 0 (refusal 11)
 unfoldable pub writable : ℕ → List ℕ → ℕ → ℕ → ℕ → Bool
 writable version sizes t e endian =
-    between 1 5 version
+    between 1 maxVersion version
     && (ltb t (length types)
     && (ltb e (length encodings)
     && (ltb endian (length endians)
@@ -117,9 +123,9 @@ unfoldable pub writeRefusal : ℕ → List ℕ → ℕ → ℕ → ℕ → List 
 writeRefusal version sizes t e endian zs room =
     if not (writable version sizes t e endian) then badDescriptor
     else if ltb maxExtent (extent sizes t) then extentTooLarge
-    else if isFloating (kindOf t) then floatSamples
+    else if isFloating (numberKind t) then floatSamples
     else if not (eqb (length zs) (product sizes)) then wrongCount
-    else if not (allInType (kindOf t) (sampleBytes t) zs) then badSample
+    else if not (allInType (numberKind t) (sampleBytes t) zs) then badSample
     else if ltb maxFile (length (fileBytes version sizes t e endian zs)) then fileTooLong
     else if ltb room (length (fileBytes version sizes t e endian zs)) then lentTooShort
     else 0

@@ -20,6 +20,10 @@ pub const MAX_SKIP: u64 = 4294967295;
 
 pub const MAX_EXTENT: u64 = 4294967295;
 
+pub const MAX_VERSION: u64 = 5;
+
+pub const MAX_LISTED: u64 = 65536;
+
 pub const MAX_SAMPLE: u64 = 9223372036854775807;
 
 // The numbers of refusal.
@@ -77,13 +81,13 @@ pub const WRONG_TABLE: u32 = 26;
 
 pub const WRONG_COUNT: u32 = 27;
 
-// A refusal: document 01's number, and the line for 2 to 12 from the reader, else 0. Number 0: nothing is refused.
+// A refusal: its number, and the line at which the reader met it (numbers 2 to 12); 0 where no line is meant. Number 0: nothing is refused.
 pub struct Refusal {
     pub number: u32,
     pub line: u32,
 }
 
-// What a reading says in numbers. All zero where the header is refused.
+// What a reading says in numbers. All zero where the call is refused.
 pub struct Reading {
     // 1 to 5
     pub version: u32,
@@ -101,7 +105,7 @@ pub struct Reading {
     pub sizes: [u64; 16],
     pub lineskip: u64,
     pub byteskip: u64,
-    // the product of the sizes times the bytes of a sample
+    // the bytes that all samples take in raw
     pub extent: u64,
     // the header's bytes and lines, the closing empty line included
     pub length: u64,
@@ -115,7 +119,7 @@ pub struct ReadAnswer {
 }
 
 // The answer of the look-ups: where the bytes lie in the file. All zero where they are absent.
-pub struct PlaceAnswer {
+pub struct FindAnswer {
     pub refusal: Refusal,
     pub found: bool,
     pub start: u64,
@@ -163,7 +167,7 @@ pub struct SetAnswer {
 }
 
 // The limits are those of the definitions.
-pub fn limits() -> [u64; 8]
+pub fn limits() -> [u64; 10]
     ensures { λ r. ⌜ r ≡ limits ⌝ }
 {
     [
@@ -174,6 +178,8 @@ pub fn limits() -> [u64; 8]
         MAX_SIZE,
         MAX_SKIP,
         MAX_EXTENT,
+        MAX_VERSION,
+        MAX_LISTED,
         MAX_SAMPLE,
     ]
 }

@@ -1,0 +1,573 @@
+-- The laws of specs/Header.antt: what the accepted headers are, that bytes after the closing line decide nothing, and which fields are given.
+-- Assumes nothing.
+use mathlib.Core.Path.{_≡_, refl, sym, ap, _∙_, subst}
+use Prim.Native.Nat.{ℕ, suc, _+_, _≤_}
+use mathlib.Core.Bool.{Bool, true, false, not, _&&_, false≢true}
+use mathlib.Core.List.{List, [], _∷_, _++_, cons≢nil}
+use mathlib.Core.Option.{Option, none, some, Option·none-ne-some}
+use lib.Dec.{eqb, ltb}
+use lib.ListN.{length, drop, length-append}
+use borrow.Author.Tests.{eqb-true, ltb-false, le-ltb}
+use native.Mathlib.Omega.{arith}
+use Rattle.format.specs.declared.Refusal.{Refusal}
+use Rattle.format.specs.Bytes.{if_then_else_, bytes, every, same, orElse, isSome, HASH}
+use Rattle.format.specs.Limits.{maxFile, maxHeader, maxLines, maxExtent}
+use Rattle.format.specs.Refusals.{badByte, notInVersion, repeatedField, outOfOrder, badDescriptor, fileTooLong, missingField, extentTooLarge, noEnd, headerTooLong, tooManyLines, atLine, refusal}
+use Rattle.format.specs.Lines.{Line, line, lf, crlf, eof, text, size, lines, unlines}
+use Rattle.format.specs.Pairs.{plain, Marked, unmarked, fieldMark, pairMark, mark, unescape}
+use Rattle.format.specs.Fields.{fieldNamed, pairsSince, fieldSince, Given, given, descriptorOf, isGiven, inOrder}
+use Rattle.format.specs.Descriptors.{descriptor, mayDescribe, hasNeeded, extentOf, isDetached}
+use Rattle.format.specs.Header.{Item, magic, comment, field, pair, closing, Entry, entry, itemOf, linesOf, magicVersion, versionOfLine, Judged, wrong, right, unescaped, onPair, onField, onMark, judge, Outcome, refused, accepted, withEntry, closes, afterItem, complete, onJudged, walk, afterMagic, fromFirst, header, headerLength}
+use Rattle.format.proofs.Lines.{unlines-of-lines, unlines-append, length-unlines-cons, Shape, lf-line, crlf-line, eof-line, shape-of-lines, shape-before, shape-after, lines-of-parts, bytes-after, lines-after}
+
+-- ---- what an accepted header is, the limits left out
+
+-- the fields at the end of a header: the needed ones are there, and the extent is within its limit
+pub record Complete (gs : List Given) : Type 0 where
+  pub needed : hasNeeded gs ≡ true
+  pub small : extentOf gs ≤ maxExtent
+
+-- a line after the fields gs, before the entries es: it closes the header (true), or `next` is asked
+abbrev pub FineBy : Bool → List Given → List Entry → List Given → Type 0 → Type 0
+FineBy true gs es gs′ next = (es ≡ []) × Complete gs × (gs′ ≡ gs)
+FineBy false gs es gs′ next = next
+
+-- The entries es, after the fields gs and before the lines r, end a header with the fields gs′: each line is judged to be its item;
+-- the last one closes the header, and r may be any lines, or no line is left and data file is given; the fields gs′ are complete.
+abbrev pub Fine : ℕ → List Given → List Entry → List Given → List Line → Type 0
+Fine version gs [] gs′ r = (r ≡ []) × (isDetached gs ≡ true) × Complete gs × (gs′ ≡ gs)
+Fine version gs (entry l i ∷ es) gs′ r =
+    (judge version gs (text l) ≡ right i) × FineBy (closes i) gs es gs′ (Fine version (afterItem i gs) es gs′ r)
+
+-- the entries es are within the limits, where the first of them is line n and starts at byte `at`
+pub record Within (n at : ℕ) (es : List Entry) : Type 0 where
+  pub bytes : at + headerLength es ≤ maxHeader
+  pub count : n + length es ≤ maxLines + 1
+
+-- ---- accepted: fine
+
+-- what the walk over the lines ls, from line n, at byte `at`, after the fields gs, has accepted
+pub record Walked (version n at : ℕ) (gs : List Given) (ls : List Line) (es : List Entry) (gs′ : List Given) (r : List Line) : Type 0 where
+  pub split : ls ≡ linesOf es ++ r
+  pub fine : Fine version gs es gs′ r
+  pub within : Within n at es
+
+-- at the end of a header: what holds of every refusal, and of the acceptance of complete fields, holds
+complete-cases : (P : Outcome → Type 0) (gs : List Given) (ls : List Line)
+    → ((x : Refusal) → P (refused x)) → (Complete gs → P (accepted [] gs ls)) → P (complete gs ls)
+unfolding complete
+complete-cases P gs ls f g = go (hasNeeded gs) refl (ltb maxExtent (extentOf gs)) refl
+  where
+    go : (t : Bool) → hasNeeded gs ≡ t → (u : Bool) → ltb maxExtent (extentOf gs) ≡ u
+        → P (if not t then refused (refusal missingField) else if u then refused (refusal extentTooLarge) else accepted [] gs ls)
+    go false e u h = f (refusal missingField)
+    go true e true h = f (refusal extentTooLarge)
+    go true e false h = g (record { needed = e; small = ltb-false maxExtent (extentOf gs) h })
+
+-- complete fields are accepted
+complete-is : (gs : List Given) (ls : List Line) → Complete gs → complete gs ls ≡ accepted [] gs ls
+unfolding complete
+complete-is gs ls c = rw (c .needed, le-ltb maxExtent (extentOf gs) (c .small))
+
+module _ (version : ℕ) where
+  -- an outcome of the walk is right if it is a refusal, or what it accepts is fine and within the limits
+  abbrev Sound : ℕ → ℕ → List Given → List Line → Outcome → Type 0
+  Sound n at gs ls (refused x) = Unit {0}
+  Sound n at gs ls (accepted es gs′ r) = Walked version n at gs ls es gs′ r
+
+  -- one more line, which does not close the header
+  more-sound : (n at : ℕ) (gs : List Given) (l : Line) (ls : List Line) (i : Item) → judge version gs (text l) ≡ right i → closes i ≡ false
+      → (o : Outcome) → Sound (n + 1) (at + size l) (afterItem i gs) ls o → Sound n at gs (l ∷ ls) (withEntry (entry l i) o)
+  more-sound n at gs l ls i e c (refused x) s = tt
+  more-sound n at gs l ls i e c (accepted es gs′ r) s =
+      record {
+        split = rw (s .split);
+        fine = (e, rw c (s .fine));
+        within = record { bytes = rw length-unlines-cons (omega (arith, s .within .bytes)); count = omega (arith, s .within .count) };
+      }
+
+  -- every outcome of the walk is right
+  walked : (ls : List Line) (n at : ℕ) (gs : List Given) → at ≤ maxHeader → n ≤ maxLines + 1 → Sound n at gs ls (walk version n at gs ls)
+  unfolding walk unlines
+  walked [] n at gs b c = go (isDetached gs) refl
+    where
+      go : (t : Bool) → isDetached gs ≡ t → Sound n at gs [] (if t then complete gs [] else refused (refusal noEnd))
+      go false e = tt
+      go true e = complete-cases (Sound n at gs []) gs [] (λ x. tt) λ k.
+          record { split = refl; fine = (refl, e, k, refl); within = record { bytes = omega arith; count = omega arith } }
+  walked (l ∷ ls) n at gs b c =
+      go (ltb maxHeader (at + size l)) refl (ltb maxLines n) refl (judge version gs (text l)) refl
+      (λ i h k. walked ls (n + 1) (at + size l) (afterItem i gs) h (omega arith))
+    where
+      after : Item → Outcome
+      after i = walk version (n + 1) (at + size l) (afterItem i gs) ls
+
+      one : at + size l ≤ maxHeader → n ≤ maxLines → (i : Item) → judge version gs (text l) ≡ right i
+          → Sound (n + 1) (at + size l) (afterItem i gs) ls (after i)
+          → (t : Bool) → closes i ≡ t → Sound n at gs (l ∷ ls) (withEntry (entry l i) (if t then complete gs ls else after i))
+      one h k i e s false f = more-sound n at gs l ls i e f (after i) s
+      one h k i e s true f = complete-cases (λ o. Sound n at gs (l ∷ ls) (withEntry (entry l i) o)) gs ls (λ x. tt) λ g.
+          record {
+            split = refl;
+            fine = (e, rw f (refl, g, refl));
+            within = record { bytes = rw (length-unlines-cons l []) (omega arith); count = omega arith };
+          }
+
+      go : (t : Bool) → ltb maxHeader (at + size l) ≡ t → (u : Bool) → ltb maxLines n ≡ u → (j : Judged) → judge version gs (text l) ≡ j
+          → ((i : Item) → at + size l ≤ maxHeader → n ≤ maxLines → Sound (n + 1) (at + size l) (afterItem i gs) ls (after i))
+          → Sound n at gs (l ∷ ls)
+          (if t then refused (atLine headerTooLong n) else if u then refused (atLine tooManyLines n)
+          else onJudged n l j (λ i. if closes i then complete gs ls else after i))
+      go true e u f j d s = tt
+      go false e true f j d s = tt
+      go false e false f (wrong w) d s = tt
+      go false e false f (right i) d s =
+          let h : at + size l ≤ maxHeader = ltb-false maxHeader (at + size l) e in
+          let k : n ≤ maxLines = ltb-false maxLines n f in
+          one h k i d (s i h k) (closes i) refl
+
+-- what the walk accepts is fine and within the limits; line n may come and byte `at` is within the limit, as after line 1
+pub walk-sound : (version n at : ℕ) (gs : List Given) (ls : List Line) {es : List Entry} {gs′ : List Given} {r : List Line}
+    → at ≤ maxHeader → n ≤ maxLines + 1 → walk version n at gs ls ≡ accepted es gs′ r → Walked version n at gs ls es gs′ r
+walk-sound version n at gs ls b c e = subst (Sound version n at gs ls) e (walked version ls n at gs b c)
+
+-- ---- fine: accepted
+
+-- what is fine and within the limits is accepted
+pub walk-fine : (version n at : ℕ) (gs : List Given) (es : List Entry) (gs′ : List Given) (r : List Line)
+    → Fine version gs es gs′ r → Within n at es → walk version n at gs (linesOf es ++ r) ≡ accepted es gs′ r
+unfolding walk
+walk-fine version n at gs [] gs′ r f w = rw (f .0, f .1, complete-is gs [] (f .2), f .3)
+walk-fine version n at gs (entry l i ∷ es) gs′ r f w =
+    let b = rw length-unlines-cons at (w .bytes) in
+    let c = w .count in
+    let h : at + size l ≤ maxHeader = omega arith in
+    let k : n ≤ maxLines = omega arith in
+    rw (le-ltb maxHeader (at + size l) h, le-ltb maxLines n k, f .0) (go (closes i) (f .1)
+    (λ g. walk-fine version (n + 1) (at + size l) (afterItem i gs) es gs′ r g (record { bytes = omega arith; count = omega arith })))
+  where
+    after : Outcome
+    after = walk version (n + 1) (at + size l) (afterItem i gs) (linesOf es ++ r)
+
+    go : (t : Bool) → FineBy t gs es gs′ (Fine version (afterItem i gs) es gs′ r)
+        → (Fine version (afterItem i gs) es gs′ r → after ≡ accepted es gs′ r)
+        → withEntry (entry l i) (if t then complete gs (linesOf es ++ r) else after) ≡ accepted (entry l i ∷ es) gs′ r
+    go false f s = rw (s f)
+    go true f s = rw (f .0, complete-is gs r (f .1), f .2)
+
+-- ---- line 1
+
+-- texts with the same bytes have one length
+same-length : (t u : List ℕ) → same t u ≡ true → length t ≡ length u
+unfolding same
+same-length [] [] e = refl
+same-length [] (c ∷ u) e = absurd (false≢true e)
+same-length (b ∷ t) [] e = absurd (false≢true e)
+same-length (b ∷ t) (c ∷ u) e = ap suc (same-length t u (go (eqb b c) e))
+  where
+    go : (x : Bool) → (x && same t u) ≡ true → same t u ≡ true
+    go true e = e
+    go false e = absurd (false≢true e)
+
+-- the text of line 1: at most 9 bytes, with a version from 1 to 5
+abbrev Magical : List ℕ → Option ℕ → Type 0
+Magical t none = Unit {0}
+Magical t (some v) = (length t ≤ 9) × (1 ≤ v) × (v ≤ 5)
+
+magic-text : (t : List ℕ) → Magical t (magicVersion t)
+unfolding magicVersion
+magic-text t =
+    go (same t (bytes "NRRD0001")) refl (same t (bytes "NRRD00.01")) refl (same t (bytes "NRRD0002")) refl
+    (same t (bytes "NRRD0003")) refl (same t (bytes "NRRD0004")) refl (same t (bytes "NRRD0005")) refl
+  where
+    go : (a : Bool) → same t (bytes "NRRD0001") ≡ a → (b : Bool) → same t (bytes "NRRD00.01") ≡ b
+        → (c : Bool) → same t (bytes "NRRD0002") ≡ c → (d : Bool) → same t (bytes "NRRD0003") ≡ d
+        → (e : Bool) → same t (bytes "NRRD0004") ≡ e → (f : Bool) → same t (bytes "NRRD0005") ≡ f
+        → Magical t (if a then some 1 else if b then some 1 else if c then some 2 else if d then some 3 else if e then some 4 else if f then some 5 else none)
+    go true ha b hb c hc d hd e he f hf = omega (arith, same-length t (bytes "NRRD0001") ha)
+    go false ha true hb c hc d hd e he f hf = omega (arith, same-length t (bytes "NRRD00.01") hb)
+    go false ha false hb true hc d hd e he f hf = omega (arith, same-length t (bytes "NRRD0002") hc)
+    go false ha false hb false hc true hd e he f hf = omega (arith, same-length t (bytes "NRRD0003") hd)
+    go false ha false hb false hc false hd true he f hf = omega (arith, same-length t (bytes "NRRD0004") he)
+    go false ha false hb false hc false hd false he true hf = omega (arith, same-length t (bytes "NRRD0005") hf)
+    go false ha false hb false hc false hd false he false hf = tt
+
+-- line 1 has at most 11 bytes, its ending included, and a version from 1 to 5
+pub magic-line : (l : Line) {v : ℕ} → versionOfLine l ≡ some v → (size l ≤ 11) × (1 ≤ v) × (v ≤ 5)
+magic-line (line t lf) e = let h = subst (Magical t) e (magic-text t) in simp length-append (omega arith)
+magic-line (line t crlf) e = let h = subst (Magical t) e (magic-text t) in simp length-append (omega arith)
+magic-line (line t eof) e = absurd (Option·none-ne-some _ e)
+
+-- ---- the whole header
+
+-- the bytes s begin with a header whose lines are the entries es and whose fields are gs, and the lines r follow it
+pub record IsHeader (s : List ℕ) (es : List Entry) (gs : List Given) (r : List Line) : Type 0 where
+  -- line 1, its version, and the entries after it
+  pub first : Line
+  pub version : ℕ
+  pub rest : List Entry
+  pub entries : es ≡ entry first (magic version) ∷ rest
+  pub magical : versionOfLine first ≡ some version
+  pub fine : Fine version [] rest gs r
+  pub split : lines s ≡ linesOf es ++ r
+  pub bytes : s ≡ unlines (linesOf es) ++ unlines r
+  pub short : headerLength es ≤ maxHeader
+  pub few : length es ≤ maxLines
+  pub small : length s ≤ maxFile
+
+-- an outcome of the reading is right if it is a refusal, or what it accepts is a header of the bytes
+abbrev SoundHeader : List ℕ → Outcome → Type 0
+SoundHeader s (refused x) = Unit {0}
+SoundHeader s (accepted es gs r) = IsHeader s es gs r
+
+-- every outcome of the reading is right
+headed : (s : List ℕ) → SoundHeader s (header s)
+unfolding header
+headed s = go (ltb maxFile (length s)) refl (lines s) refl
+  where
+    under : length s ≤ maxFile → (l : Line) (ls : List Line) → lines s ≡ l ∷ ls → (v : ℕ) → versionOfLine l ≡ some v
+        → (o : Outcome) → Sound v 2 (size l) [] ls o → SoundHeader s (withEntry (entry l (magic v)) o)
+    under h l ls e v m (refused x) w = tt
+    under h l ls e v m (accepted es gs r) w =
+        let p : lines s ≡ linesOf (entry l (magic v) ∷ es) ++ r = e ∙ ap (λ (x : List Line). l ∷ x) (w .split) in
+        record {
+          first = l;
+          version = v;
+          rest = es;
+          entries = refl;
+          magical = m;
+          fine = w .fine;
+          split = p;
+          bytes = sym (unlines-of-lines s) ∙ ap unlines p ∙ unlines-append (linesOf (entry l (magic v) ∷ es)) r;
+          short = rw length-unlines-cons (w .within .bytes);
+          few = omega (arith, w .within .count);
+          small = h;
+        }
+
+    one : length s ≤ maxFile → (l : Line) (ls : List Line) → lines s ≡ l ∷ ls → (o : Option ℕ) → versionOfLine l ≡ o
+        → SoundHeader s (afterMagic l o ls)
+    one h l ls e none m = tt
+    one h l ls e (some v) m =
+        under h l ls e v m (walk v 2 (size l) [] ls) (walked v ls 2 (size l) [] (omega (arith, magic-line l m .0)) (omega arith))
+
+    go : (t : Bool) → ltb maxFile (length s) ≡ t → (ls : List Line) → lines s ≡ ls
+        → SoundHeader s (if t then refused (refusal fileTooLong) else fromFirst ls)
+    go true h ls e = tt
+    go false h [] e = tt
+    go false h (l ∷ ls) e = one (ltb-false maxFile (length s) h) l ls e (versionOfLine l) refl
+
+-- what is accepted is a header of the bytes
+pub header-sound : (s : List ℕ) {es : List Entry} {gs : List Given} {r : List Line} → header s ≡ accepted es gs r → IsHeader s es gs r
+header-sound s e = subst (SoundHeader s) e (headed s)
+
+-- a header within the limits is accepted
+pub header-fine : (s : List ℕ) (l : Line) (v : ℕ) (es : List Entry) (gs : List Given) (r : List Line)
+    → lines s ≡ l ∷ linesOf es ++ r → versionOfLine l ≡ some v → Fine v [] es gs r
+    → headerLength (entry l (magic v) ∷ es) ≤ maxHeader → length (entry l (magic v) ∷ es) ≤ maxLines → length s ≤ maxFile
+    → header s ≡ accepted (entry l (magic v) ∷ es) gs r
+unfolding header
+header-fine s l v es gs r p m f b c h =
+    let b′ = rw length-unlines-cons at b in
+    rw (le-ltb maxFile (length s) h, p, m, walk-fine v 2 (size l) [] es gs r f (record { bytes = omega arith; count = omega arith }))
+
+module _ (s : List ℕ) {es : List Entry} {gs : List Given} {r : List Line} (e : header s ≡ accepted es gs r) where
+  -- the bytes after an accepted header are those of the lines after it
+  pub data-area : drop (headerLength es) s ≡ unlines r
+  data-area = bytes-after s (linesOf es) r (header-sound s e .split)
+
+  -- and those lines are the lines of the bytes
+  pub data-lines : lines (drop (headerLength es) s) ≡ r
+  data-lines = lines-after s (linesOf es) r (header-sound s e .split)
+
+-- ---- what the items of an accepted header say
+
+-- the field f may come with the descriptor d after the fields gs
+pub record FieldFine (version : ℕ) (gs : List Given) (f : ℕ) (d : List ℕ) : Type 0 where
+  pub since : fieldSince f ≤ version
+  pub new : isGiven f gs ≡ false
+  pub order : inOrder f gs ≡ true
+  pub described : mayDescribe gs f d ≡ true
+
+-- what is known of a line with the text t, after the fields gs, that is judged to be this item; none is judged to be a magic
+abbrev pub Says : ℕ → List Given → List ℕ → Item → Type 0
+Says version gs t (magic n) = ⊥
+Says version gs t comment = Unit {0}
+Says version gs t (field f d) = FieldFine version gs f d
+Says version gs t (pair k v) = pairsSince ≤ version
+Says version gs t closing = t ≡ []
+
+-- the same of what a line is judged to be, right or wrong
+abbrev SaysRight : ℕ → List Given → List ℕ → Judged → Type 0
+SaysRight version gs t (wrong w) = Unit {0}
+SaysRight version gs t (right i) = Says version gs t i
+
+module _ (version : ℕ) (gs : List Given) where
+  field-says : (t : List ℕ) (f : Option ℕ) (rest : List ℕ) → SaysRight version gs t (onField version gs f rest)
+  unfolding onField
+  field-says t none rest = tt
+  field-says t (some f) rest =
+      go (ltb version (fieldSince f)) refl (isGiven f gs) refl (inOrder f gs) refl (mayDescribe gs f (descriptor f rest)) refl
+    where
+      go : (a : Bool) → ltb version (fieldSince f) ≡ a → (b : Bool) → isGiven f gs ≡ b → (c : Bool) → inOrder f gs ≡ c
+          → (d : Bool) → mayDescribe gs f (descriptor f rest) ≡ d
+          → SaysRight version gs t
+          (if a then wrong notInVersion else if b then wrong repeatedField else if not c then wrong outOfOrder
+          else if not d then wrong badDescriptor else right (field f (descriptor f rest)))
+      go true ha b hb c hc d hd = tt
+      go false ha true hb c hc d hd = tt
+      go false ha false hb false hc d hd = tt
+      go false ha false hb true hc false hd = tt
+      go false ha false hb true hc true hd =
+          record { since = ltb-false version (fieldSince f) ha; new = hb; order = hc; described = hd }
+
+  pair-says : (t k v : List ℕ) → SaysRight version gs t (onPair version k v)
+  unfolding onPair
+  pair-says t [] v = tt
+  pair-says t (b ∷ k) v = go (ltb version pairsSince) refl (unescape (b ∷ k)) (unescape v)
+    where
+      go : (a : Bool) → ltb version pairsSince ≡ a → (x y : Option (List ℕ))
+          → SaysRight version gs t (if a then wrong notInVersion else unescaped x y)
+      go true e x y = tt
+      go false e none y = tt
+      go false e (some k′) none = tt
+      go false e (some k′) (some v′) = ltb-false version pairsSince e
+
+  judged : (t : List ℕ) → SaysRight version gs t (judge version gs t)
+  unfolding judge
+  judged [] = refl
+  judged (b ∷ t) = go (eqb b HASH) (every plain (b ∷ t)) (mark (b ∷ t))
+    where
+      go : (x y : Bool) (m : Marked)
+          → SaysRight version gs (b ∷ t) (if x then right comment else if not y then wrong badByte else onMark version gs m)
+      go true y m = tt
+      go false false m = tt
+      go false true unmarked = tt
+      go false true (fieldMark name rest) = field-says (b ∷ t) (fieldNamed name) rest
+      go false true (pairMark k v) = pair-says (b ∷ t) k v
+
+  -- a line that is judged to be an item is as `Says` says
+  pub judge-says : (t : List ℕ) {i : Item} → judge version gs t ≡ right i → Says version gs t i
+  judge-says t e = subst (SaysRight version gs t) e (judged t)
+
+-- ---- the fields of an accepted header are those of its entries
+
+-- the fields after the entries, the last one first
+unfoldable pub fieldsFrom : List Given → List Entry → List Given
+fieldsFrom gs [] = gs
+fieldsFrom gs (entry l i ∷ es) = fieldsFrom (afterItem i gs) es
+
+-- the descriptor that an item gives the field f
+abbrev pub descriptorBy : ℕ → Item → Option (List ℕ)
+descriptorBy f (magic n) = none
+descriptorBy f comment = none
+descriptorBy f (field g d) = if eqb f g then some d else none
+descriptorBy f (pair k v) = none
+descriptorBy f closing = none
+
+-- the descriptor that the first of the entries with the field f gives it
+unfoldable pub descriptorIn : ℕ → List Entry → Option (List ℕ)
+descriptorIn f [] = none
+descriptorIn f (entry l i ∷ es) = orElse (descriptorBy f i) (descriptorIn f es)
+
+-- no field is given twice
+abbrev pub Once : List Given → Type 0
+Once [] = Unit {0}
+Once (given f d ∷ gs) = (isGiven f gs ≡ false) × Once gs
+
+-- nothing after an answer changes it
+or-none : (x : Option (List ℕ)) → x ≡ orElse x none
+or-none none = refl
+or-none (some y) = refl
+
+-- the line that closes the header gives no field
+after-closing : (i : Item) (gs : List Given) → closes i ≡ true → afterItem i gs ≡ gs
+after-closing (magic n) gs e = refl
+after-closing comment gs e = refl
+after-closing (field f d) gs e = absurd (false≢true e)
+after-closing (pair k v) gs e = refl
+after-closing closing gs e = refl
+
+module _ (version : ℕ) where
+  -- the first line of a fine header closes it, or the entries after that line are fine
+  pub fine-cases : (gs : List Given) (l : Line) (i : Item) (es : List Entry) (gs′ : List Given) (r : List Line) (P : List Entry → List Given → Type 0)
+      → Fine version gs (entry l i ∷ es) gs′ r
+      → (Says version gs (text l) i → closes i ≡ true → Complete gs → P [] (afterItem i gs))
+      → (Says version gs (text l) i → closes i ≡ false → Fine version (afterItem i gs) es gs′ r → P es gs′)
+      → P es gs′
+  fine-cases gs l i es gs′ r P f last more = go (closes i) refl (f .1)
+    where
+      says : Says version gs (text l) i
+      says = judge-says version gs (text l) (f .0)
+
+      go : (t : Bool) → closes i ≡ t → FineBy t gs es gs′ (Fine version (afterItem i gs) es gs′ r) → P es gs′
+      go true e g = rw (g .0, g .2, ← after-closing i gs e) (last says e (g .1))
+      go false e g = more says e g
+
+  -- the fields at the end are those of the entries
+  fine-given : (es : List Entry) (gs gs′ : List Given) (r : List Line) → Fine version gs es gs′ r → gs′ ≡ fieldsFrom gs es
+  unfolding fieldsFrom
+  fine-given [] gs gs′ r f = f .3
+  fine-given (entry l i ∷ es) gs gs′ r f =
+      fine-cases gs l i es gs′ r (λ es gs′. gs′ ≡ fieldsFrom (afterItem i gs) es) f
+      (λ s c k. refl) (λ s c g. fine-given es (afterItem i gs) gs′ r g)
+
+  -- what each field that may come keeps, the entries keep
+  pub fine-keep : (P : List Given → Type 0) → ((gs : List Given) (f : ℕ) (d : List ℕ) → FieldFine version gs f d → P gs → P (given f d ∷ gs))
+      → (es : List Entry) (gs gs′ : List Given) (r : List Line) → Fine version gs es gs′ r → P gs → P gs′
+  fine-keep P keep [] gs gs′ r f p = rw (f .3) p
+  fine-keep P keep (entry l i ∷ es) gs gs′ r f p =
+      fine-cases gs l i es gs′ r (λ es gs′. P gs′) f (λ s c k. after i s) (λ s c g. fine-keep P keep es (afterItem i gs) gs′ r g (after i s))
+    where
+      after : (i : Item) → Says version gs (text l) i → P (afterItem i gs)
+      after (magic n) s = p
+      after comment s = p
+      after (field f d) s = keep gs f d s p
+      after (pair k v) s = p
+      after closing s = p
+
+  module _ (f : ℕ) where
+    -- one line: the descriptor of f is the one given before, or else the one that the line gives
+    after-descriptor : (gs : List Given) (t : List ℕ) (i : Item) → Says version gs t i → (o : Option (List ℕ))
+        → orElse (descriptorOf f (afterItem i gs)) o ≡ orElse (descriptorOf f gs) (orElse (descriptorBy f i) o)
+    unfolding descriptorOf
+    after-descriptor gs t (magic n) s o = refl
+    after-descriptor gs t comment s o = refl
+    after-descriptor gs t (field g d) s o = go (eqb f g) refl
+      where
+        none-given : (x : Option (List ℕ)) → isSome x ≡ false → some d ≡ orElse x (some d)
+        none-given none e = refl
+        none-given (some y) e = absurd (false≢true (sym e))
+
+        go : (x : Bool) → eqb f g ≡ x
+            → orElse (if x then some d else descriptorOf f gs) o ≡ orElse (descriptorOf f gs) (orElse (if x then some d else none) o)
+        go true e = none-given (descriptorOf f gs) (rw (eqb-true f g e) (s .new))
+        go false e = refl
+    after-descriptor gs t (pair k v) s o = refl
+    after-descriptor gs t closing s o = refl
+
+    -- all entries: the descriptor of f is the one given before, or else the one that an entry gives
+    fine-descriptor : (es : List Entry) (gs gs′ : List Given) (r : List Line) → Fine version gs es gs′ r
+        → descriptorOf f gs′ ≡ orElse (descriptorOf f gs) (descriptorIn f es)
+    unfolding descriptorIn
+    fine-descriptor [] gs gs′ r h = rw (h .3) (or-none (descriptorOf f gs))
+    fine-descriptor (entry l i ∷ es) gs gs′ r h =
+        fine-cases gs l i es gs′ r (λ es gs′. descriptorOf f gs′ ≡ orElse (descriptorOf f gs) (orElse (descriptorBy f i) (descriptorIn f es))) h
+        (λ s c k. or-none (descriptorOf f (afterItem i gs)) ∙ after-descriptor gs (text l) i s none)
+        (λ s c g. fine-descriptor es (afterItem i gs) gs′ r g ∙ after-descriptor gs (text l) i s (descriptorIn f es))
+
+module _ (s : List ℕ) {es : List Entry} {gs : List Given} {r : List Line} (e : header s ≡ accepted es gs r) where
+  -- the fields of an accepted header are the fields of its lines, the last one first
+  pub given-of-entries : gs ≡ fieldsFrom [] es
+  unfolding fieldsFrom
+  given-of-entries = let x = header-sound s e in rw (x .entries) (fine-given (x .version) (x .rest) [] gs r (x .fine))
+
+  -- what holds of no fields, and is kept by each field that may come, holds of the fields of an accepted header
+  pub header-fields : (P : List Given → Type 0) → P []
+      → ((version : ℕ) (gs : List Given) (f : ℕ) (d : List ℕ) → FieldFine version gs f d → P gs → P (given f d ∷ gs)) → P gs
+  header-fields P p keep = let x = header-sound s e in fine-keep (x .version) P (keep (x .version)) (x .rest) [] gs r (x .fine) p
+
+  -- an accepted header gives no field twice
+  pub given-once : Once gs
+  given-once = header-fields Once tt (λ v gs f d h o. (h .new, o))
+
+  -- the descriptor of a field is the one that the field's line has
+  pub descriptor-of-fields : (f : ℕ) → descriptorOf f gs ≡ descriptorIn f es
+  unfolding descriptorIn descriptorOf
+  descriptor-of-fields f = let x = header-sound s e in rw (x .entries) (fine-descriptor (x .version) f (x .rest) [] gs r (x .fine))
+
+-- ---- where an accepted header ends
+
+-- the last of the entries closes the header
+unfoldable pub closed : List Entry → Bool
+closed [] = false
+closed (e ∷ []) = closes (itemOf e)
+closed (e ∷ f ∷ es) = closed (f ∷ es)
+
+-- an empty line may stand before any lines
+shape-empty : {l : Line} {ls ms : List Line} → text l ≡ [] → Shape (l ∷ ls) → Shape ms → Shape (l ∷ ms)
+shape-empty h (lf-line p q s) m = lf-line p q m
+shape-empty h (crlf-line p s) m = crlf-line p m
+shape-empty h (eof-line p n) m = absurd (omega (arith, ap length h))
+
+-- a line that closes the header is empty
+closes-empty : (version : ℕ) (gs : List Given) (t : List ℕ) (i : Item) → Says version gs t i → closes i ≡ true → t ≡ []
+closes-empty version gs t (magic n) s c = absurd s
+closes-empty version gs t comment s c = absurd (false≢true c)
+closes-empty version gs t (field f d) s c = absurd (false≢true c)
+closes-empty version gs t (pair k v) s c = absurd (false≢true c)
+closes-empty version gs t closing s c = s
+
+module _ (version : ℕ) where
+  -- a line with an entry after it does not close the header, and the entries after it are fine
+  pub fine-tail : (gs : List Given) (l : Line) (i : Item) (e : Entry) (es : List Entry) (gs′ : List Given) (r : List Line)
+      → Fine version gs (entry l i ∷ e ∷ es) gs′ r → (closes i ≡ false) × Fine version (afterItem i gs) (e ∷ es) gs′ r
+  fine-tail gs l i e es gs′ r f = go (closes i) (f .1)
+    where
+      go : (t : Bool) → FineBy t gs (e ∷ es) gs′ (Fine version (afterItem i gs) (e ∷ es) gs′ r)
+          → (t ≡ false) × Fine version (afterItem i gs) (e ∷ es) gs′ r
+      go true g = absurd (cons≢nil (g .0))
+      go false g = (refl, g)
+
+  -- entries that end closed are fine before any lines
+  pub fine-closed : (es : List Entry) (gs gs′ : List Given) (r r′ : List Line) → closed es ≡ true → Fine version gs es gs′ r → Fine version gs es gs′ r′
+  unfolding closed
+  fine-closed [] gs gs′ r r′ c f = absurd (false≢true c)
+  fine-closed (entry l i ∷ []) gs gs′ r r′ c f = (f .0, rw c (rw c at (f .1)))
+  fine-closed (entry l i ∷ e ∷ es) gs gs′ r r′ c f =
+      let g = fine-tail gs l i e es gs′ r f in (f .0, rw (g .0) (fine-closed (e ∷ es) (afterItem i gs) gs′ r r′ c (g .1)))
+
+  -- and their lines keep the line rule before any lines that keep it
+  pub shape-closed : (es : List Entry) (gs gs′ : List Given) (r r′ : List Line) → closed es ≡ true → Fine version gs es gs′ r
+      → Shape (linesOf es ++ r) → Shape r′ → Shape (linesOf es ++ r′)
+  unfolding closed
+  shape-closed [] gs gs′ r r′ c f s s′ = absurd (false≢true c)
+  shape-closed (entry l i ∷ []) gs gs′ r r′ c f s s′ =
+      shape-empty (closes-empty version gs (text l) i (judge-says version gs (text l) (f .0)) c) s s′
+  shape-closed (entry l i ∷ e ∷ es) gs gs′ r r′ c f s s′ =
+      shape-before s (omega arith)
+      (shape-closed (e ∷ es) (afterItem i gs) gs′ r r′ c (fine-tail gs l i e es gs′ r f .1) (shape-after (l ∷ []) (linesOf (e ∷ es) ++ r) s) s′)
+
+  -- entries that do not end closed give data file, and no line follows them
+  pub fine-open : (es : List Entry) (gs gs′ : List Given) (r : List Line) → closed es ≡ false → Fine version gs es gs′ r
+      → (isDetached gs′ ≡ true) × (r ≡ [])
+  unfolding closed
+  fine-open [] gs gs′ r c f = (rw (f .3) (f .1), f .0)
+  fine-open (entry l i ∷ []) gs gs′ r c f = let g = rw c at (f .1) in (rw (g .3) (g .1), g .0)
+  fine-open (entry l i ∷ e ∷ es) gs gs′ r c f = fine-open (e ∷ es) (afterItem i gs) gs′ r c (fine-tail gs l i e es gs′ r f .1)
+
+-- `header-ends` of line 1 and the entries after it
+ends : (s : List ℕ) (l : Line) (v : ℕ) (es : List Entry) (gs : List Given) (r : List Line)
+    → lines s ≡ l ∷ linesOf es ++ r → versionOfLine l ≡ some v → Fine v [] es gs r
+    → headerLength (entry l (magic v) ∷ es) ≤ maxHeader → length (entry l (magic v) ∷ es) ≤ maxLines
+    → closed (entry l (magic v) ∷ es) ≡ true → (d : List ℕ) → length (unlines (l ∷ linesOf es) ++ d) ≤ maxFile
+    → header (unlines (l ∷ linesOf es) ++ d) ≡ accepted (entry l (magic v) ∷ es) gs (lines d)
+unfolding closed
+ends s l v [] gs r p m f b n c d h = absurd (false≢true c)
+ends s l v (e ∷ es) gs r p m f b n c d h =
+    let shape : Shape (l ∷ linesOf (e ∷ es) ++ r) = rw p at (shape-of-lines s) in
+    let under : Shape (linesOf (e ∷ es) ++ lines d) =
+    shape-closed v (e ∷ es) [] gs r (lines d) c f (shape-after (l ∷ []) (linesOf (e ∷ es) ++ r) shape) (shape-of-lines d) in
+    header-fine (unlines (l ∷ linesOf (e ∷ es)) ++ d) l v (e ∷ es) gs (lines d)
+    (lines-of-parts (l ∷ linesOf (e ∷ es)) d (shape-before shape (omega arith) under)) m (fine-closed v (e ∷ es) [] gs r (lines d) c f) b n h
+
+-- entries after line 1 do not end closed where the whole header does not
+open-rest : (e : Entry) (es : List Entry) → closed (e ∷ es) ≡ false → closed es ≡ false
+unfolding closed
+open-rest e [] c = refl
+open-rest e (f ∷ es) c = c
+
+module _ (s : List ℕ) {es : List Entry} {gs : List Given} {r : List Line} (e : header s ≡ accepted es gs r) where
+  -- a header that ends with the closing line is decided by its own bytes: with any others after them it is accepted just so
+  pub header-ends : closed es ≡ true → (d : List ℕ) → length (unlines (linesOf es) ++ d) ≤ maxFile
+      → header (unlines (linesOf es) ++ d) ≡ accepted es gs (lines d)
+  header-ends c d h =
+      let x = header-sound s e in
+      rw (x .entries)
+      (ends s (x .first) (x .version) (x .rest) gs r (rw (x .entries) at (x .split)) (x .magical) (x .fine)
+      (rw (x .entries) at (x .short)) (rw (x .entries) at (x .few)) (rw (x .entries) at c) d (rw (x .entries) at h))
+
+  -- a header that does not end with the closing line has data file, and ends where the bytes do
+  pub header-open : closed es ≡ false → (isDetached gs ≡ true) × (r ≡ [])
+  header-open c =
+      let x = header-sound s e in
+      fine-open (x .version) (x .rest) [] gs r (open-rest (entry (x .first) (magic (x .version))) (x .rest) (rw (x .entries) at c)) (x .fine)
