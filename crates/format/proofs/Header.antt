@@ -17,7 +17,8 @@ use Rattle.format.specs.Lines.{Line, line, lf, crlf, eof, text, size, li
 use Rattle.format.specs.Pairs.{plain, Marked, unmarked, fieldMark, pairMark, mark, unescape}
 use Rattle.format.specs.Fields.{fieldNamed, pairsSince, fieldSince, Given, given, descriptorOf, isGiven, inOrder}
 use Rattle.format.specs.Descriptors.{descriptor, mayDescribe, hasNeeded, extentOf, isDetached}
-use Rattle.format.specs.Header.{Item, magic, comment, field, pair, closing, Entry, entry, itemOf, linesOf, magicVersion, versionOfLine, Judged, wrong, right, unescaped, onPair, onField, onMark, judge, Outcome, refused, accepted, withEntry, closes, afterItem, complete, onJudged, walk, afterMagic, fromFirst, header, headerLength}
+use Rattle.format.specs.Header.{Item, magic, comment, field, pair, closing, Entry, entry, linesOf, magicVersion, versionOfLine, Judged, wrong, right, unescaped, onPair, onField, onMark, judge, Outcome, refused, accepted, withEntry, closes, afterItem, complete, onJudged, walk, afterMagic, fromFirst, header, headerLength}
+pub use Rattle.format.specs.Laws.{closed}
 use Rattle.format.proofs.Lines.{unlines-of-lines, unlines-append, length-unlines-cons, Shape, lf-line, crlf-line, eof-line, shape-of-lines, shape-before, shape-after, lines-of-parts, bytes-after, lines-after}
 
 -- ---- what an accepted header is, the limits left out
@@ -476,12 +477,6 @@ module _ (s : List ℕ) {es : List Entry} {gs : List Given} {r : List Line} (e :
   descriptor-of-fields f = let x = header-sound s e in rw (x .entries) (fine-descriptor (x .version) f (x .rest) [] gs r (x .fine))
 
 -- ---- where an accepted header ends
-
--- the last of the entries closes the header
-unfoldable pub closed : List Entry → Bool
-closed [] = false
-closed (e ∷ []) = closes (itemOf e)
-closed (e ∷ f ∷ es) = closed (f ∷ es)
 
 -- an empty line may stand before any lines
 shape-empty : {l : Line} {ls ms : List Line} → text l ≡ [] → Shape (l ∷ ls) → Shape ms → Shape (l ∷ ms)

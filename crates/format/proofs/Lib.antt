@@ -6,3 +6,4 @@ pub mod Samples
 pub mod Writer
 pub mod Starred
 pub mod AtLimits
+pub mod Believable

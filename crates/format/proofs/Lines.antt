@@ -5,7 +5,7 @@ use native.Mathlib.Nat.{add-zero, zero-add, add-assoc, le-of-suc-le-suc, not-suc
 use native.Mathlib.Numerals.{add-one}
 use native.Mathlib.Omega.{arith}
 use mathlib.Core.Path.{_≡_, refl, sym, ap, _∙_}
-use mathlib.Core.Bool.{Bool, true, false, not, false≢true}
+use mathlib.Core.Bool.{Bool, true, false, false≢true}
 use mathlib.Core.List.{List, [], _∷_, _++_, append-assoc, append-nil}
 use lib.Dec.{eqb}
 use lib.ListN.{length, take, drop, getD, length-append, length-drop, take-append-drop, drop-of-length-le}
@@ -13,22 +13,10 @@ use lib.Seq.{drop-append-add, drop-append-seam, take-append-add, take-suc, take-
 use borrow.Author.Tests.{eqb-true, not-true, ne-eqb}
 use Rattle.format.specs.Bytes.{if_then_else_, LF, CR, every}
 use Rattle.format.specs.Lines.{Ending, lf, crlf, eof, Line, line, endingBytes, lineBytes, size, extend, extendFirst, withByte, lines, unlines, starts}
+pub use Rattle.format.specs.Laws.{notLF, NoLF, endsInCR, Shape, no-lines, lf-line, crlf-line, eof-line}
 use Rattle.format.proofs.Bytes.{and-left, and-right, every-append}
 
 -- ---- texts: no LF, and no CR at the end
-
-abbrev pub notLF : ℕ → Bool
-notLF b = not (eqb b LF)
-
--- no byte of the text is LF
-abbrev pub NoLF : List ℕ → Type 0
-NoLF t = every notLF t ≡ true
-
--- the last byte is CR; an empty text has none
-unfoldable pub endsInCR : List ℕ → Bool
-endsInCR [] = false
-endsInCR (b ∷ []) = eqb b CR
-endsInCR (b ∷ c ∷ t) = endsInCR (c ∷ t)
 
 -- no LF, byte by byte
 pub no-lf-nil : NoLF []
@@ -114,14 +102,6 @@ unlines-of-lines [] = refl
 unlines-of-lines (b ∷ s) = unlines-with b (lines s) ∙ rw (unlines-of-lines s)
 
 -- ---- the line rule
-
--- No text has an LF. A text that LF alone ends does not end in CR: that CR would belong to the ending.
--- Only the last line may have no ending, and then its text is not empty.
-pub data Shape : List Line → Type 0 where
-  no-lines : Shape []
-  lf-line : {t : List ℕ} {ls : List Line} → NoLF t → endsInCR t ≡ false → Shape ls → Shape (line t lf ∷ ls)
-  crlf-line : {t : List ℕ} {ls : List Line} → NoLF t → Shape ls → Shape (line t crlf ∷ ls)
-  eof-line : {t : List ℕ} → NoLF t → 0 < length t → Shape (line t eof ∷ [])
 
 shape-extend : (b : ℕ) {ls : List Line} → eqb b LF ≡ false → Shape ls → Shape (extendFirst b ls)
 unfolding endsInCR

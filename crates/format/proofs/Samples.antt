@@ -12,14 +12,10 @@ use lib.ListN.{length, getD, length-reverse}
 use borrow.Author.Tests.{lt-ltb, le-ltb, ltb-true, leb-true}
 use Rattle.format.specs.Bytes.{if_then_else_}
 use Rattle.format.specs.Descriptors.{NumberKind, signed, unsigned, floating, big}
+pub use Rattle.format.specs.Laws.{AllBytes}
 use Rattle.format.specs.Samples.{inType, fromBytes, toBytes, ordered, fromSigned, valueOfBits, sampleValue, valueBytes}
 
 -- ---- lists of bytes
-
--- every number of the list is below 256
-abbrev pub AllBytes : List ℕ → Type 0
-AllBytes [] = Unit {0}
-AllBytes (b ∷ s) = (b < 256) × AllBytes s
 
 -- a list with a number below 256 at every place
 pub all-bytes : (s : List ℕ) → ((i : ℕ) → getD s i 0 < 256) → AllBytes s

@@ -14,3 +14,5 @@ pub mod Settings
 pub mod Calls
 pub mod Listing
 pub mod Trials
+pub mod Boundary
+pub mod Laws

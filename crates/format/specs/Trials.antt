@@ -1,6 +1,6 @@
 -- The starred trials (document 01, "Trials"), as one list under one statement: `StarredTrials`.
 -- Each trial is what a call answers, beside what document 01 says it answers; proofs/ computes them all.
-use Prim.Native.Nat.{ℕ}
+use Prim.Native.Nat.{ℕ, zero, suc}
 use Prim.Native.String.{String}
 use mathlib.Core.Path.{_≡_}
 use mathlib.Core.Bool.{true, false}
@@ -15,7 +15,7 @@ use Rattle.format.specs.declared.DataAnswer.{DataAnswer}
 use Rattle.format.specs.declared.CountAnswer.{CountAnswer}
 use Rattle.format.specs.declared.NumberAnswer.{NumberAnswer}
 use Rattle.format.specs.declared.SetAnswer.{SetAnswer}
-use Rattle.format.specs.Bytes.{bytes, LF}
+use Rattle.format.specs.Bytes.{bytes, LF, HASH}
 use Rattle.format.specs.Refusals.{atLine, refusal, fine}
 use Rattle.format.specs.Calls.{readHeaderCall, readCall, copyValueCall, dataPlaceCall, dataCall, samplesCall, sampleNumberCall, setKeyCall}
 
@@ -167,3 +167,28 @@ starredTrials =
 -- all of them
 abbrev pub StarredTrials : Type 0
 StarredTrials = Hold starredTrials
+
+-- ---- the limits of a header, from both sides (trial 7, and refusal 4)
+
+-- five lines of 56 bytes that need only be closed, then these bytes, then the closing line
+abbrev pub headerWith : List ℕ → List ℕ
+headerWith s = texts ("NRRD0001" ∷ "type: int8" ∷ "dimension: 1" ∷ "sizes: 1" ∷ "encoding: raw" ∷ []) ++ (s ++ LF ∷ [])
+
+-- a comment of n bytes and LF
+abbrev pub comment : ℕ → List ℕ
+comment n = replicate n HASH ++ LF ∷ []
+
+-- n comments of one byte and LF
+abbrev pub comments : ℕ → List ℕ
+comments zero = []
+comments (suc n) = HASH ∷ LF ∷ comments n
+
+pub record AtLimits : Type 0 where
+  -- 56 + 65,478 + 1 bytes
+  pub bytes-taken : refusalOf (headerWith (comment 65_477)) ≡ fine
+  -- the closing line ends at byte 65,536
+  pub bytes-refused : refusalOf (headerWith (comment 65_478)) ≡ atLine 3 7
+  -- 5 + 1,018 + 1 lines
+  pub lines-taken : refusalOf (headerWith (comments 1_018)) ≡ fine
+  -- the closing line is line 1,025
+  pub lines-refused : refusalOf (headerWith (comments 1_019)) ≡ atLine 4 1_025

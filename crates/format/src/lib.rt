@@ -1,6 +1,7 @@
 // The NRRD format: its limits and numbers by name, and the values that answers are made of.
 // What is right is said in specs/; the laws that make it believable are in proofs/.
 ghost use mathlib.Core.Path.{_≡_};
+ghost use Rattle.format.specs.Laws.{Laws};
 ghost use Rattle.format.specs.Limits.{limits};
 ghost use Rattle.format.specs.Refusals.{refusalNumbers};
 ghost use Rattle.format.specs.Trials.{StarredTrials};
@@ -222,6 +223,13 @@ pub fn refusal_numbers() -> [u32; 27]
 // The starred trials of document 01 hold of the definitions.
 pub fn starred_trials() -> u64
     ensures { λ r. ⌜ StarredTrials ⌝ }
+{
+    0
+}
+
+// The laws that make the definitions believable hold.
+pub fn definition_laws() -> u64
+    ensures { λ r. ⌜ Laws ⌝ }
 {
     0
 }

@@ -1,0 +1,33 @@
+-- The laws of the definitions, gathered: each is proved in the file of the definitions that it is about.
+use Rattle.format.specs.Laws.{Laws}
+use Rattle.format.proofs.Lines.{unlines-of-lines, shape-of-lines, lines-unique, start-of-line}
+use Rattle.format.proofs.Pairs.{unescape-of-escape, escape-of-unescape, escape-injective, mark-of-pair, judge-of-pair, pair-key-fine, pair-value-fine}
+use Rattle.format.proofs.Header.{header-ends, data-area}
+use Rattle.format.proofs.Samples.{value-of-bytes, bytes-of-value}
+use Rattle.format.proofs.Writer.{number-of-decimal, value-of-decimal, hex-of-text, data-read-back}
+use Rattle.format.proofs.AtLimits.{at-limits}
+
+pub laws : Laws
+laws =
+    record {
+      unlines-of-lines = unlines-of-lines;
+      shape-of-lines = shape-of-lines;
+      lines-unique = lines-unique;
+      start-of-line = start-of-line;
+      unescape-of-escape = unescape-of-escape;
+      escape-of-unescape = escape-of-unescape;
+      escape-injective = escape-injective;
+      mark-of-pair = mark-of-pair;
+      judge-of-pair = judge-of-pair;
+      pair-key-fine = pair-key-fine;
+      pair-value-fine = pair-value-fine;
+      header-ends = header-ends;
+      data-area = data-area;
+      value-of-bytes = value-of-bytes;
+      bytes-of-value = bytes-of-value;
+      number-of-decimal = number-of-decimal;
+      value-of-decimal = value-of-decimal;
+      hex-of-text = hex-of-text;
+      data-read-back = data-read-back;
+      at-limits = at-limits;
+    }

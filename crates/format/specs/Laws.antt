@@ -1,0 +1,89 @@
+-- The laws that make the definitions believable, as one statement: `Laws`. proofs/ proves them; each is used by the crates above.
+use Prim.Native.Nat.{ℕ, _≤_, _<_}
+use mathlib.Core.Path.{_≡_}
+use mathlib.Core.Bool.{Bool, true, false, not}
+use mathlib.Core.List.{List, [], _∷_, _++_}
+use mathlib.Core.Option.{some}
+use lib.Dec.{eqb}
+use lib.IntN.{ℤ}
+use lib.ListN.{length, drop, getD}
+use Rattle.format.specs.Bytes.{every, LF, CR}
+use Rattle.format.specs.Limits.{maxFile}
+use Rattle.format.specs.Lines.{Line, line, lf, crlf, eof, lines, unlines, starts}
+use Rattle.format.specs.Pairs.{pairMark, mark, escape, unescape}
+use Rattle.format.specs.Fields.{Given}
+use Rattle.format.specs.Descriptors.{NumberKind, number}
+use Rattle.format.specs.Header.{Entry, itemOf, linesOf, right, judge, pair, closes, accepted, header, headerLength}
+use Rattle.format.specs.Samples.{inType, sampleValue, valueBytes, hexRun, hexBytes, tokenValue, samplesOf}
+use Rattle.format.specs.Writer.{decimal, signedDecimal, hexText, dataBytes, allInType}
+use Rattle.format.specs.Settings.{keyFine, valueFine, pairText}
+use Rattle.format.specs.Trials.{AtLimits}
+
+-- ---- the line rule (document 01, "Lines and headers", the first point), said of lines instead of computed
+
+abbrev pub notLF : ℕ → Bool
+notLF b = not (eqb b LF)
+
+-- no byte of the text is LF
+abbrev pub NoLF : List ℕ → Type 0
+NoLF t = every notLF t ≡ true
+
+-- the last byte is CR; an empty text has none
+unfoldable pub endsInCR : List ℕ → Bool
+endsInCR [] = false
+endsInCR (b ∷ []) = eqb b CR
+endsInCR (b ∷ c ∷ t) = endsInCR (c ∷ t)
+
+-- No text has an LF. A text that LF alone ends does not end in CR: that CR would belong to the ending.
+-- Only the last line may have no ending, and then its text is not empty.
+pub data Shape : List Line → Type 0 where
+  no-lines : Shape []
+  lf-line : {t : List ℕ} {ls : List Line} → NoLF t → endsInCR t ≡ false → Shape ls → Shape (line t lf ∷ ls)
+  crlf-line : {t : List ℕ} {ls : List Line} → NoLF t → Shape ls → Shape (line t crlf ∷ ls)
+  eof-line : {t : List ℕ} → NoLF t → 0 < length t → Shape (line t eof ∷ [])
+
+-- ---- bytes and entries
+
+-- every number is a byte
+abbrev pub AllBytes : List ℕ → Type 0
+AllBytes [] = Unit {0}
+AllBytes (b ∷ s) = (b < 256) × AllBytes s
+
+-- the last entry is the closing line
+unfoldable pub closed : List Entry → Bool
+closed [] = false
+closed (e ∷ []) = closes (itemOf e)
+closed (e ∷ f ∷ es) = closed (f ∷ es)
+
+-- ---- the laws
+
+pub record Laws : Type 0 where
+  -- no byte is lost, the lines keep the line rule, and no other lines of these bytes do
+  pub unlines-of-lines : (s : List ℕ) → unlines (lines s) ≡ s
+  pub shape-of-lines : (s : List ℕ) → Shape (lines s)
+  pub lines-unique : {ls : List Line} → Shape ls → lines (unlines ls) ≡ ls
+  -- each start in the table is where its line begins: reading on from there gives that line and those after it
+  pub start-of-line : (s : List ℕ) (k : ℕ) → k < length (lines s) → lines (drop (getD (starts 0 (lines s)) k 0) s) ≡ drop k (lines s)
+  -- escape and unescape are inverse on all allowed texts, and equal escaped keys are equal keys
+  pub unescape-of-escape : (s : List ℕ) → unescape (escape s) ≡ some s
+  pub escape-of-unescape : (t s : List ℕ) → NoLF t → unescape t ≡ some s → escape s ≡ t
+  pub escape-injective : (a b : List ℕ) → escape a ≡ escape b → a ≡ b
+  -- the first mark of a set line is its `:=`, and the reader takes the line for that pair; every pair that it takes can be set
+  pub mark-of-pair : (k v : List ℕ) → keyFine k ≡ true → mark (pairText k v) ≡ pairMark (escape k) (escape v)
+  pub judge-of-pair : (version : ℕ) (gs : List Given) (k v : List ℕ) → 2 ≤ version → keyFine k ≡ true → valueFine v ≡ true → judge version gs (pairText k v) ≡ right (pair k v)
+  pub pair-key-fine : (version : ℕ) (gs : List Given) (t k v : List ℕ) → judge version gs t ≡ right (pair k v) → keyFine k ≡ true
+  pub pair-value-fine : (version : ℕ) (gs : List Given) (t k v : List ℕ) → judge version gs t ≡ right (pair k v) → valueFine v ≡ true
+  -- what follows the closing line decides nothing about the header; the data area is what follows it
+  pub header-ends : (s : List ℕ) {es : List Entry} {gs : List Given} {r : List Line} → header s ≡ accepted es gs r → closed es ≡ true → (d : List ℕ) → length (unlines (linesOf es) ++ d) ≤ maxFile → header (unlines (linesOf es) ++ d) ≡ accepted es gs (lines d)
+  pub data-area : (s : List ℕ) {es : List Entry} {gs : List Given} {r : List Line} → header s ≡ accepted es gs r → drop (headerLength es) s ≡ unlines r
+  -- bytes of a sample and its value are inverse, over the width, for either endian
+  pub value-of-bytes : (k : NumberKind) (w endian : ℕ) (z : ℤ) → 1 ≤ w → inType k w z ≡ true → sampleValue k endian (valueBytes w endian z) ≡ z
+  pub bytes-of-value : (k : NumberKind) (endian : ℕ) (s : List ℕ) → AllBytes s → valueBytes (length s) endian (sampleValue k endian s) ≡ s
+  -- decimal and hex text of a value read back as it
+  pub number-of-decimal : (n : ℕ) → number (decimal n) ≡ some n
+  pub value-of-decimal : (z : ℤ) → tokenValue (signedDecimal z) ≡ some z
+  pub hex-of-text : (s r : List ℕ) → AllBytes s → hexBytes (length s) (hexText s ++ r) ≡ hexRun s r
+  -- the samples of written data are those written, in each encoding
+  pub data-read-back : (encoding : ℕ) (k : NumberKind) (w endian : ℕ) (zs : List ℤ) → 1 ≤ w → allInType k w zs ≡ true → samplesOf encoding k w endian (length zs) (dataBytes encoding w endian zs) ≡ record { number = 0; seen = zs }
+  -- headers are taken up to their limits and not past them
+  pub at-limits : AtLimits
