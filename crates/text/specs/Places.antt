@@ -1,0 +1,33 @@
+-- What the leaves answer in numbers: how many bytes stand before a place.
+use Prim.Native.Nat.{ℕ, suc}
+use mathlib.Core.List.{List, [], _∷_}
+use lib.Dec.{eqb}
+use lib.ListN.{length}
+use Rattle.format.specs.Bytes.{if_then_else_, CR}
+use Rattle.format.specs.Lines.{Ending, lf, crlf}
+use Rattle.format.specs.Pairs.{Marked, unmarked, fieldMark, pairMark}
+use Rattle.text.specs.declared.lines.Mark.{Mark}
+use Rattle.text.specs.declared.lines.Mark.the-variants.{Field, Pair, Nothing}
+
+-- how many bytes stand before the first b, or all of them where there is none
+unfoldable pub before : ℕ → List ℕ → ℕ
+before b [] = 0
+before b (c ∷ s) = if eqb c b then 0 else suc (before b s)
+
+-- without one CR at the end
+unfoldable pub withoutCR : List ℕ → List ℕ
+withoutCR [] = []
+withoutCR (b ∷ []) = if eqb b CR then [] else b ∷ []
+withoutCR (b ∷ c ∷ s) = b ∷ withoutCR (c ∷ s)
+
+-- the ending of a line whose LF stands right after these bytes: a CR at their end belongs to it
+unfoldable pub endingAt : List ℕ → Ending
+endingAt [] = lf
+endingAt (b ∷ []) = if eqb b CR then crlf else lf
+endingAt (b ∷ c ∷ s) = endingAt (c ∷ s)
+
+-- the kind of the mark, and how many bytes stand before it
+abbrev pub markPlace : Marked → Mark
+markPlace unmarked = Nothing
+markPlace (fieldMark n d) = Field (length n)
+markPlace (pairMark k v) = Pair (length k)
