@@ -2,7 +2,6 @@
 -- Assumes nothing.
 use Prim.Native.Nat.{ℕ, suc, _+_, _-_, _≤_, _<_}
 use native.Mathlib.Nat.{add-zero, zero-add}
-use native.Mathlib.Numerals.{add-one}
 use native.Mathlib.Omega.{arith}
 use mathlib.Core.Path.{_≡_, refl, sym, ap, _∙_}
 use mathlib.Core.Bool.{Bool, true, false}
@@ -10,15 +9,12 @@ use mathlib.Core.List.{List, [], _∷_, _++_, append-nil}
 use mathlib.Core.Option.{Option, none, some}
 use lib.Dec.{eqb}
 use lib.ListN.{length, drop, getD, set, drop-of-length-le, length-append}
-use lib.Seq.{sets, sets-eq, drop-cons, append-snoc}
+use lib.Seq.{sets, sets-eq, append-snoc}
 use borrow.Author.Tests.{eqb-true, eqb-false, eq-eqb, ne-eqb}
 use Rattle.format.specs.Bytes.{same, isSome, onto, LF, BACKSLASH}
 use Rattle.format.specs.Pairs.{unescapeFrom, unescape}
 use Rattle.text.specs.Meanings.{meansKey, First}
-
--- a text from a place on is the byte there, and the text from the next place on
-pub drop-next : (s : List ℕ) (i : ℕ) → i < length s → drop i s ≡ getD s i 0 ∷ drop (i + 1) s
-drop-next s i h = rw add-one (drop-cons s i 0 h)
+use Rattle.text.proofs.Places.{drop-next}
 
 -- ---- the first byte that a text means from a place on
 

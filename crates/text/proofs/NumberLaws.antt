@@ -18,7 +18,7 @@ use Rattle.format.specs.Descriptors.{digitsFrom, number, joinFirst, parts, notE
 use Rattle.text.specs.Numbers.{numberAnswer, sizeAnswer, firstWord, noSizes, sizesAnswer}
 use Rattle.text.specs.declared.numbers.Number.the-variants.{Value, Wrong}
 use Rattle.text.specs.declared.numbers.Sizes.{Sizes}
-use Rattle.text.proofs.Meanings.{drop-next}
+use Rattle.text.proofs.Places.{drop-next}
 
 -- ---- a number, digit by digit
 
