@@ -1,0 +1,148 @@
+-- What every list of settings does (demand 3; document 01, "Lists of settings"), as one statement: `SettingsHold`.
+-- It speaks of `setKeys` and `setKey`, the definitions that the setter's contract cites.
+use Prim.Native.Nat.{ℕ, _≤_}
+use mathlib.Core.Path.{_≡_}
+use mathlib.Core.Bool.{Bool, true, false, not, _||_}
+use mathlib.Core.List.{List, [], _∷_, _++_}
+use mathlib.Core.Option.{Option, none, some}
+use lib.Dec.{ltb}
+use lib.ListN.{length, take, drop}
+use Rattle.format.specs.declared.Refusal.{Refusal}
+use Rattle.format.specs.Bytes.{if_then_else_, same, orElse}
+use Rattle.format.specs.Limits.{maxFile, maxHeader, maxLines}
+use Rattle.format.specs.Refusals.{fileTooLong, headerTooLong, tooManyLines, notInVersion, lentTooShort, badKey, badValue, wrongTable, refusal}
+use Rattle.format.specs.Lines.{Line, line, Ending, ending, unlines}
+use Rattle.format.specs.Fields.{Given, pairsSince}
+use Rattle.format.specs.Header.{Item, magic, comment, field, pair, closing, Entry, entry, linesOf, Outcome, refused, accepted, header, versionOf, valueOf, tableOf, headerLength}
+use Rattle.format.specs.Settings.{keyFine, valueFine, pairText, hasKey, newLines, tableFine, Lent, lent, Setting, setting, SetOutcome, kept, changed, setKey, setKeys}
+
+-- ---- parts of what is lent
+
+abbrev pub bufferOf : Lent → List ℕ
+bufferOf (lent buf used table count) = buf
+
+abbrev pub usedOf : Lent → ℕ
+usedOf (lent buf used table count) = used
+
+abbrev pub tableIn : Lent → List ℕ
+tableIn (lent buf used table count) = table
+
+abbrev pub countIn : Lent → ℕ
+countIn (lent buf used table count) = count
+
+-- the file in the buffer
+abbrev pub fileIn : Lent → List ℕ
+fileIn l = take (usedOf l) (bufferOf l)
+
+-- ---- what accepted settings ask; `done` has them, the last one first
+
+-- the value accepted last for a key
+unfoldable pub lastAccepted : List ℕ → List Setting → Option (List ℕ)
+lastAccepted k [] = none
+lastAccepted k (setting j v ∷ done) = if same k j then some v else lastAccepted k done
+
+-- a line of the key k at a value, with its ending kept; as it was where there is no value
+abbrev pub heldLine : Line → List ℕ → Option (List ℕ) → Line
+heldLine l k none = l
+heldLine l k (some v) = line (pairText k v) (ending l)
+
+-- what becomes of a header line before the entries `later`: the last line of a key that was set holds the key's last accepted value
+abbrev pub settledLine : List Setting → Line → Item → List Entry → Line
+settledLine done l (magic n) later = l
+settledLine done l comment later = l
+settledLine done l (field f d) later = l
+settledLine done l (pair k v) later = if hasKey k later then l else heldLine l k (lastAccepted k done)
+settledLine done l closing later = l
+
+unfoldable pub settledLines : List Setting → List Entry → List Line
+settledLines done [] = []
+settledLines done (entry l i ∷ es) = settledLine done l i es ∷ settledLines done es
+
+unfoldable pub isKeyIn : List ℕ → List (List ℕ) → Bool
+isKeyIn k [] = false
+isKeyIn k (j ∷ js) = same k j || isKeyIn k js
+
+-- the accepted keys that the first file has no line for: one first accepted later stands above one first accepted earlier
+unfoldable pub newKeys : List Setting → List Entry → List (List ℕ)
+newKeys [] es = []
+newKeys (setting k v ∷ done) es = if hasKey k es || isKeyIn k (newKeys done es) then newKeys done es else k ∷ newKeys done es
+
+-- a line for each of these keys
+unfoldable pub insertedLines : List Setting → Ending → List (List ℕ) → List Line
+insertedLines done e [] = []
+insertedLines done e (k ∷ ks) = heldLine (line [] e) k (lastAccepted k done) ∷ insertedLines done e ks
+
+-- the header's lines: line 1, the inserted lines, and the first file's other lines, in order
+unfoldable pub settled : List Setting → List Entry → List Line
+settled done [] = []
+settled done (entry l i ∷ es) = l ∷ (insertedLines done (ending l) (newKeys done es) ++ settledLines done es)
+
+-- ---- what holds after a list
+
+-- `after` is what the list left, `done` the settings of it that were accepted; the first file was `first`, its header es with the fields gs,
+-- before the lines ls
+pub record Settled (first : List ℕ) (es : List Entry) (gs : List Given) (ls : List Line) (after : Lent) (done : List Setting) : Type 0 where
+  -- a fresh reading is accepted, with the form and the descriptors of the first: the same fields are given, the same lines follow
+  pub entries : List Entry
+  pub reading : header (fileIn after) ≡ accepted entries gs ls
+  pub version : versionOf entries ≡ versionOf es
+  -- each key of an accepted setting is at the value accepted for it last, every other key at its first value
+  pub values : (k : List ℕ) → valueOf k entries ≡ orElse (lastAccepted k done) (valueOf k es)
+  -- the carried count and table are those of the fresh reading
+  pub count : countIn after ≡ length entries
+  pub table : take (countIn after) (tableIn after) ≡ tableOf entries
+  -- all other header lines are the same, in order; lines set keep place and ending, inserted ones stand after line 1, later above earlier
+  pub lines : linesOf entries ≡ settled done es
+  -- the data and all else after the header is the same bytes
+  pub rest : drop (headerLength entries) (fileIn after) ≡ drop (headerLength es) first
+  -- the used length stays within the buffer
+  pub fits : usedOf after ≤ length (bufferOf after)
+
+-- ---- the cases of refusal, in order
+
+abbrev pub Case : Type 0
+Case = Bool × Refusal
+
+-- the first case that holds
+unfoldable pub firstCase : List Case → Option Refusal
+firstCase [] = none
+firstCase (c ∷ cs) = if c .0 then some (c .1) else firstCase cs
+
+-- of the new file: 3, 4, 1, 22
+abbrev pub newFileCases : List ℕ → List ℕ → List Line → List Line → List Case
+newFileCases buf table new rest =
+    (ltb maxHeader (length (unlines new)), refusal headerTooLong)
+    ∷ (ltb maxLines (length new), refusal tooManyLines)
+    ∷ (ltb maxFile (length (unlines new ++ unlines rest)), refusal fileTooLong)
+    ∷ (ltb (length buf) (length (unlines new ++ unlines rest)) || ltb (length table) (length new), refusal lentTooShort)
+    ∷ []
+
+-- after the reading: its own refusal, or 8, 24, 25, 26 and those of the new file
+abbrev pub readCases : List ℕ → List ℕ → ℕ → List ℕ → List ℕ → Outcome → List Case
+readCases buf table count k v (refused r) = (true, r) ∷ []
+readCases buf table count k v (accepted es gs ls) =
+    (ltb (versionOf es) pairsSince, refusal notInVersion)
+    ∷ (not (keyFine k), refusal badKey)
+    ∷ (not (valueFine v), refusal badValue)
+    ∷ (not (tableFine table count (tableOf es)), refusal wrongTable)
+    ∷ newFileCases buf table (newLines k v es) ls
+
+-- 22 where the used length passes the buffer, then the rest
+abbrev pub setCases : Lent → Setting → List Case
+setCases (lent buf used table count) (setting k v) =
+    (ltb (length buf) used, refusal lentTooShort) ∷ readCases buf table count k v (header (take used buf))
+
+abbrev pub refusalOf : SetOutcome → Option Refusal
+refusalOf (kept r) = some r
+refusalOf (changed l) = none
+
+-- ---- the statement
+
+pub record SettingsHold : Type 0 where
+  -- a buffer with a file whose header is accepted, the table and the count of its reading, and ANY list of settings
+  pub lists : (buf : List ℕ) (used : ℕ) (table : List ℕ) (es : List Entry) (gs : List Given) (ls : List Line)
+      → used ≤ length buf → header (take used buf) ≡ accepted es gs ls → take (length es) table ≡ tableOf es
+      → (ss : List Setting)
+      → let after = setKeys ss (lent buf used table (length es)) [] in Settled (take used buf) es gs ls (after .0) (after .1)
+  -- any setting, in such a list or not, is refused exactly when one of the cases holds, by the first of them
+  pub cases : (l : Lent) (s : Setting) → refusalOf (setKey l s) ≡ firstCase (setCases l s)
