@@ -1,0 +1,11 @@
+-- Laws on plain lists and on the definitions, for the proofs of this crate.
+pub mod States
+pub mod Judging
+pub mod LineCuts
+pub mod Numbered
+pub mod Turns
+pub mod FirstLine
+pub mod Tables
+pub mod Calls
+pub mod Finding
+pub mod Values

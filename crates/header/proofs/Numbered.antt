@@ -1,0 +1,123 @@
+-- No refusal has the number 0.
+-- Assumes nothing.
+use Prim.Native.Nat.{ℕ, _+_, _<_}
+use native.Mathlib.Omega.{arith}
+use mathlib.Core.Bool.{Bool, true, false, not}
+use mathlib.Core.List.{List, [], _∷_}
+use mathlib.Core.Option.{Option, none, some}
+use lib.Dec.{eqb, ltb}
+use lib.ListN.{length}
+use Rattle.format.specs.Bytes.{if_then_else_, every, HASH}
+use Rattle.format.specs.Limits.{maxFile, maxHeader, maxLines, maxExtent}
+use Rattle.format.specs.Refusals.{fileTooLong, headerTooLong, tooManyLines, badByte, notInVersion, repeatedField, outOfOrder, badDescriptor, noEnd, missingField, extentTooLarge, atLine, refusal}
+use Rattle.format.specs.Lines.{Line, size, text, lines}
+use Rattle.format.specs.Pairs.{plain, Marked, unmarked, fieldMark, pairMark, mark, unescape}
+use Rattle.format.specs.Fields.{fieldNamed, pairsSince, fieldSince, Given, isGiven, inOrder}
+use Rattle.format.specs.Descriptors.{descriptor, mayDescribe, hasNeeded, extentOf, isDetached}
+use Rattle.format.specs.Header.{Item, magic, comment, field, Entry, entry, versionOfLine, Judged, wrong, right, unescaped, onPair, onField, onMark, judge, Outcome, refused, accepted, withEntry, closes, afterItem, complete, onJudged, walk, afterMagic, fromFirst, header}
+
+-- ---- a line's
+
+abbrev pub Numbered : Judged → Type 0
+Numbered (wrong w) = 0 < w
+Numbered (right i) = Unit {0}
+
+module _ (version : ℕ) (gs : List Given) where
+  field-numbered : (f : Option ℕ) (rest : List ℕ) → Numbered (onField version gs f rest)
+  unfolding onField
+  field-numbered none rest = omega arith
+  field-numbered (some f) rest =
+      go (ltb version (fieldSince f)) (isGiven f gs) (inOrder f gs) (mayDescribe gs f (descriptor f rest))
+    where
+      go : (a b c d : Bool)
+          → Numbered
+          (if a then wrong notInVersion else if b then wrong repeatedField else if not c then wrong outOfOrder
+          else if not d then wrong badDescriptor else right (field f (descriptor f rest)))
+      go true b c d = omega arith
+      go false true c d = omega arith
+      go false false false d = omega arith
+      go false false true false = omega arith
+      go false false true true = tt
+
+  pair-numbered : (k v : List ℕ) → Numbered (onPair version k v)
+  unfolding onPair
+  pair-numbered [] v = omega arith
+  pair-numbered (b ∷ k) v = go (ltb version pairsSince) (unescape (b ∷ k)) (unescape v)
+    where
+      go : (a : Bool) (x y : Option (List ℕ)) → Numbered (if a then wrong notInVersion else unescaped x y)
+      go true x y = omega arith
+      go false none y = omega arith
+      go false (some k′) none = omega arith
+      go false (some k′) (some v′) = tt
+
+  pub judge-numbered : (t : List ℕ) → Numbered (judge version gs t)
+  unfolding judge
+  judge-numbered [] = tt
+  judge-numbered (b ∷ t) = go (eqb b HASH) (every plain (b ∷ t)) (mark (b ∷ t))
+    where
+      go : (x y : Bool) (m : Marked)
+          → Numbered (if x then right comment else if not y then wrong badByte else onMark version gs m)
+      go true y m = tt
+      go false false m = omega arith
+      go false true unmarked = omega arith
+      go false true (fieldMark name rest) = field-numbered (fieldNamed name) rest
+      go false true (pairMark k v) = pair-numbered k v
+
+-- ---- the reading's
+
+abbrev pub NumberedOutcome : Outcome → Type 0
+NumberedOutcome (refused r) = 0 < r .number
+NumberedOutcome (accepted es gs ls) = Unit {0}
+
+entry-numbered : (e : Entry) (o : Outcome) → NumberedOutcome o → NumberedOutcome (withEntry e o)
+entry-numbered e (refused r) h = h
+entry-numbered e (accepted es gs ls) h = tt
+
+complete-numbered : (gs : List Given) (ls : List Line) → NumberedOutcome (complete gs ls)
+unfolding complete
+complete-numbered gs ls = go (hasNeeded gs) (ltb maxExtent (extentOf gs))
+  where
+    go : (a b : Bool) → NumberedOutcome (if not a then refused (refusal missingField) else if b then refused (refusal extentTooLarge) else accepted [] gs ls)
+    go false b = omega arith
+    go true true = omega arith
+    go true false = tt
+
+walk-numbered : (version : ℕ) (ls : List Line) (n at : ℕ) (gs : List Given) → NumberedOutcome (walk version n at gs ls)
+unfolding walk
+walk-numbered version [] n at gs = go (isDetached gs)
+  where
+    go : (x : Bool) → NumberedOutcome (if x then complete gs [] else refused (refusal noEnd))
+    go true = complete-numbered gs []
+    go false = omega arith
+walk-numbered version (l ∷ ls) n at gs =
+    go (ltb maxHeader (at + size l)) (ltb maxLines n) (judge version gs (text l)) (judge-numbered version gs (text l))
+    (λ i. walk-numbered version ls (n + 1) (at + size l) (afterItem i gs))
+  where
+    after : Item → Outcome
+    after i = walk version (n + 1) (at + size l) (afterItem i gs) ls
+
+    close : (i : Item) → NumberedOutcome (after i) → (x : Bool) → NumberedOutcome (if x then complete gs ls else after i)
+    close i h true = complete-numbered gs ls
+    close i h false = h
+
+    go : (x y : Bool) (j : Judged) → Numbered j → ((i : Item) → NumberedOutcome (after i))
+        → NumberedOutcome
+        (if x then refused (atLine headerTooLong n) else if y then refused (atLine tooManyLines n)
+        else onJudged n l j (λ i. if closes i then complete gs ls else after i))
+    go true y j h r = omega arith
+    go false true j h r = omega arith
+    go false false (wrong w) h r = h
+    go false false (right i) h r = entry-numbered (entry l i) (if closes i then complete gs ls else after i) (close i (r i) (closes i))
+
+pub header-numbered : (file : List ℕ) → NumberedOutcome (header file)
+unfolding header
+header-numbered file = go (ltb maxFile (length file)) (lines file)
+  where
+    one : (l : Line) (ls : List Line) (o : Option ℕ) → NumberedOutcome (afterMagic l o ls)
+    one l ls none = omega arith
+    one l ls (some v) = entry-numbered (entry l (magic v)) (walk v 2 (size l) [] ls) (walk-numbered v ls 2 (size l) [])
+
+    go : (x : Bool) (ls : List Line) → NumberedOutcome (if x then refused (refusal fileTooLong) else fromFirst ls)
+    go true ls = omega arith
+    go false [] = omega arith
+    go false (l ∷ ls) = one l ls (versionOfLine l)

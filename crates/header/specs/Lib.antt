@@ -1,0 +1,4 @@
+pub mod States
+pub mod Spans
+pub mod Tables
+pub mod Lookup

@@ -1,0 +1,118 @@
+// The reading of a header: line 1, the lines after it, and the table of lines.
+use crate::lines::Span;
+use format::ReadAnswer;
+ghost use mathlib.Core.Path.{_≡_};
+ghost use mathlib.Core.List.{List, []};
+ghost use Prim.Native.Nat.{ℕ, _≤_};
+ghost use lib.ListN.{length, drop};
+ghost use Rattle.format.specs.declared.ReadAnswer.{ReadAnswer};
+ghost use Rattle.format.specs.Bytes.{orDefault};
+ghost use Rattle.format.specs.Limits.{maxHeader};
+ghost use Rattle.format.specs.Lines.{lines};
+ghost use Rattle.format.specs.Header.{magicVersion, walk};
+ghost use Rattle.format.specs.Calls.{readHeaderCall, readCall};
+ghost use Rattle.header.specs.States.{answerFrom};
+
+// The version of a magic, 0 for any other text.
+pub fn magic_version(t: &[u8]) -> u32
+    ensures { λ r. ⌜ r ≡ orDefault 0 (magicVersion (now (t .entry))) ⌝ }
+{
+    if text::bytes::is_same(t, b"NRRD0001") {
+        return 1;
+    }
+    if text::bytes::is_same(t, b"NRRD00.01") {
+        return 1;
+    }
+    if text::bytes::is_same(t, b"NRRD0002") {
+        return 2;
+    }
+    if text::bytes::is_same(t, b"NRRD0003") {
+        return 3;
+    }
+    if text::bytes::is_same(t, b"NRRD0004") {
+        return 4;
+    }
+    if text::bytes::is_same(t, b"NRRD0005") {
+        return 5;
+    }
+    0
+}
+
+// The lines after line 1, which ends at `from`.
+fn read_lines(file: &[u8], from: usize, version: u32) -> ReadAnswer
+    requires { ⌜ (from ≤ length (now file)) × (from ≤ maxHeader) ⌝ }
+    ensures { λ r. ⌜ r ≡ answerFrom version 2 from (walk version 2 from [] (lines (drop from (now (file .entry))))) ⌝ }
+{
+    let mut state = crate::state::start(version);
+    let mut at = from;
+    let mut n: u32 = 2;
+    while at < file.len() {
+        match crate::lines::line_at(file, at) {
+            Span::Past => {
+                return crate::state::refuse(3, n);
+            }
+            Span::Found(text_end, next) => {
+                if 1024 < n {
+                    return crate::state::refuse(4, n);
+                }
+                let step = crate::judge::judge_line(state, &file[at..text_end]);
+                if step.wrong != 0 {
+                    return crate::state::refuse(step.wrong, n);
+                }
+                if step.closes {
+                    return crate::state::finish(state, next, n);
+                }
+                state = step.state;
+                at = next;
+                n += 1;
+            }
+        }
+    }
+    if state.given[7] {
+        return crate::state::finish(state, at, n - 1);
+    }
+    crate::state::refuse(13, 0)
+}
+
+// The reading of a file's header, without the table.
+pub fn read_header(file: &[u8]) -> ReadAnswer
+    ensures { λ r. ⌜ r ≡ readHeaderCall (now (file .entry)) ⌝ }
+{
+    if 4294967295 < file.len() {
+        return crate::state::refuse(1, 0);
+    }
+    if file.len() == 0 {
+        return crate::state::refuse(2, 1);
+    }
+    match crate::lines::line_at(file, 0) {
+        Span::Past => {
+            return crate::state::refuse(2, 1);
+        }
+        Span::Found(text_end, next) => {
+            if text_end == next {
+                return crate::state::refuse(2, 1);
+            }
+            let version = magic_version(&file[0..text_end]);
+            if version == 0 {
+                return crate::state::refuse(2, 1);
+            }
+            return read_lines(file, next, version);
+        }
+    }
+}
+
+// The reading of a file's header, and where each of its lines starts, at the front of the table.
+pub fn read(file: &[u8], table: &mut [u32]) -> ReadAnswer
+    ensures { λ r. ⌜ _≡_ {A = ReadAnswer × List ℕ} (r, now (table .exit)) (readCall (now (file .entry)) (now (table .entry))) ⌝ }
+{
+    let answer = read_header(file);
+    if answer.refusal.number != 0 {
+        return answer;
+    }
+    let count = answer.reading.lines as usize;
+    if table.len() < count {
+        return crate::state::refuse(22, 0);
+    }
+    crate::table::fill_table(file, table, count);
+    answer
+}
