@@ -16,9 +16,9 @@ use Rattle.format.specs.Header.{magic, entry, magicVersion, versionOfLine, Outc
 use Rattle.format.specs.Calls.{readAnswer, readHeaderCall}
 use Rattle.format.proofs.Lines.{lines-none, length-unlines-cons}
 use Rattle.format.proofs.Header.{magic-line}
-use Rattle.header.specs.States.{answerFrom}
+use Rattle.fields.specs.States.{answerFrom}
 use Rattle.header.specs.Spans.{LineAt, PastAt}
-use Rattle.header.proofs.States.{reading-at}
+use Rattle.fields.proofs.States.{reading-at}
 use Rattle.header.proofs.Turns.{answerAt, refusedAt}
 
 -- ---- line 1

@@ -1,6 +1,4 @@
 -- Laws on plain lists and on the definitions, for the proofs of this crate.
-pub mod States
-pub mod Judging
 pub mod LineCuts
 pub mod Numbered
 pub mod Turns

@@ -1,4 +1,3 @@
-pub mod States
 pub mod Spans
 pub mod Tables
 pub mod Lookup

@@ -11,7 +11,7 @@ ghost use Rattle.format.specs.Limits.{maxHeader};
 ghost use Rattle.format.specs.Lines.{lines};
 ghost use Rattle.format.specs.Header.{magicVersion, walk};
 ghost use Rattle.format.specs.Calls.{readHeaderCall, readCall};
-ghost use Rattle.header.specs.States.{answerFrom};
+ghost use Rattle.fields.specs.States.{answerFrom};
 
 // The version of a magic, 0 for any other text.
 pub fn magic_version(t: &[u8]) -> u32
@@ -43,24 +43,24 @@ fn read_lines(file: &[u8], from: usize, version: u32) -> ReadAnswer
     requires { ⌜ (from ≤ length (now file)) × (from ≤ maxHeader) ⌝ }
     ensures { λ r. ⌜ r ≡ answerFrom version 2 from (walk version 2 from [] (lines (drop from (now (file .entry))))) ⌝ }
 {
-    let mut state = crate::state::start(version);
+    let mut state = fields::state::start(version);
     let mut at = from;
     let mut n: u32 = 2;
     while at < file.len() {
         match crate::lines::line_at(file, at) {
             Span::Past => {
-                return crate::state::refuse(3, n);
+                return fields::state::refuse(3, n);
             }
             Span::Found(text_end, next) => {
                 if 1024 < n {
-                    return crate::state::refuse(4, n);
+                    return fields::state::refuse(4, n);
                 }
-                let step = crate::judge::judge_line(state, &file[at..text_end]);
+                let step = fields::judge::judge_line(state, &file[at..text_end]);
                 if step.wrong != 0 {
-                    return crate::state::refuse(step.wrong, n);
+                    return fields::state::refuse(step.wrong, n);
                 }
                 if step.closes {
-                    return crate::state::finish(state, next, n);
+                    return fields::state::finish(state, next, n);
                 }
                 state = step.state;
                 at = next;
@@ -69,9 +69,9 @@ fn read_lines(file: &[u8], from: usize, version: u32) -> ReadAnswer
         }
     }
     if state.given[7] {
-        return crate::state::finish(state, at, n - 1);
+        return fields::state::finish(state, at, n - 1);
     }
-    crate::state::refuse(13, 0)
+    fields::state::refuse(13, 0)
 }
 
 // The reading of a file's header, without the table.
@@ -79,22 +79,22 @@ pub fn read_header(file: &[u8]) -> ReadAnswer
     ensures { λ r. ⌜ r ≡ readHeaderCall (now (file .entry)) ⌝ }
 {
     if 4294967295 < file.len() {
-        return crate::state::refuse(1, 0);
+        return fields::state::refuse(1, 0);
     }
     if file.len() == 0 {
-        return crate::state::refuse(2, 1);
+        return fields::state::refuse(2, 1);
     }
     match crate::lines::line_at(file, 0) {
         Span::Past => {
-            return crate::state::refuse(2, 1);
+            return fields::state::refuse(2, 1);
         }
         Span::Found(text_end, next) => {
             if text_end == next {
-                return crate::state::refuse(2, 1);
+                return fields::state::refuse(2, 1);
             }
             let version = magic_version(&file[0..text_end]);
             if version == 0 {
-                return crate::state::refuse(2, 1);
+                return fields::state::refuse(2, 1);
             }
             return read_lines(file, next, version);
         }
@@ -111,7 +111,7 @@ pub fn read(file: &[u8], table: &mut [u32]) -> ReadAnswer
     }
     let count = answer.reading.lines as usize;
     if table.len() < count {
-        return crate::state::refuse(22, 0);
+        return fields::state::refuse(22, 0);
     }
     crate::table::fill_table(file, table, count);
     answer

@@ -1,0 +1,3 @@
+-- Laws on the state and on judgements, for the proofs of this crate and of the reader.
+pub mod States
+pub mod Judging

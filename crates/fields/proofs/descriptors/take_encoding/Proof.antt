@@ -1,0 +1,40 @@
+-- `fields::take_encoding` meets its contract. Assumes nothing.
+use mathlib.Core.Path.{sym, ap, _∙_}
+use native.Mathlib.Omega.{arith}
+use Rattle.format.specs.Bytes.{orDefault}
+use Rattle.format.specs.Fields.{encoding}
+use Rattle.format.specs.Descriptors.{encodingNamed, mayDescribe}
+use Rattle.fields.proofs.States.{refused-is, taken-is, row-is, row-unknown}
+use borrow.Author.Needs.{needs}
+use Rattle.fields.proofs.descriptors.take_encoding.Statement.{statement}
+use Rattle.fields.proofs.descriptors.take_encoding.Tie as tie
+
+encoding-named-requires : tie.Need-encoding-named-requires
+encoding-named-requires c κs = search needs
+
+enum-known-x : tie.Need-enum-known-x
+enum-known-x c = search needs
+
+element-write-next : tie.Need-element-write-next
+element-write-next c = search needs
+
+enum-told : tie.Need-enum-told
+enum-told c = search needs
+
+returns : tie.Need-returns
+unfolding mayDescribe
+returns c gs h =
+    let t = c .before .before .before .before .before .args .t .now in
+    let e = row-is (encodingNamed t) _ (sym (c .before .x .given .1) ∙ c .before .before .before .encoding-named .ensures) in
+    rw (sym (ap (orDefault 0) e)) (taken-is h encoding t (omega arith) (rw e))
+
+returns-2 : tie.Need-returns-2
+unfolding mayDescribe
+returns-2 c gs h =
+    let t = c .before .before .before .before .args .t .now in
+    refused-is h encoding t (rw (row-unknown (encodingNamed t) (sym (c .enum-told .given .1) ∙ c .before .before .encoding-named .ensures)))
+
+pub take-encoding-spec : {M : Type 1} → statement M
+take-encoding-spec =
+    tie.close
+    (tie.spec encoding-named-requires enum-known-x element-write-next enum-told returns returns-2)

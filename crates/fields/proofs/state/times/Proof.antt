@@ -1,0 +1,40 @@
+-- `state::times` meets its contract. Assumes nothing.
+use Prim.Native.Nat.{_≤_, _*_}
+use native.Mathlib.Nat.{zero-mul, mul-zero, mul-comm, mul-le-mul}
+use native.Mathlib.Omega.{arith}
+use borrow.Author.Needs.{needs}
+use Rattle.fields.proofs.States.{times-right}
+use Rattle.fields.proofs.state.times.Statement.{statement}
+use Rattle.fields.proofs.state.times.Tie as tie
+
+returns : tie.Need-returns
+returns c = rw (c .if1 .taken, zero-mul)
+
+returns-2 : tie.Need-returns-2
+returns-2 c = rw (c .if2 .taken, mul-zero)
+
+returns-3 : tie.Need-returns-3
+returns-3 c =
+    let p = c .before .before .before .args in
+    omega (arith, mul-comm (p .a) (p .b), times-right (p .b) (p .a) 4294967296 (omega arith) (c .if3 .taken))
+
+returns-4 : tie.Need-returns-4
+returns-4 c =
+    let p = c .before .before .before .before .args in
+    omega (arith, times-right (p .a) (p .b) 4294967296 (omega arith) (c .if4 .taken))
+
+mul-p : tie.Need-mul-p
+mul-p c =
+    let a = c .before .before .before .before .args .a in
+    let b = c .before .before .before .before .args .b in
+    let l : a * b ≤ 4294967295 * 4294967295 = mul-le-mul {n₁ = a} {m₁ = b} {n₂ = 4294967295} {m₂ = 4294967295} (omega arith) (omega arith) in
+    search needs
+
+returns-5 : tie.Need-returns-5
+returns-5 c = omega arith
+
+returns-6 : tie.Need-returns-6
+returns-6 c = omega arith
+
+pub times-spec : {M : Type 1} → statement M
+times-spec = tie.close (tie.spec returns returns-2 returns-3 returns-4 mul-p returns-5 returns-6)

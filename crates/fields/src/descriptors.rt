@@ -1,0 +1,236 @@
+// The descriptors of the fields: a field sets its flag and its value, or is refused and changes nothing.
+use crate::state::State;
+use crate::state::Step;
+use text::numbers::Number;
+use text::words::Row;
+ghost use mathlib.Core.Path.{_≡_};
+ghost use mathlib.Core.List.{List};
+ghost use Prim.Native.Nat.{ℕ, _<_, _≤_};
+ghost use Rattle.format.specs.Fields.{Given, dimension, type, encoding, endian, sizes, lineSkip, byteSkip, dataFile};
+ghost use Rattle.fields.specs.States.{Holds, described, stepOf, fieldCount};
+
+// Dimension: 1 to 16.
+fn take_dimension(state: State, t: &[u8]) -> Step
+    ensures { λ r. ⌜ ((gs : List Given) → Holds state gs → r ≡ stepOf (state .version) gs (described gs dimension (now (t .entry)))) ⌝ }
+{
+    let refused = Step {
+        wrong: 11,
+        closes: false,
+        state: state,
+    };
+    let x = text::numbers::read_number(t);
+    match x {
+        Number::Value(n) => {
+            if n < 1 {
+                return refused;
+            }
+            if 16 < n {
+                return refused;
+            }
+            let mut next = state;
+            next.given[0] = true;
+            next.dimension = n as u32;
+            Step {
+                wrong: 0,
+                closes: false,
+                state: next,
+            }
+        }
+        Number::Wrong => refused,
+    }
+}
+
+// Type: the name of one.
+fn take_type(state: State, t: &[u8]) -> Step
+    ensures { λ r. ⌜ ((gs : List Given) → Holds state gs → r ≡ stepOf (state .version) gs (described gs type (now (t .entry)))) ⌝ }
+{
+    let x = text::words::type_named(t);
+    match x {
+        Row::Number(n) => {
+            let mut next = state;
+            next.given[1] = true;
+            next.sampletype = n;
+            Step {
+                wrong: 0,
+                closes: false,
+                state: next,
+            }
+        }
+        Row::Unknown => Step {
+            wrong: 11,
+            closes: false,
+            state: state,
+        },
+    }
+}
+
+// Encoding: the name of one.
+fn take_encoding(state: State, t: &[u8]) -> Step
+    ensures { λ r. ⌜ ((gs : List Given) → Holds state gs → r ≡ stepOf (state .version) gs (described gs encoding (now (t .entry)))) ⌝ }
+{
+    let x = text::words::encoding_named(t);
+    match x {
+        Row::Number(n) => {
+            let mut next = state;
+            next.given[2] = true;
+            next.encoding = n;
+            Step {
+                wrong: 0,
+                closes: false,
+                state: next,
+            }
+        }
+        Row::Unknown => Step {
+            wrong: 11,
+            closes: false,
+            state: state,
+        },
+    }
+}
+
+// Endian: the name of one.
+fn take_endian(state: State, t: &[u8]) -> Step
+    ensures { λ r. ⌜ ((gs : List Given) → Holds state gs → r ≡ stepOf (state .version) gs (described gs endian (now (t .entry)))) ⌝ }
+{
+    let x = text::words::endian_named(t);
+    match x {
+        Row::Number(n) => {
+            let mut next = state;
+            next.given[3] = true;
+            next.endian = n;
+            Step {
+                wrong: 0,
+                closes: false,
+                state: next,
+            }
+        }
+        Row::Unknown => Step {
+            wrong: 11,
+            closes: false,
+            state: state,
+        },
+    }
+}
+
+// Sizes: one for each axis, 1 to 4,294,967,295.
+fn take_sizes(state: State, t: &[u8]) -> Step
+    ensures { λ r. ⌜ ((gs : List Given) → Holds state gs → r ≡ stepOf (state .version) gs (described gs sizes (now (t .entry)))) ⌝ }
+{
+    let x = text::numbers::read_sizes(t, state.dimension as usize);
+    if !x.fine {
+        return Step {
+            wrong: 11,
+            closes: false,
+            state: state,
+        };
+    }
+    let mut next = state;
+    next.given[4] = true;
+    let read = x.sizes;
+    next.sizes = read;
+    Step {
+        wrong: 0,
+        closes: false,
+        state: next,
+    }
+}
+
+// Line skip: 0 to 4,294,967,295.
+fn take_line_skip(state: State, t: &[u8]) -> Step
+    ensures { λ r. ⌜ ((gs : List Given) → Holds state gs → r ≡ stepOf (state .version) gs (described gs lineSkip (now (t .entry)))) ⌝ }
+{
+    let x = text::numbers::read_number(t);
+    match x {
+        Number::Value(n) => {
+            let mut next = state;
+            next.given[5] = true;
+            next.lineskip = n;
+            Step {
+                wrong: 0,
+                closes: false,
+                state: next,
+            }
+        }
+        Number::Wrong => Step {
+            wrong: 11,
+            closes: false,
+            state: state,
+        },
+    }
+}
+
+// Byte skip: 0 to 4,294,967,295.
+fn take_byte_skip(state: State, t: &[u8]) -> Step
+    ensures { λ r. ⌜ ((gs : List Given) → Holds state gs → r ≡ stepOf (state .version) gs (described gs byteSkip (now (t .entry)))) ⌝ }
+{
+    let x = text::numbers::read_number(t);
+    match x {
+        Number::Value(n) => {
+            let mut next = state;
+            next.given[6] = true;
+            next.byteskip = n;
+            Step {
+                wrong: 0,
+                closes: false,
+                state: next,
+            }
+        }
+        Number::Wrong => Step {
+            wrong: 11,
+            closes: false,
+            state: state,
+        },
+    }
+}
+
+// Data file: one name.
+fn take_data_file(state: State, t: &[u8]) -> Step
+    ensures { λ r. ⌜ ((gs : List Given) → Holds state gs → r ≡ stepOf (state .version) gs (described gs dataFile (now (t .entry)))) ⌝ }
+{
+    if !crate::judge::is_name(t) {
+        return Step {
+            wrong: 11,
+            closes: false,
+            state: state,
+        };
+    }
+    let mut next = state;
+    next.given[7] = true;
+    Step {
+        wrong: 0,
+        closes: false,
+        state: next,
+    }
+}
+
+// A carried field, whatever its descriptor.
+fn take_carried(state: State, f: u32) -> Step
+    ensures { λ r. ⌜ ((gs : List Given) (t : List ℕ) → Holds state gs → 8 ≤ f → f < fieldCount → r ≡ stepOf (state .version) gs (described gs f t)) ⌝ }
+{
+    let mut next = state;
+    if f < 30 {
+        next.given[f as usize] = true;
+    }
+    Step {
+        wrong: 0,
+        closes: false,
+        state: next,
+    }
+}
+
+// The field f with the descriptor t.
+pub fn take_field(state: State, f: u32, t: &[u8]) -> Step
+    ensures { λ r. ⌜ ((gs : List Given) → Holds state gs → f < fieldCount → r ≡ stepOf (state .version) gs (described gs f (now (t .entry)))) ⌝ }
+{
+    match f {
+        0 => take_dimension(state, t),
+        1 => take_type(state, t),
+        2 => take_encoding(state, t),
+        3 => take_endian(state, t),
+        4 => take_sizes(state, t),
+        5 => take_line_skip(state, t),
+        6 => take_byte_skip(state, t),
+        7 => take_data_file(state, t),
+        _ => take_carried(state, f),
+    }
+}

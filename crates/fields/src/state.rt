@@ -1,0 +1,179 @@
+// What the fields given so far say: the reader's state, by value.
+use format::ReadAnswer;
+use format::Reading;
+use format::Refusal;
+ghost use mathlib.Core.Path.{_≡_};
+ghost use mathlib.Core.Bool.{true};
+ghost use mathlib.Core.List.{List, []};
+ghost use Prim.Native.Nat.{_*_};
+ghost use Rattle.format.specs.Refusals.{atLine};
+ghost use Rattle.format.specs.Fields.{Given, isGiven, sizes};
+ghost use Rattle.format.specs.Descriptors.{sampleBytes, endianNeeded, hasNeeded, product, extentOf};
+ghost use Rattle.format.specs.Header.{refused};
+ghost use Rattle.format.specs.Calls.{readAnswer};
+ghost use Rattle.fields.specs.States.{stateOf, Holds, capped, finished};
+
+pub struct State {
+    pub version: u32,
+    // whether each field is given
+    pub given: [bool; 30],
+    pub dimension: u32,
+    pub sampletype: u32,
+    pub encoding: u32,
+    pub endian: u32,
+    pub sizes: [u64; 16],
+    pub lineskip: u64,
+    pub byteskip: u64,
+}
+
+// What a line comes to: the number of its refusal or 0, whether it closes the header, and the state after it.
+pub struct Step {
+    pub wrong: u32,
+    pub closes: bool,
+    pub state: State,
+}
+
+// The bytes of a sample of each type.
+const SAMPLE_BYTES: [u64; 10] = [1, 1, 2, 2, 4, 4, 8, 8, 4, 8];
+
+// No field is given.
+pub fn start(version: u32) -> State
+    ensures { λ r. ⌜ r ≡ stateOf version [] ⌝ }
+{
+    State {
+        version: version,
+        given: [false; 30],
+        dimension: 0,
+        sampletype: 0,
+        encoding: 0,
+        endian: 2,
+        sizes: [0u64; 16],
+        lineskip: 0,
+        byteskip: 0,
+    }
+}
+
+// A refusal at a line, 0 where no line is meant.
+pub fn refuse(number: u32, line: u32) -> ReadAnswer
+    ensures { λ r. ⌜ r ≡ readAnswer (refused (atLine number line)) ⌝ }
+{
+    ReadAnswer {
+        refusal: Refusal {
+            number: number,
+            line: line,
+        },
+        reading: Reading {
+            version: 0,
+            form: 0,
+            dimension: 0,
+            sampletype: 0,
+            encoding: 0,
+            endian: 0,
+            sizes: [0u64; 16],
+            lineskip: 0,
+            byteskip: 0,
+            extent: 0,
+            length: 0,
+            lines: 0,
+        },
+    }
+}
+
+// The bytes of a sample of type t.
+pub fn sample_bytes(t: u32) -> u64
+    ensures { λ r. ⌜ r ≡ sampleBytes t ⌝ }
+{
+    if t < 10 { SAMPLE_BYTES[t as usize] } else { 1 }
+}
+
+// Whether the order of a sample's bytes matters: raw or hex samples of several bytes.
+fn endian_needed(t: u32, e: u32) -> bool
+    ensures { λ r. ⌜ r ≡ endianNeeded t e ⌝ }
+{
+    (1 < sample_bytes(t)) & ((e == 0) | (e == 2))
+}
+
+// Whether the fields that are needed are given.
+pub fn has_needed(state: State) -> bool
+    ensures { λ r. ⌜ ((gs : List Given) → Holds state gs → r ≡ hasNeeded gs) ⌝ }
+{
+    let endian = state.given[3] | !endian_needed(state.sampletype, state.encoding);
+    state.given[0] & (state.given[1] & (state.given[2] & (state.given[4] & endian)))
+}
+
+// A product, or 2 to the 32 for all that are above it: no factors overflow.
+fn times(a: u64, b: u64) -> u64
+    ensures { λ r. ⌜ r ≡ capped (a * b) ⌝ }
+{
+    if a == 0 {
+        return 0;
+    }
+    if b == 0 {
+        return 0;
+    }
+    if 4294967296 <= a {
+        return 4294967296;
+    }
+    if 4294967296 <= b {
+        return 4294967296;
+    }
+    let p = a * b;
+    if p < 4294967296 { p } else { 4294967296 }
+}
+
+// The product of the sizes, or 2 to the 32 where it is above.
+fn product_of(sizes: &[u64]) -> u64
+    ensures { λ r. ⌜ r ≡ capped (product (now (sizes .entry))) ⌝ }
+{
+    let mut p: u64 = 1;
+    let mut i: usize = 0;
+    while i < sizes.len() {
+        p = times(sizes[i], p);
+        i += 1;
+    }
+    p
+}
+
+// The extent, or 2 to the 32 where it is above.
+fn extent(state: State) -> u64
+    ensures { λ r. ⌜ ((gs : List Given) → Holds state gs → isGiven sizes gs ≡ true → r ≡ capped (extentOf gs)) ⌝ }
+{
+    let sizes = state.sizes;
+    let n = state.dimension as usize;
+    // no header has more axes
+    if 16 < n {
+        return 0;
+    }
+    times(sample_bytes(state.sampletype), product_of(&sizes[..n]))
+}
+
+// The answer at the end of a header of so many bytes and lines.
+pub fn finish(state: State, bytes: usize, count: u32) -> ReadAnswer
+    ensures { λ r. ⌜ ((gs : List Given) → Holds state gs → r ≡ finished (state .version) gs bytes count) ⌝ }
+{
+    if !has_needed(state) {
+        return refuse(14, 0);
+    }
+    let x = extent(state);
+    if 4294967295 < x {
+        return refuse(15, 0);
+    }
+    let sizes = state.sizes;
+    ReadAnswer {
+        refusal: Refusal { number: 0, line: 0 },
+        reading: Reading {
+            version: state.version,
+            form: state.given[7] as u32,
+            dimension: state.dimension,
+            sampletype: state.sampletype,
+            encoding: state.encoding,
+            endian: state.endian,
+            sizes: sizes,
+            lineskip: state.lineskip,
+            byteskip: state.byteskip,
+            extent: x,
+            length: bytes as u64,
+            lines: count,
+        },
+    }
+}
