@@ -14,7 +14,7 @@ fn take_dimension(state: State, t: &[u8]) -> Step
     ensures { λ r. ⌜ ((gs : List Given) → Holds state gs → r ≡ stepOf (state .version) gs (described gs dimension (now (t .entry)))) ⌝ }
 {
     let refused = Step {
-        wrong: 11,
+        wrong: format::BAD_DESCRIPTOR,
         closes: false,
         state: state,
     };
@@ -24,7 +24,7 @@ fn take_dimension(state: State, t: &[u8]) -> Step
             if n < 1 {
                 return refused;
             }
-            if 16 < n {
+            if format::MAX_AXES < n {
                 return refused;
             }
             let mut next = state;
@@ -57,7 +57,7 @@ fn take_type(state: State, t: &[u8]) -> Step
             }
         }
         Row::Unknown => Step {
-            wrong: 11,
+            wrong: format::BAD_DESCRIPTOR,
             closes: false,
             state: state,
         },
@@ -81,7 +81,7 @@ fn take_encoding(state: State, t: &[u8]) -> Step
             }
         }
         Row::Unknown => Step {
-            wrong: 11,
+            wrong: format::BAD_DESCRIPTOR,
             closes: false,
             state: state,
         },
@@ -105,7 +105,7 @@ fn take_endian(state: State, t: &[u8]) -> Step
             }
         }
         Row::Unknown => Step {
-            wrong: 11,
+            wrong: format::BAD_DESCRIPTOR,
             closes: false,
             state: state,
         },
@@ -119,7 +119,7 @@ fn take_sizes(state: State, t: &[u8]) -> Step
     let x = text::numbers::read_sizes(t, state.dimension as usize);
     if !x.fine {
         return Step {
-            wrong: 11,
+            wrong: format::BAD_DESCRIPTOR,
             closes: false,
             state: state,
         };
@@ -152,7 +152,7 @@ fn take_line_skip(state: State, t: &[u8]) -> Step
             }
         }
         Number::Wrong => Step {
-            wrong: 11,
+            wrong: format::BAD_DESCRIPTOR,
             closes: false,
             state: state,
         },
@@ -176,7 +176,7 @@ fn take_byte_skip(state: State, t: &[u8]) -> Step
             }
         }
         Number::Wrong => Step {
-            wrong: 11,
+            wrong: format::BAD_DESCRIPTOR,
             closes: false,
             state: state,
         },
@@ -189,7 +189,7 @@ fn take_data_file(state: State, t: &[u8]) -> Step
 {
     if !crate::judge::is_name(t) {
         return Step {
-            wrong: 11,
+            wrong: format::BAD_DESCRIPTOR,
             closes: false,
             state: state,
         };

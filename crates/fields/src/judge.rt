@@ -58,16 +58,16 @@ pub fn on_pair(version: u32, key: &[u8], value: &[u8]) -> u32
     ensures { λ r. ⌜ r ≡ wrongOf (onPair version (now (key .entry)) (now (value .entry))) ⌝ }
 {
     if key.len() == 0 {
-        return 6;
+        return format::NO_MARK;
     }
     if version < 2 {
-        return 8;
+        return format::NOT_IN_VERSION;
     }
     if !text::escapes::unescapes(key) {
-        return 12;
+        return format::BAD_BACKSLASH;
     }
     if !text::escapes::unescapes(value) {
-        return 12;
+        return format::BAD_BACKSLASH;
     }
     0
 }
@@ -142,14 +142,14 @@ fn on_known(state: State, f: u32, rest: &[u8]) -> Step
     ensures { λ r. ⌜ ((gs : List Given) → Holds state gs → r ≡ stepOf (state .version) gs (onField (state .version) gs (some f) (now (rest .entry)))) ⌝ }
 {
     if state.version < field_since(f) {
-        return refuse(state, 8);
+        return refuse(state, format::NOT_IN_VERSION);
     }
     let given = state.given;
     if given[f as usize] {
-        return refuse(state, 9);
+        return refuse(state, format::REPEATED_FIELD);
     }
     if !is_in_order(f, &given) {
-        return refuse(state, 10);
+        return refuse(state, format::OUT_OF_ORDER);
     }
     crate::descriptors::take_field(state, f, descriptor_of(f, rest))
 }
@@ -161,7 +161,7 @@ pub fn on_field(state: State, name: &[u8], rest: &[u8]) -> Step
     let row = text::words::field_named(name);
     match row {
         Row::Number(f) => on_known(state, f, rest),
-        Row::Unknown => refuse(state, 7),
+        Row::Unknown => refuse(state, format::UNKNOWN_FIELD),
     }
 }
 
@@ -173,7 +173,7 @@ fn on_mark(state: State, t: &[u8]) -> Step
     match m {
         Mark::Field(i) => on_field(state, &t[..i], &t[i + 2..]),
         Mark::Pair(i) => refuse(state, on_pair(state.version, &t[..i], &t[i + 2..])),
-        Mark::Nothing => refuse(state, 6),
+        Mark::Nothing => refuse(state, format::NO_MARK),
     }
 }
 
@@ -192,7 +192,7 @@ pub fn judge_line(state: State, t: &[u8]) -> Step
         return refuse(state, 0);
     }
     if !text::bytes::is_plain(t) {
-        return refuse(state, 5);
+        return refuse(state, format::BAD_BYTE);
     }
     on_mark(state, t)
 }

@@ -152,11 +152,11 @@ pub fn finish(state: State, bytes: usize, count: u32) -> ReadAnswer
     ensures { λ r. ⌜ ((gs : List Given) → Holds state gs → r ≡ finished (state .version) gs bytes count) ⌝ }
 {
     if !has_needed(state) {
-        return refuse(14, 0);
+        return refuse(format::MISSING_FIELD, 0);
     }
     let x = extent(state);
-    if 4294967295 < x {
-        return refuse(15, 0);
+    if format::MAX_EXTENT < x {
+        return refuse(format::EXTENT_TOO_LARGE, 0);
     }
     let sizes = state.sizes;
     ReadAnswer {

@@ -1,6 +1,6 @@
 -- The limits of document 01, each named once.
 use Prim.Native.Nat.{ℕ}
-use mathlib.Core.List.{List, [], _∷_}
+use Rattle.format.specs.declared.Limits.{Limits}
 
 -- no file is longer ("Numbers of refusal", 1)
 abbrev pub maxFile : ℕ
@@ -42,5 +42,6 @@ maxListed = 65_536
 abbrev pub maxSample : ℕ
 maxSample = 9_223_372_036_854_775_807
 
-abbrev pub limits : List ℕ
-limits = maxFile ∷ maxHeader ∷ maxLines ∷ maxAxes ∷ maxSize ∷ maxSkip ∷ maxExtent ∷ maxVersion ∷ maxListed ∷ maxSample ∷ []
+abbrev pub limits : Limits
+limits =
+    record { file = maxFile; header = maxHeader; lines = maxLines; axes = maxAxes; size = maxSize; skip = maxSkip; extent = maxExtent; version = maxVersion; listed = maxListed; sample = maxSample }

@@ -7,11 +7,11 @@ ghost use Rattle.format.specs.Refusals.{refusalNumbers};
 ghost use Rattle.format.specs.Trials.{StarredTrials};
 
 // The limits of document 01.
-pub const MAX_FILE: u64 = 4294967295;
+pub const MAX_FILE: usize = 4294967295;
 
-pub const MAX_HEADER: u64 = 65535;
+pub const MAX_HEADER: usize = 65535;
 
-pub const MAX_LINES: u64 = 1024;
+pub const MAX_LINES: u32 = 1024;
 
 pub const MAX_AXES: u64 = 16;
 
@@ -21,9 +21,9 @@ pub const MAX_SKIP: u64 = 4294967295;
 
 pub const MAX_EXTENT: u64 = 4294967295;
 
-pub const MAX_VERSION: u64 = 5;
+pub const MAX_VERSION: u32 = 5;
 
-pub const MAX_LISTED: u64 = 65536;
+pub const MAX_LISTED: usize = 65536;
 
 pub const MAX_SAMPLE: u64 = 9223372036854775807;
 
@@ -81,6 +81,20 @@ pub const BAD_VALUE: u32 = 25;
 pub const WRONG_TABLE: u32 = 26;
 
 pub const WRONG_COUNT: u32 = 27;
+
+// The limits together.
+pub struct Limits {
+    pub file: usize,
+    pub header: usize,
+    pub lines: u32,
+    pub axes: u64,
+    pub size: u64,
+    pub skip: u64,
+    pub extent: u64,
+    pub version: u32,
+    pub listed: usize,
+    pub sample: u64,
+}
 
 // A refusal: its number, and the line at which the reader met it (numbers 2 to 12); 0 where no line is meant. Number 0: nothing is refused.
 pub struct Refusal {
@@ -168,21 +182,21 @@ pub struct SetAnswer {
 }
 
 // The limits are those of the definitions.
-pub fn limits() -> [u64; 10]
+pub fn all_limits() -> Limits
     ensures { λ r. ⌜ r ≡ limits ⌝ }
 {
-    [
-        MAX_FILE,
-        MAX_HEADER,
-        MAX_LINES,
-        MAX_AXES,
-        MAX_SIZE,
-        MAX_SKIP,
-        MAX_EXTENT,
-        MAX_VERSION,
-        MAX_LISTED,
-        MAX_SAMPLE,
-    ]
+    Limits {
+        file: MAX_FILE,
+        header: MAX_HEADER,
+        lines: MAX_LINES,
+        axes: MAX_AXES,
+        size: MAX_SIZE,
+        skip: MAX_SKIP,
+        extent: MAX_EXTENT,
+        version: MAX_VERSION,
+        listed: MAX_LISTED,
+        sample: MAX_SAMPLE,
+    }
 }
 
 // The numbers of refusal are those of the definitions.

@@ -226,7 +226,7 @@ pub fn copy_value(file: &[u8], key: &[u8], out: &mut [u8]) -> ValueAnswer
     if out.len() < n {
         return ValueAnswer {
             refusal: Refusal {
-                number: 22,
+                number: format::LENT_TOO_SHORT,
                 line: 0,
             },
             found: false,

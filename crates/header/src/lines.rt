@@ -33,5 +33,9 @@ pub fn line_at(file: &[u8], at: usize) -> Span
 fn limit(n: usize) -> usize
     ensures { λ r. ⌜ r ≡ min n maxHeader ⌝ }
 {
-    if n < 65535 { n } else { 65535 }
+    if n < format::MAX_HEADER {
+        n
+    } else {
+        format::MAX_HEADER
+    }
 }

@@ -49,11 +49,11 @@ fn read_lines(file: &[u8], from: usize, version: u32) -> ReadAnswer
     while at < file.len() {
         match crate::lines::line_at(file, at) {
             Span::Past => {
-                return fields::state::refuse(3, n);
+                return fields::state::refuse(format::HEADER_TOO_LONG, n);
             }
             Span::Found(text_end, next) => {
-                if 1024 < n {
-                    return fields::state::refuse(4, n);
+                if format::MAX_LINES < n {
+                    return fields::state::refuse(format::TOO_MANY_LINES, n);
                 }
                 let step = fields::judge::judge_line(state, &file[at..text_end]);
                 if step.wrong != 0 {
@@ -71,30 +71,30 @@ fn read_lines(file: &[u8], from: usize, version: u32) -> ReadAnswer
     if state.given[7] {
         return fields::state::finish(state, at, n - 1);
     }
-    fields::state::refuse(13, 0)
+    fields::state::refuse(format::NO_END, 0)
 }
 
 // The reading of a file's header, without the table.
 pub fn read_header(file: &[u8]) -> ReadAnswer
     ensures { λ r. ⌜ r ≡ readHeaderCall (now (file .entry)) ⌝ }
 {
-    if 4294967295 < file.len() {
-        return fields::state::refuse(1, 0);
+    if format::MAX_FILE < file.len() {
+        return fields::state::refuse(format::FILE_TOO_LONG, 0);
     }
     if file.len() == 0 {
-        return fields::state::refuse(2, 1);
+        return fields::state::refuse(format::NO_MAGIC, 1);
     }
     match crate::lines::line_at(file, 0) {
         Span::Past => {
-            return fields::state::refuse(2, 1);
+            return fields::state::refuse(format::NO_MAGIC, 1);
         }
         Span::Found(text_end, next) => {
             if text_end == next {
-                return fields::state::refuse(2, 1);
+                return fields::state::refuse(format::NO_MAGIC, 1);
             }
             let version = magic_version(&file[0..text_end]);
             if version == 0 {
-                return fields::state::refuse(2, 1);
+                return fields::state::refuse(format::NO_MAGIC, 1);
             }
             return read_lines(file, next, version);
         }
@@ -111,7 +111,7 @@ pub fn read(file: &[u8], table: &mut [u32]) -> ReadAnswer
     }
     let count = answer.reading.lines as usize;
     if table.len() < count {
-        return fields::state::refuse(22, 0);
+        return fields::state::refuse(format::LENT_TOO_SHORT, 0);
     }
     crate::table::fill_table(file, table, count);
     answer
