@@ -1,0 +1,3 @@
+// The place of the data, its samples, and the number of a sample.
+pub mod axes;
+pub mod place;
