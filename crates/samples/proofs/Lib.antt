@@ -1,0 +1,5 @@
+pub mod HexLaws
+pub mod RawLaws
+pub mod WidthLaws
+pub mod TokenLaws
+pub mod WalkLaws

@@ -1,0 +1,4 @@
+pub mod Bits
+pub mod HexForms
+pub mod Tokens
+pub mod Widths
