@@ -21,7 +21,7 @@ pub const MAX_SKIP: u64 = 4294967295;
 
 pub const MAX_EXTENT: u64 = 4294967295;
 
-pub const MAX_VERSION: u32 = 5;
+pub const MAX_VERSION: u64 = 5;
 
 pub const MAX_LISTED: usize = 65536;
 
@@ -91,7 +91,7 @@ pub struct Limits {
     pub size: u64,
     pub skip: u64,
     pub extent: u64,
-    pub version: u32,
+    pub version: u64,
     pub listed: usize,
     pub sample: u64,
 }

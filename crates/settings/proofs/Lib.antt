@@ -1,3 +1,8 @@
-pub mod Entries
-pub mod Settled
-pub mod Lists
+pub mod Sets
+pub mod Shifting
+pub mod Escapes
+pub mod Held
+pub mod Placing
+pub mod Matching
+pub mod Planning
+pub mod Answers

@@ -1,9 +1,7 @@
-// Setting a key in place, and what every list of settings does.
-ghost use Rattle.settings.specs.Lists.{SettingsHold};
-
-// Every list of settings does what demand 3 says.
-pub fn settings_hold() -> u64
-    ensures { λ r. ⌜ SettingsHold ⌝ }
-{
-    0
-}
+// Setting a key in place: the buffer and the line table that are lent become those of the file with the key set.
+pub mod edit;
+pub mod moves;
+pub mod plan;
+pub mod set;
+pub mod tables;
+pub mod texts;

@@ -3,3 +3,4 @@ pub mod Skips
 pub mod Headers
 pub mod Located
 pub mod Numbers
+pub mod Parts

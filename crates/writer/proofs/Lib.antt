@@ -1,6 +1,7 @@
-pub mod Names
-pub mod Numbers
-pub mod Accepted
-pub mod Data
-pub mod Written
-pub mod ReadBack
+pub mod Runs
+pub mod Digits
+pub mod Signs
+pub mod Samples
+pub mod Refuse
+pub mod Header
+pub mod Whole

@@ -1,1 +1,1 @@
-pub mod RoundTrip
+pub mod Stored

@@ -1,0 +1,190 @@
+-- One setting, a list of settings, and the cases of refusal: the statement of specs/Lists.antt.
+-- Assumes nothing.
+use mathlib.Core.Path.{_≡_, refl, sym, _∙_}
+use Prim.Native.Nat.{ℕ, _≤_}
+use native.Mathlib.Omega.{arith}
+use mathlib.Core.Bool.{Bool, true, false, not, _||_}
+use mathlib.Core.List.{List, [], _∷_, _++_}
+use mathlib.Core.Option.{Option, none, some}
+use lib.Dec.{ltb}
+use lib.ListN.{length, take, length-append, length-map}
+use lib.Seq.{take-append-seam, take-at}
+use borrow.Author.Tests.{ltb-false, le-ltb, not-false}
+use Rattle.format.specs.declared.Refusal.{Refusal}
+use Rattle.format.specs.Bytes.{if_then_else_, orElse, over}
+use Rattle.format.specs.Limits.{maxFile, maxHeader, maxLines}
+use Rattle.format.specs.Lines.{Line, ending, unlines, starts}
+use Rattle.format.specs.Fields.{Given, pairsSince}
+use Rattle.format.specs.Header.{magic, Entry, entry, lineOf, linesOf, Outcome, refused, accepted, header, versionOf, valueOf, tableOf, headerLength}
+use Rattle.format.specs.Settings.{keyFine, valueFine, refilled, tableFine, Lent, lent, Setting, setting, SetOutcome, kept, changed, store, setRead, setKey, leaves, recorded, setKeys}
+use Rattle.format.proofs.Lines.{length-starts}
+use Rattle.format.proofs.Header.{header-sound, data-area}
+use Rattle.lists.specs.Lists.{bufferOf, usedOf, tableIn, countIn, fileIn, lastAccepted, Settled, Case, firstCase, readCases, setCases, refusalOf, SettingsHold}
+use Rattle.lists.proofs.Entries.{putEntries, lines-put, header-put}
+use Rattle.lists.proofs.Settled.{afterList, put-after-list, after-list-nil, lines-after-list, value-after-list}
+
+-- ---- what is lent
+
+-- a refilled buffer begins with the new file, and the file fits it
+take-refilled : (buf : List ℕ) (used : ℕ) (file : List ℕ) → take (length file) (refilled buf used file) ≡ file
+unfolding refilled
+take-refilled buf used file = take-append-seam file _
+
+refilled-fits : (buf : List ℕ) (used : ℕ) (file : List ℕ) → length file ≤ length (refilled buf used file)
+unfolding refilled
+refilled-fits buf used file = rw length-append (omega arith)
+
+-- what is lent holds a file whose header is accepted as the entries es, with the fields gs and before the lines ls; table and count are
+-- those of the header, and the file fits the buffer
+record Reads (x : Lent) (es : List Entry) (gs : List Given) (ls : List Line) : Type 0 where
+  reading : header (fileIn x) ≡ accepted es gs ls
+  count : countIn x ≡ length es
+  table : take (countIn x) (tableIn x) ≡ tableOf es
+  fits : usedOf x ≤ length (bufferOf x)
+
+-- so it does once a file with such a header is stored
+reads-stored : (buf : List ℕ) (used : ℕ) (table : List ℕ) (es : List Entry) (gs : List Given) (ls : List Line)
+    → header (unlines (linesOf es) ++ unlines ls) ≡ accepted es gs ls
+    → let file = unlines (linesOf es) ++ unlines ls in
+    Reads (lent (refilled buf used file) (length file) (over (starts 0 (linesOf es)) table) (length (linesOf es))) es gs ls
+reads-stored buf used table es gs ls e =
+    let file : List ℕ = unlines (linesOf es) ++ unlines ls in
+    record {
+      reading = rw (take-refilled buf used file) e;
+      count = length-map es lineOf;
+      table = take-at (starts 0 (linesOf es)) _ (length (linesOf es)) (length-starts 0 (linesOf es));
+      fits = refilled-fits buf used file;
+    }
+
+module _ (l : Line) (n : ℕ) (gs : List Given) (ls : List Line) where
+  -- ---- one setting
+
+  -- what holds after the setting of k to v, where the entries after line 1 were es
+  abbrev After : List Entry → List ℕ → List ℕ → SetOutcome → Type 0
+  After es k v (kept r) = Unit {0}
+  After es k v (changed x) = Reads x (entry l (magic n) ∷ putEntries k v (ending l) es) gs ls
+
+  -- it holds if the test refuses, or else if it holds of what follows the test
+  unless : (es : List Entry) (k v : List ℕ) (t : Bool) (r : Refusal) (o : SetOutcome) → (t ≡ false → After es k v o)
+      → After es k v (if t then kept r else o)
+  unless es k v true r o f = tt
+  unless es k v false r o f = f refl
+
+  -- it holds of every setting
+  set-after : (x : Lent) (es : List Entry) (k v : List ℕ) → Reads x (entry l (magic n) ∷ es) gs ls → After es k v (setKey x (setting k v))
+  unfolding setKey setRead store
+  set-after (lent buf used table count) es k v g =
+      let new : List Entry = entry l (magic n) ∷ putEntries k v (ending l) es in
+      let file : List ℕ = unlines (linesOf new) ++ unlines ls in
+      rw (le-ltb (length buf) used (g .fits), g .reading, lines-put k v l n es)
+      (unless es k v (ltb n pairsSince) _ _ λ since.
+      unless es k v (not (keyFine k)) _ _ λ key.
+      unless es k v (not (valueFine v)) _ _ λ value.
+      unless es k v (not (tableFine table count (tableOf (entry l (magic n) ∷ es)))) _ _ λ fine.
+      unless es k v (ltb maxHeader (headerLength new)) _ _ λ short.
+      unless es k v (ltb maxLines (length (linesOf new))) _ _ λ few.
+      unless es k v (ltb maxFile (length file)) _ _ λ small.
+      unless es k v (ltb (length buf) (length file) || ltb (length table) (length (linesOf new))) _ _ λ room.
+      reads-stored buf used table new gs ls
+      (header-put (take used buf) l n es gs ls k v (g .reading)
+      (ltb-false n pairsSince since) (not-false (keyFine k) key) (not-false (valueFine v) value)
+      (ltb-false maxHeader (headerLength new) short) (rw length-map at (ltb-false maxLines (length (linesOf new)) few))
+      (ltb-false maxFile (length file) small)))
+
+  -- ---- a list of settings
+
+  -- one more setting, refused or done, where `done` were accepted
+  step : (o : SetOutcome) (x : Lent) (done : List Setting) (es : List Entry) (k v : List ℕ)
+      → Reads x (entry l (magic n) ∷ afterList done (ending l) es) gs ls → After (afterList done (ending l) es) k v o
+      → Reads (leaves o x) (entry l (magic n) ∷ afterList (recorded o (setting k v) done) (ending l) es) gs ls
+  step (kept r) x done es k v g f = g
+  step (changed y) x done es k v g f = rw (put-after-list done k v (ending l) es) at f
+
+  -- every list
+  list-after : (ss : List Setting) (x : Lent) (done : List Setting) (es : List Entry)
+      → Reads x (entry l (magic n) ∷ afterList done (ending l) es) gs ls
+      → let after = setKeys ss x done in Reads (after .0) (entry l (magic n) ∷ afterList (after .1) (ending l) es) gs ls
+  unfolding setKeys
+  list-after [] x done es g = g
+  list-after (setting k v ∷ ss) x done es g =
+      let o : SetOutcome = setKey x (setting k v) in
+      list-after ss (leaves o x) (recorded o (setting k v) done) es
+      (step o x done es k v g (set-after x (afterList done (ending l) es) k v g))
+
+  -- what is lent after the accepted settings `done` is as stated
+  settled-is : (first : List ℕ) (x : Lent) (done : List Setting) (es : List Entry) → header first ≡ accepted (entry l (magic n) ∷ es) gs ls
+      → Reads x (entry l (magic n) ∷ afterList done (ending l) es) gs ls → Settled first (entry l (magic n) ∷ es) gs ls x done
+  unfolding valueOf
+  settled-is first x done es e g =
+      record {
+        entries = entry l (magic n) ∷ afterList done (ending l) es;
+        reading = g .reading;
+        version = refl;
+        values = λ k. rw (value-after-list done (ending l) es k) (or-none (lastAccepted k done) (valueOf k es));
+        count = g .count;
+        table = g .table;
+        lines = lines-after-list done l (magic n) es;
+        rest = data-area (fileIn x) (g .reading) ∙ sym (data-area first e);
+        fits = g .fits;
+      }
+    where
+      or-none : (o p : Option (List ℕ)) → orElse (orElse o p) none ≡ orElse o (orElse p none)
+      or-none none p = refl
+      or-none (some w) p = refl
+
+  -- the first part of the statement, where line 1 of the header is l
+  lists-from : (buf : List ℕ) (used : ℕ) (table : List ℕ) (es : List Entry) → used ≤ length buf
+      → header (take used buf) ≡ accepted (entry l (magic n) ∷ es) gs ls
+      → take (length (entry l (magic n) ∷ es)) table ≡ tableOf (entry l (magic n) ∷ es) → (ss : List Setting)
+      → let after = setKeys ss (lent buf used table (length (entry l (magic n) ∷ es))) [] in
+      Settled (take used buf) (entry l (magic n) ∷ es) gs ls (after .0) (after .1)
+  lists-from buf used table es h e t ss =
+      let x : Lent = lent buf used table (length (entry l (magic n) ∷ es)) in
+      settled-is (take used buf) (setKeys ss x [] .0) (setKeys ss x [] .1) es e
+      (list-after ss x [] es (rw (after-list-nil (ending l) es) (record { reading = e; count = refl; table = t; fits = h })))
+
+-- ---- the cases of refusal
+
+-- a test that refuses is the first case
+case-more : (t : Bool) (r : Refusal) (o : SetOutcome) (cs : List Case) → refusalOf o ≡ firstCase cs
+    → refusalOf (if t then kept r else o) ≡ firstCase ((t, r) ∷ cs)
+unfolding firstCase
+case-more true r o cs e = refl
+case-more false r o cs e = e
+
+-- a refused reading, and a setting that is done
+case-read : (r : Refusal) → some r ≡ firstCase ((true, r) ∷ [])
+unfolding firstCase
+case-read r = refl
+
+case-none : none ≡ firstCase []
+unfolding firstCase
+case-none = refl
+
+-- a setting after the reading, and the whole
+read-cases : (buf : List ℕ) (used : ℕ) (table : List ℕ) (count : ℕ) (k v : List ℕ) (o : Outcome)
+    → refusalOf (setRead buf used table count k v o) ≡ firstCase (readCases buf table count k v o)
+unfolding setRead store
+read-cases buf used table count k v (refused r) = case-read r
+read-cases buf used table count k v (accepted es gs ls) =
+    case-more (ltb (versionOf es) pairsSince) _ _ _
+    (case-more (not (keyFine k)) _ _ _
+    (case-more (not (valueFine v)) _ _ _
+    (case-more (not (tableFine table count (tableOf es))) _ _ _
+    (case-more _ _ _ _ (case-more _ _ _ _ (case-more _ _ _ _ (case-more _ _ _ _ case-none)))))))
+
+set-cases : (l : Lent) (s : Setting) → refusalOf (setKey l s) ≡ firstCase (setCases l s)
+unfolding setKey
+set-cases (lent buf used table count) (setting k v) =
+    case-more (ltb (length buf) used) _ _ _ (read-cases buf used table count k v (header (take used buf)))
+
+-- ---- the statement
+
+pub settings : SettingsHold
+settings = record {
+  lists = λ buf used table es gs ls h e t ss.
+      let x = header-sound (take used buf) e in
+      rw (x .entries)
+      (lists-from (x .first) (x .version) gs ls buf used table (x .rest) h (rw (x .entries) at e) (rw (x .entries) at t) ss);
+  cases = set-cases;
+}

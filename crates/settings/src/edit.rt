@@ -1,0 +1,77 @@
+// One edit of the file in a buffer: where a key's line goes, and the line put there.
+use header::lines::Span;
+ghost use mathlib.Core.Path.{_≡_};
+ghost use mathlib.Core.List.{List};
+ghost use Prim.Native.Nat.{_+_, _-_, _<_, _≤_};
+ghost use lib.ListN.{length, take};
+ghost use Rattle.format.specs.Lines.{Line};
+ghost use Rattle.format.specs.Fields.{Given};
+ghost use Rattle.format.specs.Header.{Entry, accepted, header};
+ghost use Rattle.format.specs.Settings.{pairText, refilled};
+ghost use Rattle.settings.specs.Edits.{edited, FirstAt, Placed};
+
+// The pair's text goes between the bytes before `from` and those from `to` on. With a new line `to` is below `from`: the ending of line 1
+// stands on both sides of the text.
+pub struct Place {
+    pub from: usize,
+    pub to: usize,
+    // 1 for a new line, 0 for one that is replaced
+    pub more: usize,
+}
+
+// The place of a new line after line 1.
+fn after_first(file: &[u8]) -> Place
+    requires { ⌜ 0 < length (now file) ⌝ }
+    ensures { λ r. ⌜ FirstAt (now (file .entry)) r ⌝ }
+{
+    match header::lines::line_at(file, 0) {
+        Span::Found(text_end, next) => Place {
+            from: next,
+            to: text_end,
+            more: 1,
+        },
+        Span::Past => Place {
+            from: 0,
+            to: 0,
+            more: 1,
+        },
+    }
+}
+
+// The place of a key's line: its last one, or a new one after line 1.
+pub fn find_place(file: &[u8], key: &[u8]) -> Place
+    requires { ⌜ 0 < length (now file) ⌝ }
+    ensures { λ r. ⌜ ((es : List Entry) (gs : List Given) (ls : List Line) → header (now (file .entry)) ≡ accepted es gs ls → Placed (now (key .entry)) es r) ⌝ }
+{
+    let found = header::find::find_key(file, key);
+    if !found.found {
+        return after_first(file);
+    }
+    let start = found.start as usize;
+    let front = crate::texts::escaped_length(key) + 2;
+    Place {
+        from: start - front,
+        to: start + found.length as usize,
+        more: 0,
+    }
+}
+
+// Puts the pair's text at a place of the file in the first `used` bytes, which becomes `end` bytes long. What it no longer takes becomes 0.
+pub fn splice_pair(
+    buf: &mut [u8],
+    used: usize,
+    from: usize,
+    to: usize,
+    end: usize,
+    key: &[u8],
+    value: &[u8],
+)
+    requires { ⌜ (from ≤ used) × (to ≤ used) × (used ≤ length (now buf)) × (end ≤ length (now buf)) ⌝ }
+    requires { ⌜ end ≡ from + length (pairText (now key) (now value)) + (used - to) ⌝ }
+    ensures { λ _. ⌜ now (buf .exit) ≡ refilled (now (buf .entry)) used (edited (take used (now (buf .entry))) from to (pairText (now (key .entry)) (now (value .entry)))) ⌝ }
+{
+    let n = used - to;
+    crate::moves::slide(buf, end - n, to, n);
+    crate::texts::put_pair(buf, from, key, value);
+    crate::moves::zero(buf, end, crate::moves::less(used, end));
+}

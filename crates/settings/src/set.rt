@@ -1,0 +1,52 @@
+// Setting a key in place.
+use format::Refusal;
+use format::SetAnswer;
+ghost use mathlib.Core.Path.{_≡_};
+ghost use mathlib.Core.List.{List};
+ghost use Prim.Native.Nat.{ℕ};
+ghost use Rattle.format.specs.declared.SetAnswer.{SetAnswer};
+ghost use Rattle.format.specs.Calls.{setKeyCall};
+
+// The answer of a file of so many bytes and header lines.
+fn answer(refusal: Refusal, length: usize, count: usize) -> SetAnswer
+    ensures { λ r. ⌜ _≡_ {A = SetAnswer} r (record { refusal = refusal; length = length; count = count }) ⌝ }
+{
+    SetAnswer {
+        refusal: refusal,
+        length: length as u64,
+        count: count as u64,
+    }
+}
+
+// Sets a key to a value in the file in the first `used` bytes of a buffer, whose line table has `count` entries. A refused call alters nothing.
+pub fn set_key(
+    buf: &mut [u8],
+    used: usize,
+    table: &mut [u32],
+    count: usize,
+    key: &[u8],
+    value: &[u8],
+) -> SetAnswer
+    ensures { λ r. ⌜ _≡_ {A = SetAnswer × (List ℕ × List ℕ)} (r, (now (buf .exit), now (table .exit))) (setKeyCall (now (buf .entry)) used (now (table .entry)) count (now (key .entry)) (now (value .entry))) ⌝ }
+{
+    let room = buf.len();
+    if room < used {
+        return answer(
+            Refusal {
+                number: 22,
+                line: 0,
+            },
+            used,
+            count,
+        );
+    }
+    let plan = crate::plan::prepare(&buf[..used], room, table, count, key, value);
+    let refusal = plan.refusal;
+    if refusal.number != 0 {
+        return answer(refusal, used, count);
+    }
+    let length = plan.length;
+    crate::edit::splice_pair(buf, used, plan.from, plan.to, length, key, value);
+    crate::tables::shift_table(table, count, plan.more, plan.from, plan.to, plan.front);
+    answer(Refusal { number: 0, line: 0 }, length, plan.count)
+}

@@ -1,0 +1,164 @@
+-- Laws of the data: what the loops over the samples store is the data of the definitions.
+-- Assumes nothing.
+use mathlib.Core.Path.{_≡_, refl, sym, ap, _∙_}
+use mathlib.Core.Bool.{true}
+use mathlib.Core.List.{List, [], _∷_, _++_, flatMap, append-assoc}
+use Prim.Native.Nat.{ℕ, zero, suc, _+_, _*_, _-_, _^_, _/_, _%_, _≤_, _<_}
+use lib.Pow.{pow-add}
+use native.Mathlib.Nat.{pow-suc, one-le-pow, mul-assoc, mul-sub, mul-one, mul-comm, mul-left-comm, mul-suc, suc-mul, zero-mul}
+use native.Mathlib.Omega.{arith}
+use lib.Dec.{lit<}
+use lib.IntN.{ℤ, pos, negsuc}
+use lib.ListN.{length, length-append}
+use borrow.Author.Tests.{ltb-true, ne-eqb}
+use mathlib.Core.Logic.{⊎-elim}
+use Rattle.format.specs.Bytes.{LF}
+use Rattle.format.specs.Descriptors.{NumberKind, signed, unsigned, floating}
+use Rattle.format.specs.Samples.{inType, lowest, highest, toBytes, fromSigned, valueBytes}
+use Rattle.format.specs.Writer.{signedDecimal, hexOfByte, hexText, rawData, textData, dataBytes, allInType}
+use Rattle.format.proofs.Bytes.{and-left, and-right}
+use Rattle.format.proofs.Samples.{length-to-bytes, length-ordered, length-value-bytes}
+use Rattle.writer.specs.Stored.{lowBytes, lowHex, textLine, inRange, allInRange, Width}
+use Rattle.writer.proofs.Runs.{run-length}
+
+-- ---- text
+
+pub flat-text : (zs : List ℤ) → flatMap textLine zs ≡ textData zs
+unfolding flatMap textData
+flat-text [] = refl
+flat-text (z ∷ zs) = rw (flat-text zs, append-assoc)
+
+pub line-length : (z : ℤ) → length (textLine z) ≡ length (signedDecimal z) + 1
+line-length z = length-append (signedDecimal z) (LF ∷ [])
+
+-- ---- the sizes of bytes and hex
+
+pub low-size : (w endian : ℕ) (z : ℤ) → length (lowBytes w endian z) ≡ w
+low-size w endian z = length-ordered endian (toBytes w (fromSigned 8 z)) ∙ length-to-bytes w (fromSigned 8 z)
+
+pub hex-size : (w endian : ℕ) (z : ℤ) → length (lowHex w endian z) ≡ 2 * w
+hex-size w endian z = run-length hexOfByte 2 (λ b. refl) endian w (fromSigned 8 z)
+
+-- ---- bytes
+
+-- the low w bytes do not depend on what is a multiple of 256 to the w
+low-part : (w a q : ℕ) → toBytes w (a + 256 ^ w * q) ≡ toBytes w a
+unfolding toBytes
+low-part zero a q = refl
+low-part (suc w) a q =
+    let u : ℕ = 256 ^ w * q in
+    let p : 256 ^ suc w * q ≡ 256 * u = ap (λ (k : ℕ). k * q) (pow-suc 256 w ∙ mul-comm (256 ^ w) 256) ∙ mul-assoc 256 (256 ^ w) q in
+    let m : (a + 256 ^ suc w * q) % 256 ≡ a % 256 = omega arith in
+    let d : (a + 256 ^ suc w * q) / 256 ≡ a / 256 + u = omega arith in
+    rw (m, d, low-part w (a / 256) q)
+
+module _ (w : ℕ) (narrow : w ≤ 8) where
+  -- two's complement at 64 bits and at 8 * w bits
+  low-negative : (n : ℕ) → n < 256 ^ w → toBytes w (256 ^ 8 - 1 - n) ≡ toBytes w (256 ^ w - 1 - n)
+  low-negative n h =
+      let v : ℕ = 256 ^ (8 - w) in
+      let k : w + (8 - w) ≡ 8 = omega arith in
+      let p : 256 ^ 8 ≡ 256 ^ w * v = sym (ap (λ (i : ℕ). 256 ^ i) k) ∙ pow-add 256 w (8 - w) in
+      let l : 1 ≤ v = one-le-pow (8 - w) 256 (lit< tt) in
+      let r : 256 ^ w * (v - 1) ≡ 256 ^ w * v - 256 ^ w = mul-sub (256 ^ w) v 1 ∙ ap (λ (i : ℕ). 256 ^ w * v - i) (mul-one (256 ^ w)) in
+      let g : 256 ^ w ≤ 256 ^ w * v = omega (arith, le-mul (256 ^ w) v l) in
+      let e : 256 ^ 8 - 1 - n ≡ 256 ^ w - 1 - n + 256 ^ w * (v - 1) = split (256 ^ 8) (256 ^ w) (256 ^ w * v) (256 ^ w * (v - 1)) n h p r g in
+      ap (toBytes w) e ∙ low-part w (256 ^ w - 1 - n) (v - 1)
+    where
+      le-mul : (a b : ℕ) → 1 ≤ b → a ≤ a * b
+      le-mul a (suc b) h = omega (arith, mul-suc a b)
+
+      split : (t a b c n : ℕ) → n < a → t ≡ b → c ≡ b - a → a ≤ b → t - 1 - n ≡ a - 1 - n + c
+      split t a b c n h p r g = omega arith
+
+  low-is : (k : NumberKind) (z : ℤ) → inType k w z ≡ true → toBytes w (fromSigned 8 z) ≡ toBytes w (fromSigned w z)
+  unfolding inType
+  low-is k (pos n) e = refl
+  low-is k (negsuc n) e = low-negative n (under k (ltb-true n (lowest k w) e))
+    where
+      under : (k : NumberKind) → n < lowest k w → n < 256 ^ w
+      under signed h = omega arith
+      under unsigned h = absurd (omega arith)
+      under floating h = absurd (omega arith)
+
+  -- the low bytes of samples of the type are their bytes
+  pub low-data : (k : NumberKind) (endian : ℕ) (zs : List ℤ) → allInType k w zs ≡ true → flatMap (lowBytes w endian) zs ≡ rawData w endian zs
+  unfolding flatMap rawData valueBytes allInType
+  low-data k endian [] e = refl
+  low-data k endian (z ∷ zs) e =
+      rw (low-is k z (and-left (inType k w z) (allInType k w zs) e), low-data k endian zs (and-right (inType k w z) (allInType k w zs) e))
+
+-- ---- hex
+
+hex-append : (s t : List ℕ) → hexText (s ++ t) ≡ hexText s ++ hexText t
+unfolding hexText
+hex-append [] t = refl
+hex-append (b ∷ s) t = rw (hex-append s t)
+
+hex-flat : (s : List ℕ) → flatMap hexOfByte s ≡ hexText s
+unfolding flatMap hexText
+hex-flat [] = refl
+hex-flat (b ∷ s) = rw (hex-flat s)
+
+pub hex-data : (w endian : ℕ) (zs : List ℤ) → flatMap (lowHex w endian) zs ≡ hexText (flatMap (lowBytes w endian) zs)
+unfolding flatMap hexText
+hex-data w endian [] = refl
+hex-data w endian (z ∷ zs) = rw (hex-data w endian zs, hex-flat (lowBytes w endian z), hex-append (lowBytes w endian z) (flatMap (lowBytes w endian) zs))
+
+-- ---- the range of a type
+
+range-is : (k : NumberKind) (w : ℕ) (z : ℤ) → inRange (lowest k w) (highest k w) z ≡ inType k w z
+unfolding inType
+range-is k w (pos n) = refl
+range-is k w (negsuc n) = refl
+
+pub all-in-range : (k : NumberKind) (w : ℕ) (zs : List ℤ) → allInRange (lowest k w) (highest k w) zs ≡ allInType k w zs
+unfolding allInRange allInType
+all-in-range k w [] = refl
+all-in-range k w (z ∷ zs) = rw (range-is k w z, all-in-range k w zs)
+
+-- ---- the length of the data
+
+raw-size : (w endian : ℕ) (zs : List ℤ) → length (rawData w endian zs) ≡ length zs * w
+unfolding rawData
+raw-size w endian [] = sym (zero-mul w)
+raw-size w endian (z ∷ zs) =
+    length-append (valueBytes w endian z) (rawData w endian zs) ∙ omega (arith, length-value-bytes w endian z, raw-size w endian zs, suc-mul (length zs) w)
+
+hex-length : (s : List ℕ) → length (hexText s) ≡ 2 * length s
+unfolding hexText
+hex-length [] = omega arith
+hex-length (b ∷ s) = omega (arith, hex-length s)
+
+module _ (encoding w endian : ℕ) (zs : List ℤ) where
+  pub raw-is : encoding ≡ 0 → dataBytes encoding w endian zs ≡ rawData w endian zs
+  unfolding dataBytes
+  raw-is e = rw e
+
+  pub text-is : encoding ≡ 1 → dataBytes encoding w endian zs ≡ textData zs
+  unfolding dataBytes
+  text-is e = rw e
+
+  pub hex-is : (encoding ≡ 0 → ⊥) → (encoding ≡ 1 → ⊥) → dataBytes encoding w endian zs ≡ hexText (rawData w endian zs) ++ LF ∷ []
+  unfolding dataBytes
+  hex-is n m = rw (ne-eqb encoding 0 n, ne-eqb encoding 1 m)
+
+  pub raw-is-long : encoding ≡ 0 → length (dataBytes encoding w endian zs) ≡ length zs * w
+  raw-is-long e = ap length (raw-is e) ∙ raw-size w endian zs
+
+  pub hex-is-long : (encoding ≡ 0 → ⊥) → (encoding ≡ 1 → ⊥) → length (dataBytes encoding w endian zs) ≡ 2 * (length zs * w) + 1
+  hex-is-long n m =
+      ap length (hex-is n m) ∙ length-append (hexText (rawData w endian zs)) (LF ∷ [])
+      ∙ omega (arith, hex-length (rawData w endian zs), raw-size w endian zs)
+
+pub twice : (n w : ℕ) → n * (2 * w) ≡ 2 * (n * w)
+twice n w = mul-left-comm n 2 w
+
+-- ---- the width
+
+pub is-eight : (w : ℕ) → Width w → (w ≡ 1 → ⊥) → (w ≡ 2 → ⊥) → (w ≡ 4 → ⊥) → w ≡ 8
+is-eight w d a b c = ⊎-elim (λ e. absurd (a e)) (λ x. ⊎-elim (λ e. absurd (b e)) (λ y. ⊎-elim (λ e. absurd (c e)) (λ e. e) y) x) d
+
+pub width-bounds : (w : ℕ) → Width w → (1 ≤ w) × (w ≤ 8)
+width-bounds w d =
+    ⊎-elim (λ e. (omega arith, omega arith)) (λ x. ⊎-elim (λ e. (omega arith, omega arith)) (λ y. ⊎-elim (λ e. (omega arith, omega arith)) (λ e. (omega arith, omega arith)) y) x) d

@@ -1,0 +1,99 @@
+-- `writer::body::put_data` meets its contract. Assumes nothing.
+use borrow.Author.Needs.{needs}
+use Prim.Native.Nat.{ℕ, _+_, _*_}
+use mathlib.Core.Path.{_≡_, sym, ap, _∙_}
+use mathlib.Core.List.{List, _∷_, [], _++_, flatMap}
+use native.Mathlib.Omega.{arith}
+use denote.Ref.{now}
+use lib.ListN.{length, set}
+use lib.Seq.{sets}
+use Rattle.format.specs.Bytes.{LF}
+use Rattle.format.specs.Writer.{hexText}
+use Rattle.writer.specs.Stored.{lowHex}
+use Rattle.writer.proofs.Runs.{sets-then, flat-const}
+use Rattle.writer.proofs.Samples.{raw-is, raw-is-long, text-is, hex-is, hex-is-long, hex-data, hex-size, twice}
+use Rattle.writer.proofs.body.put_data.Statement.{statement}
+use Rattle.writer.proofs.body.put_data.Tie as tie
+
+put-sized-requires : tie.Need-put-sized-requires
+put-sized-requires c κs =
+    let a = c .before .before .before .args in
+    (c .before .before .before .pre .0 .0, omega (arith, raw-is-long (a .encoding) (a .w) (a .endian) (now (a .samples)) (c .before .if1 .taken), c .before .before .before .pre .1), c .before .before .before .pre .0 .1)
+
+same-length : tie.Need-same-length
+same-length c = search needs
+
+returns : tie.Need-returns
+returns c =
+    let a = c .before .before .before .before .before .before .args in
+    let p = c .before .before .put-sized in
+    let h = c .before .before .before .before .if1 .taken in (
+      omega (arith, p .ensures .0, raw-is-long (a .encoding) (a .w) (a .endian) (now (a .samples)) h),
+      p .ensures .1 ∙ ap (sets (now (a .out)) (a .at)) (c .before .before .before .before .before .before .pre .0 .2 ∙ sym (raw-is (a .encoding) (a .w) (a .endian) (now (a .samples)) h)),
+    )
+
+put-text-requires : tie.Need-put-text-requires
+put-text-requires c κs =
+    let a = c .before .before .before .before .args in
+    omega (arith, ap length (text-is (a .encoding) (a .w) (a .endian) (now (a .samples)) (c .before .if2 .taken)), c .before .before .before .before .pre .1)
+
+same-length-2 : tie.Need-same-length-2
+same-length-2 c = search needs
+
+returns-2 : tie.Need-returns-2
+returns-2 c =
+    let a = c .before .before .before .before .before .before .before .args in
+    let p = c .before .before .put-text in
+    let h = text-is (a .encoding) (a .w) (a .endian) (now (a .samples)) (c .before .before .before .before .if2 .taken) in
+    (omega (arith, p .ensures .0, ap length h), p .ensures .1 ∙ ap (sets (now (a .out)) (a .at)) (sym h))
+
+put-hex-requires : tie.Need-put-hex-requires
+put-hex-requires c κs =
+    let a = c .before .before .before .before .args in
+    omega (arith, hex-is-long (a .encoding) (a .w) (a .endian) (now (a .samples)) (c .before .before .if1 .left) (c .before .if2 .left), twice (length (now (a .samples))) (a .w), c .before .before .before .before .pre .1)
+
+slice-write-out : tie.Need-slice-write-out
+slice-write-out c =
+    let a = c .before .before .before .before .before .before .before .args in
+    let p = c .before .before .put-hex in
+    omega (arith, hex-is-long (a .encoding) (a .w) (a .endian) (now (a .samples)) (c .before .before .before .before .before .if1 .left) (c .before .before .before .before .if2 .left), twice (length (now (a .samples))) (a .w), c .before .before .before .before .before .before .before .pre .1, p .ensures .0, p .kept .0)
+
+add-result : tie.Need-add-result
+add-result c =
+    let a = c .before .before .before .before .before .before .before .args in
+    let p = c .before .before .put-hex in
+    omega (arith, hex-is-long (a .encoding) (a .w) (a .endian) (now (a .samples)) (c .before .before .before .before .before .if1 .left) (c .before .before .before .before .if2 .left), twice (length (now (a .samples))) (a .w), c .before .before .before .before .before .before .before .pre .1, p .ensures .0)
+
+same-length-3 : tie.Need-same-length-3
+same-length-3 c = search needs
+
+returns-3 : tie.Need-returns-3
+returns-3 c =
+    let a = c .before .before .before .before .before .before .before .args in
+    let p = c .before .before .put-hex in
+    let s = now (a .samples) in
+    let u = flatMap (lowHex (a .w) (a .endian)) s in
+    let n = c .before .before .before .before .before .if1 .left in
+    let m = c .before .before .before .before .if2 .left in
+    let l : length u ≡ length s * (2 * a .w) = flat-const (lowHex (a .w) (a .endian)) (2 * a .w) (hex-size (a .w) (a .endian)) s in
+    let e : p .result ≡ a .at + length u = omega (arith, p .ensures .0) in (
+      omega (arith, p .ensures .0, hex-is-long (a .encoding) (a .w) (a .endian) (now (a .samples)) n m, twice (length s) (a .w)),
+      ap (λ (d : List ℕ). set d (p .result) LF) (p .ensures .1) ∙ sets-then (now (a .out)) u (LF ∷ []) (a .at) (p .result) e
+          ∙ ap (sets (now (a .out)) (a .at)) (ap (λ (r : List ℕ). r ++ LF ∷ []) (hex-data (a .w) (a .endian) s ∙ ap hexText (c .before .before .before .before .before .before .before .pre .0 .2)) ∙ sym (hex-is (a .encoding) (a .w) (a .endian) (now (a .samples)) n m)),
+    )
+
+pub put-data-spec : {M : Type 1} → statement M
+put-data-spec =
+    tie.close
+    (tie.spec
+    put-sized-requires
+    same-length
+    returns
+    put-text-requires
+    same-length-2
+    returns-2
+    put-hex-requires
+    slice-write-out
+    add-result
+    same-length-3
+    returns-3)

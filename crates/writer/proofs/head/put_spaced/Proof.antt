@@ -1,0 +1,86 @@
+-- `writer::head::put_spaced` meets its contract. Assumes nothing.
+use borrow.Author.Needs.{needs}
+use Prim.Native.Nat.{_+_, _*_, _-_, _≤_}
+use mathlib.Core.Path.{refl, _∙_}
+use mathlib.Core.List.{flatMap}
+use native.Mathlib.Omega.{arith}
+use denote.Ref.{now}
+use lib.ListN.{length, getD, length-set}
+use Rattle.format.specs.Writer.{decimal}
+use Rattle.writer.specs.Stored.{afterSpace}
+use Rattle.writer.proofs.Digits.{at-most-20}
+use Rattle.writer.proofs.Runs.{Putting, putting-none, putting-more, putting-done, putting-end, set-then}
+use Rattle.writer.proofs.head.put_spaced.Statement.{statement}
+use Rattle.writer.proofs.head.put_spaced.Tie as tie
+
+abbrev Inv-loop : tie.InvT-loop
+Inv-loop out₀ at ns o₀ i₀ out o i = Putting afterSpace ns (flatMap afterSpace ns) out₀ at out o i × (o ≤ at + 21 * i)
+
+abbrev μ-loop : tie.MeasureT-loop
+μ-loop out₀ at ns o₀ i₀ out o i = length ns - i
+
+loop-holds : tie.Need-loop-holds Inv-loop μ-loop
+loop-holds c =
+    let a = c .before .before .args in
+    (putting-none afterSpace (now (a .ns)) (flatMap afterSpace (now (a .ns))) (now (a .out)) (a .at) refl, omega arith)
+
+slice-write-out : tie.Need-slice-write-out Inv-loop μ-loop
+slice-write-out c = search needs
+
+add-put-decimal : tie.Need-add-put-decimal Inv-loop μ-loop
+add-put-decimal c = search needs
+
+mul-put-decimal : tie.Need-mul-put-decimal Inv-loop μ-loop
+mul-put-decimal c = search needs
+
+shared-slice-read-put-decimal : tie.Need-shared-slice-read-put-decimal Inv-loop μ-loop
+shared-slice-read-put-decimal c = search needs
+
+put-decimal-requires : tie.Need-put-decimal-requires Inv-loop μ-loop
+put-decimal-requires c κs =
+    let n = getD (now (c .before .before .before .before .before .before .args .ns)) (c .before .before .before .loop .i) 0 in
+    simp length-set (omega (arith, at-most-20 n (c .shared-slice-known2 .given (c .before .before .before .loop .i) .fits)))
+
+add-i : tie.Need-add-i Inv-loop μ-loop
+add-i c = search needs
+
+loop-less : tie.Need-loop-less Inv-loop μ-loop
+loop-less c = search needs
+
+loop-again : tie.Need-loop-again Inv-loop μ-loop
+loop-again c =
+    let a = c .before .before .before .before .before .before .before .before .before .args in
+    let l = c .before .before .before .before .before .before .loop in
+    let p = c .before .before .put-decimal in (
+      putting-more afterSpace (now (a .ns)) (flatMap afterSpace (now (a .ns))) (now (a .out)) (a .at) (l .inv .0) 0 (c .before .before .before .before .before .loop-test .taken) _ _
+          (p .ensures .1 ∙ set-then (l .out) (decimal (getD (now (a .ns)) (l .i) 0)) (l .o) 32) (omega (arith, p .ensures .0 .0)),
+      omega (arith, p .ensures .0 .1),
+    )
+
+same-length : tie.Need-same-length Inv-loop μ-loop
+same-length c = c .before .loop .inv .0 .long
+
+returns : tie.Need-returns Inv-loop μ-loop
+returns c =
+    let a = c .before .before .before .before .args in
+    let p = c .before .loop .inv .0 in
+    let h = c .loop-test .left in
+    ((putting-end afterSpace (now (a .ns)) (flatMap afterSpace (now (a .ns))) (now (a .out)) (a .at) p h, putting-done afterSpace (now (a .ns)) (flatMap afterSpace (now (a .ns))) (now (a .out)) (a .at) p h), omega (arith, p .few))
+
+pub put-spaced-spec : {M : Type 1} → statement M
+put-spaced-spec =
+    tie.close
+    (tie.spec
+    Inv-loop
+    μ-loop
+    loop-holds
+    slice-write-out
+    add-put-decimal
+    mul-put-decimal
+    shared-slice-read-put-decimal
+    put-decimal-requires
+    add-i
+    loop-less
+    loop-again
+    same-length
+    returns)

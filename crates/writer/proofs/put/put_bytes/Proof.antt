@@ -1,0 +1,73 @@
+-- `writer::put::put_bytes` meets its contract: `Putting` of Runs.antt, byte by byte. Assumes nothing.
+use borrow.Author.Needs.{needs}
+use Prim.Native.Nat.{_+_, _-_}
+use mathlib.Core.Path.{refl, _≡_}
+use mathlib.Core.List.{_∷_, []}
+use native.Mathlib.Omega.{arith}
+use lib.ListN.{length}
+use Rattle.writer.proofs.Runs.{Putting, putting-none, putting-more, putting-done, flat-each}
+use denote.Ref.{now}
+use Rattle.writer.proofs.put.put_bytes.Statement.{statement}
+use Rattle.writer.proofs.put.put_bytes.Tie as tie
+
+abbrev Inv-loop : tie.InvT-loop
+Inv-loop out₀ at s i₀ out i = Putting (λ b. b ∷ []) s s out₀ at out (at + i) i
+
+abbrev μ-loop : tie.MeasureT-loop
+μ-loop out₀ at s i₀ out i = length s - i
+
+loop-holds : tie.Need-loop-holds Inv-loop μ-loop
+loop-holds c =
+    let a = c .args in
+    let q : a .at + 0 ≡ a .at = omega arith in
+    rw q (putting-none (λ b. b ∷ []) (now (a .s)) (now (a .s)) (now (a .out)) (a .at) (flat-each (now (a .s))))
+
+shared-slice-read-out : tie.Need-shared-slice-read-out Inv-loop μ-loop
+shared-slice-read-out c = search needs
+
+add-out : tie.Need-add-out Inv-loop μ-loop
+add-out c = search needs
+
+slice-write-out : tie.Need-slice-write-out Inv-loop μ-loop
+slice-write-out c = search needs
+
+add-i : tie.Need-add-i Inv-loop μ-loop
+add-i c = search needs
+
+loop-less : tie.Need-loop-less Inv-loop μ-loop
+loop-less c = search needs
+
+loop-again : tie.Need-loop-again Inv-loop μ-loop
+loop-again c =
+    let a = c .before .before .before .args in
+    let l = c .before .before .loop in
+    putting-more (λ b. b ∷ []) (now (a .s)) (now (a .s)) (now (a .out)) (a .at) (l .inv) 0 (c .before .loop-test .taken) _ _ refl (omega arith)
+
+add-result : tie.Need-add-result Inv-loop μ-loop
+add-result c = search needs
+
+same-length : tie.Need-same-length Inv-loop μ-loop
+same-length c = search needs
+
+returns : tie.Need-returns Inv-loop μ-loop
+returns c =
+    let a = c .before .before .args in
+    let p = c .before .loop .inv in
+    (omega arith, putting-done (λ b. b ∷ []) (now (a .s)) (now (a .s)) (now (a .out)) (a .at) p (c .loop-test .left))
+
+pub put-bytes-spec : {M : Type 1} → statement M
+put-bytes-spec =
+    tie.close
+    (tie.spec
+    Inv-loop
+    μ-loop
+    loop-holds
+    shared-slice-read-out
+    add-out
+    slice-write-out
+    add-i
+    loop-less
+    loop-again
+    add-result
+    same-length
+    returns)
