@@ -33,7 +33,7 @@ pub fn set_key(
     if room < used {
         return answer(
             Refusal {
-                number: 22,
+                number: format::LENT_TOO_SHORT,
                 line: 0,
             },
             used,
