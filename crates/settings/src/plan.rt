@@ -63,16 +63,16 @@ fn asked(
     ensures { λ r. ⌜ ((es : List Entry) (gs : List Given) (ls : List Line) → header (now (file .entry)) ≡ accepted es gs ls → r ≡ askedNumber version (keyFine (now (key .entry))) (valueFine (now (value .entry))) (tableFine (now (table .entry)) count (tableOf es))) ⌝ }
 {
     if version < 2 {
-        return 8;
+        return format::NOT_IN_VERSION;
     }
     if !crate::texts::key_fine(key) {
-        return 24;
+        return format::BAD_KEY;
     }
     if !crate::texts::value_fine(value) {
-        return 25;
+        return format::BAD_VALUE;
     }
     if !crate::tables::table_fine(file, lines, table, count) {
-        return 26;
+        return format::WRONG_TABLE;
     }
     0
 }
@@ -92,18 +92,18 @@ fn fit(
 {
     let front = place.from + m;
     if 65535 < front + (bytes - place.to) {
-        return refuse(3);
+        return refuse(format::HEADER_TOO_LONG);
     }
     let lines = count + place.more;
     if 1024 < lines {
-        return refuse(4);
+        return refuse(format::TOO_MANY_LINES);
     }
     let length = front + (used - place.to);
     if 4294967295 < length {
-        return refuse(1);
+        return refuse(format::FILE_TOO_LONG);
     }
     if (room < length) | (slots < lines) {
-        return refuse(22);
+        return refuse(format::LENT_TOO_SHORT);
     }
     Plan {
         refusal: Refusal { number: 0, line: 0 },
