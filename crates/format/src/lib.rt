@@ -97,12 +97,14 @@ pub struct Limits {
 }
 
 // A refusal: its number, and the line at which the reader met it (numbers 2 to 12); 0 where no line is meant. Number 0: nothing is refused.
+#[repr(C)]
 pub struct Refusal {
     pub number: u32,
     pub line: u32,
 }
 
 // What a reading says in numbers. All zero where the call is refused.
+#[repr(C)]
 pub struct Reading {
     // 1 to 5
     pub version: u32,
@@ -128,12 +130,14 @@ pub struct Reading {
 }
 
 // The answer of the reading calls.
+#[repr(C)]
 pub struct ReadAnswer {
     pub refusal: Refusal,
     pub reading: Reading,
 }
 
 // The answer of the look-ups: where the bytes lie in the file. All zero where they are absent.
+#[repr(C)]
 pub struct FindAnswer {
     pub refusal: Refusal,
     pub found: bool,
@@ -142,6 +146,7 @@ pub struct FindAnswer {
 }
 
 // The answer of the copy of a key's value: its length with escapes resolved.
+#[repr(C)]
 pub struct ValueAnswer {
     pub refusal: Refusal,
     pub found: bool,
@@ -149,6 +154,7 @@ pub struct ValueAnswer {
 }
 
 // The answer of the data call: which file holds the data, where it starts there, and its length.
+#[repr(C)]
 pub struct DataAnswer {
     pub refusal: Refusal,
     pub second: bool,
@@ -157,24 +163,28 @@ pub struct DataAnswer {
 }
 
 // The answer of the sample calls: how many samples there are.
+#[repr(C)]
 pub struct CountAnswer {
     pub refusal: Refusal,
     pub count: u64,
 }
 
 // The answer of the coordinates call: the number of the sample.
+#[repr(C)]
 pub struct NumberAnswer {
     pub refusal: Refusal,
     pub number: u64,
 }
 
 // The answer of the writer: how many bytes it wrote.
+#[repr(C)]
 pub struct WriteAnswer {
     pub refusal: Refusal,
     pub length: u64,
 }
 
 // The answer of a setting: the new length and the new number of lines, or those lent where it is refused.
+#[repr(C)]
 pub struct SetAnswer {
     pub refusal: Refusal,
     pub length: u64,
