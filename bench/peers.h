@@ -1,0 +1,18 @@
+/* The same jobs in plain C, to compare with. Compiled on their own at -O3. */
+#ifndef PEERS_H
+#define PEERS_H
+
+#include <stddef.h>
+#include <stdint.h>
+
+/* n samples of w bytes to int64_t. Answer how many were decoded: n, or fewer where one is bad. */
+size_t peer_raw(const uint8_t *data, size_t n, int w, int is_signed, int big, int64_t *list);
+size_t peer_hex(const uint8_t *data, size_t length, size_t n, int w, int is_signed, int big, int64_t *list);
+size_t peer_text(const char *data, size_t n, int w, int is_signed, int64_t *list);
+
+/* n samples in w bytes each, hex of these, or lines of text. Answer how many bytes were written, 0 where a sample is outside its type. */
+size_t peer_write_raw(const int64_t *list, size_t n, int w, int is_signed, int big, uint8_t *out);
+size_t peer_write_hex(const int64_t *list, size_t n, int w, int is_signed, int big, uint8_t *out);
+size_t peer_write_text(const int64_t *list, size_t n, int w, int is_signed, uint8_t *out);
+
+#endif

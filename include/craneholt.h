@@ -1,0 +1,286 @@
+/* craneholt.h: NRRD files from C. Every call below is proved to answer as the rules say, on every input.
+ *
+ * What is read: attached and detached headers, versions 1 to 5; the place of their data; integer samples in raw, text
+ * and hex. What is written: attached files. What is corrected: the value of a key, in place.
+ *
+ * How the calls work
+ * - A call takes bytes and numbers and answers numbers, by value. It allocates nothing, keeps nothing, opens no file, and
+ *   uses a few kilobytes of stack whatever the input. Calls on separate buffers may run in separate threads.
+ * - There is no wrong input: whatever is lent, the call ends and answers. A pointer may be NULL if its length is 0. What
+ *   has to be true is that the lengths are those of the memory lent, and that memory that a call writes overlaps nothing
+ *   else lent to it.
+ * - Every answer starts with a refusal. Number 0: nothing is refused. Otherwise the number says why, the line where (0 if no
+ *   line is meant), and NOTHING that was lent has changed; the other numbers of the answer are 0 (a refused
+ *   setting answers the length and the count that it was lent).
+ * - Lengths are in bytes. In a table an entry is 4 bytes; samples, sizes and coordinates are 8 bytes each; the low byte
+ *   first. On the machines that the archive is made for these are arrays of uint32_t, int64_t and uint64_t: lend `list,
+ *   sizeof list`. A rest too short for an entry or a number is not used and not changed.
+ *
+ * A file is lent whole: the header and what follows it. A detached header's data is in a second file, which the calls for
+ * data take as well; for an attached header lend NULL, 0 there (it is not looked at).
+ *
+ *     craneholt_read_answer a = craneholt_read_header(file, length);
+ *     if (a.refusal.number != 0)
+ *         fprintf(stderr, "line %u: %s\n", (unsigned)a.refusal.line, craneholt_sentence(a.refusal.number));
+ */
+#ifndef CRANEHOLT_H
+#define CRANEHOLT_H
+
+#include <stddef.h>
+#include <stdint.h>
+
+#ifdef __cplusplus
+extern "C" {
+#endif
+
+/* ---- Limits ---- */
+
+#define CRANEHOLT_MAX_FILE   4294967295u /* bytes of a file, and of the data by its sizes */
+#define CRANEHOLT_MAX_HEADER 65535       /* bytes of a header, its closing line included */
+#define CRANEHOLT_MAX_LINES  1024        /* lines of a header: a table of so many entries is always enough */
+#define CRANEHOLT_MAX_AXES   16
+#define CRANEHOLT_MAX_LISTED 65536       /* bytes of a file that craneholt_listing takes */
+
+/* ---- Refusals ---- */
+
+enum craneholt_refusal_number {
+    CRANEHOLT_FINE             = 0,  /* nothing is refused */
+    CRANEHOLT_FILE_TOO_LONG    = 1,  /* a file has more than CRANEHOLT_MAX_FILE bytes */
+    CRANEHOLT_NO_MAGIC         = 2,  /* line 1 is no NRRD magic, or has no ending */
+    CRANEHOLT_HEADER_TOO_LONG  = 3,  /* a header line ends past byte CRANEHOLT_MAX_HEADER */
+    CRANEHOLT_TOO_MANY_LINES   = 4,  /* the header has more than CRANEHOLT_MAX_LINES lines */
+    CRANEHOLT_BAD_BYTE         = 5,  /* a line that is no comment holds a byte that is neither tab nor printable ASCII */
+    CRANEHOLT_NO_MARK          = 6,  /* a line has neither ": " nor ":=", or its key is empty */
+    CRANEHOLT_UNKNOWN_FIELD    = 7,  /* no field has this name */
+    CRANEHOLT_NOT_IN_VERSION   = 8,  /* this version has no such field, or no key pairs */
+    CRANEHOLT_REPEATED_FIELD   = 9,  /* the field was given before, in either spelling */
+    CRANEHOLT_OUT_OF_ORDER     = 10, /* a per-axis field before dimension, or an orientation field before space */
+    CRANEHOLT_BAD_DESCRIPTOR   = 11, /* the field may not say this; writer: a number that cannot be written */
+    CRANEHOLT_BAD_BACKSLASH    = 12, /* a backslash in a key or value that is neither "\n" nor "\\" */
+    CRANEHOLT_NO_END           = 13, /* the bytes end before the header does, and there is no data file field */
+    CRANEHOLT_MISSING_FIELD    = 14, /* dimension, type, encoding or sizes is missing, or endian where it matters */
+    CRANEHOLT_EXTENT_TOO_LARGE = 15, /* sizes and type ask for more than CRANEHOLT_MAX_FILE bytes of data */
+    CRANEHOLT_SKIP_PAST_END    = 16, /* line skip or byte skip passes the end of the file */
+    CRANEHOLT_PLACE_TOO_LARGE  = 17, /* start and extent of the data do not fit 64 bits; with these limits it cannot be */
+    CRANEHOLT_DATA_TOO_SHORT   = 18, /* raw: the file has fewer bytes than the data takes */
+    CRANEHOLT_FLOAT_SAMPLES    = 19, /* samples of type float or double are not decoded, nor written */
+    CRANEHOLT_BAD_SAMPLE       = 20, /* not a sample, outside its type, or above 9223372036854775807 */
+    CRANEHOLT_DATA_ENDS_EARLY  = 21, /* text or hex: the data ends before the last sample */
+    CRANEHOLT_LENT_TOO_SHORT   = 22, /* the lent buffer, list or table is too short */
+    CRANEHOLT_BAD_COORDINATES  = 23, /* not one coordinate for each axis, or one is not below its size */
+    CRANEHOLT_BAD_KEY          = 24, /* a key that no line can hold: empty, '#' first, bad byte, or with ": " or ":=" */
+    CRANEHOLT_BAD_VALUE        = 25, /* a value with a byte that is neither tab, LF nor printable ASCII */
+    CRANEHOLT_WRONG_TABLE      = 26, /* the lent line table is not that of the file */
+    CRANEHOLT_WRONG_COUNT      = 27  /* writer: there are not as many samples as the sizes ask for */
+};
+
+/* The line is that of the header (from 1) for the numbers 2 to 12 of a reading, else 0. */
+typedef struct {
+    uint32_t number;
+    uint32_t line;
+} craneholt_refusal;
+
+/* ---- Reading a header ---- */
+
+enum { CRANEHOLT_ATTACHED = 0, CRANEHOLT_DETACHED = 1 };
+
+enum {
+    CRANEHOLT_INT8, CRANEHOLT_UINT8, CRANEHOLT_INT16, CRANEHOLT_UINT16, CRANEHOLT_INT32, CRANEHOLT_UINT32,
+    CRANEHOLT_INT64, CRANEHOLT_UINT64, CRANEHOLT_FLOAT, CRANEHOLT_DOUBLE
+};
+
+enum { CRANEHOLT_RAW, CRANEHOLT_TEXT, CRANEHOLT_HEX };
+
+enum { CRANEHOLT_LITTLE, CRANEHOLT_BIG, CRANEHOLT_NO_ENDIAN };
+
+typedef struct {
+    uint32_t version;    /* 1 to 5 */
+    uint32_t form;       /* CRANEHOLT_ATTACHED or CRANEHOLT_DETACHED */
+    uint32_t dimension;  /* 1 to 16 */
+    uint32_t sampletype; /* CRANEHOLT_INT8 to CRANEHOLT_DOUBLE */
+    uint32_t encoding;   /* CRANEHOLT_RAW, CRANEHOLT_TEXT or CRANEHOLT_HEX */
+    uint32_t endian;     /* CRANEHOLT_LITTLE, CRANEHOLT_BIG, or CRANEHOLT_NO_ENDIAN where none is given */
+    uint64_t sizes[CRANEHOLT_MAX_AXES]; /* axis 0, the fastest, first; 0 past the dimension */
+    uint64_t lineskip;
+    uint64_t byteskip;
+    uint64_t extent;     /* the product of the sizes times the bytes of a sample */
+    uint64_t length;     /* bytes of the header, its closing empty line included */
+    uint32_t lines;      /* lines of the header, its closing empty line included */
+} craneholt_reading;
+
+typedef struct {
+    craneholt_refusal refusal;
+    craneholt_reading reading;
+} craneholt_read_answer;
+
+/* The reading of a file's header. Refuses 1 to 15. */
+craneholt_read_answer craneholt_read_header(const uint8_t *file, size_t file_length);
+
+/* The same, and the line table: for each line of the header, the magic and the closing line included, the byte at which it
+ * starts, `reading.lines` entries from the front of the table on; the rest of the table stays. Refuses also 22, if the
+ * table has fewer entries. The table is what craneholt_set_key asks for. */
+craneholt_read_answer craneholt_read(const uint8_t *file, size_t file_length, void *table, size_t table_length);
+
+/* ---- Fields and keys ---- */
+
+enum craneholt_field {
+    CRANEHOLT_FIELD_DIMENSION, CRANEHOLT_FIELD_TYPE, CRANEHOLT_FIELD_ENCODING, CRANEHOLT_FIELD_ENDIAN,
+    CRANEHOLT_FIELD_SIZES, CRANEHOLT_FIELD_LINE_SKIP, CRANEHOLT_FIELD_BYTE_SKIP, CRANEHOLT_FIELD_DATA_FILE,
+    CRANEHOLT_FIELD_BLOCK_SIZE, CRANEHOLT_FIELD_CONTENT, CRANEHOLT_FIELD_MIN, CRANEHOLT_FIELD_MAX,
+    CRANEHOLT_FIELD_OLD_MIN, CRANEHOLT_FIELD_OLD_MAX, CRANEHOLT_FIELD_NUMBER, CRANEHOLT_FIELD_SAMPLE_UNITS,
+    CRANEHOLT_FIELD_SPACE, CRANEHOLT_FIELD_SPACE_DIMENSION, CRANEHOLT_FIELD_SPACE_UNITS,
+    CRANEHOLT_FIELD_SPACE_ORIGIN, CRANEHOLT_FIELD_SPACE_DIRECTIONS, CRANEHOLT_FIELD_MEASUREMENT_FRAME,
+    CRANEHOLT_FIELD_SPACINGS, CRANEHOLT_FIELD_THICKNESSES, CRANEHOLT_FIELD_AXIS_MINS, CRANEHOLT_FIELD_AXIS_MAXS,
+    CRANEHOLT_FIELD_CENTERS, CRANEHOLT_FIELD_LABELS, CRANEHOLT_FIELD_UNITS, CRANEHOLT_FIELD_KINDS
+};
+
+/* Where bytes lie in the file. `found` is 0, and start and length are 0, if the header has none. */
+typedef struct {
+    craneholt_refusal refusal;
+    uint8_t found;
+    uint64_t start;
+    uint64_t length;
+} craneholt_find_answer;
+
+/* The descriptor of a field, without blanks at its end, and, in the fields up to data file, at its start. Refuses 1 to 15. */
+craneholt_find_answer craneholt_find_field(const uint8_t *file, size_t file_length, uint32_t field);
+
+/* The text of a key's value as it stands in the file: in the last line with the key, LF as "\n" and backslash as "\\".
+ * The key is lent as it is meant, without escapes. Refuses 1 to 15. */
+craneholt_find_answer craneholt_find_key(const uint8_t *file, size_t file_length,
+                                         const uint8_t *key, size_t key_length);
+
+typedef struct {
+    craneholt_refusal refusal;
+    uint8_t found;
+    uint64_t length; /* of the value */
+} craneholt_value_answer;
+
+/* The value of a key, escapes resolved, to the front of `out`; the bytes past it stay. Refuses 1 to 15, 22. A buffer of the
+ * length that craneholt_find_key tells is always enough. */
+craneholt_value_answer craneholt_copy_value(const uint8_t *file, size_t file_length,
+                                            const uint8_t *key, size_t key_length,
+                                            uint8_t *out, size_t out_length);
+
+/* ---- Data and samples ---- */
+
+typedef struct {
+    craneholt_refusal refusal;
+    uint8_t second; /* 1: the data is in the second file */
+    uint64_t start; /* in the file that holds it, after the skips */
+    uint64_t length;
+} craneholt_data_answer;
+
+/* Where the data lies: `extent` bytes in raw, all the rest in text and hex. Refuses 1 to 15, 1 for the second file, 16, 18. */
+craneholt_data_answer craneholt_data(const uint8_t *file, size_t file_length,
+                                     const uint8_t *second, size_t second_length);
+
+typedef struct {
+    craneholt_refusal refusal;
+    uint64_t count; /* of samples: the product of the sizes */
+} craneholt_count_answer;
+
+/* All samples, axis 0 fastest, to the front of `list`; what is past them stays. Refuses as craneholt_data, with 19 before 16,
+ * then 22, then 20 or 21, whichever comes first in the data. */
+craneholt_count_answer craneholt_samples(const uint8_t *file, size_t file_length,
+                                         const uint8_t *second, size_t second_length,
+                                         void *list, size_t list_length);
+
+/* What craneholt_samples would answer with a list of `room` samples; nothing is stored. */
+craneholt_count_answer craneholt_check_samples(const uint8_t *file, size_t file_length,
+                                               const uint8_t *second, size_t second_length, size_t room);
+
+typedef struct {
+    craneholt_refusal refusal;
+    uint64_t number; /* from 0, in the order of craneholt_samples */
+} craneholt_number_answer;
+
+/* The number of the sample at these coordinates, axis 0 first. Refuses 1 to 15, 23. */
+craneholt_number_answer craneholt_sample_number(const uint8_t *file, size_t file_length,
+                                                const void *coords, size_t coords_length);
+
+/* ---- Writing ---- */
+
+typedef struct {
+    craneholt_refusal refusal;
+    uint64_t length; /* bytes written */
+} craneholt_write_answer;
+
+/* An attached file with these samples to the front of `out`; the bytes past it stay. Endian counts only where samples of more
+ * than one byte are written in raw or hex, but has to be CRANEHOLT_LITTLE or CRANEHOLT_BIG. Refuses 11 (version, type,
+ * encoding, endian, no size or more than 16, a size 0), 15, 19, 27, 20, 1, 22, in this order. What is written is
+ * read back by the calls above as it was given. Room that is always enough: 512 bytes, and for each sample 22. */
+craneholt_write_answer craneholt_write(uint64_t version, const void *sizes, size_t sizes_length,
+                                       uint64_t sampletype, uint64_t encoding, uint64_t endian,
+                                       const void *samples, size_t samples_length,
+                                       uint8_t *out, size_t out_length);
+
+/* ---- Setting a key ---- */
+
+typedef struct {
+    craneholt_refusal refusal;
+    uint64_t length; /* of the file now: the used length for the next call */
+    uint64_t count;  /* of the lines now: the count for the next call */
+} craneholt_set_answer;
+
+/* Sets a key to a value in the file in the first `used` bytes of a buffer; `table` and `count` are its line table and how
+ * many lines it has, by craneholt_read or by the setting before. If the header has the key, the text of the last line with it
+ * becomes key, ":=" and value, escaped; if not, such a line is put in after line 1, with line 1's ending. Everything else
+ * stays as it is and in its order, the data too, moved if the length changes; the table is brought up to date. Bytes that the
+ * file no longer takes become 0; bytes past the old and the new length stay, as do entries past the new count.
+ * After any number of settings, some of them refused, a reading of the file gives each key the value accepted for it last.
+ * Refuses: 22 if `used` passes the buffer; 1 to 15; 8 in version 1; 24; 25; 26; then for the new file 3, 4, 1, and 22 if it
+ * does not fit the buffer or its lines do not fit the table. */
+craneholt_set_answer craneholt_set_key(uint8_t *buffer, size_t buffer_length, size_t used,
+                                       void *table, size_t table_length, size_t count,
+                                       const uint8_t *key, size_t key_length,
+                                       const uint8_t *value, size_t value_length);
+
+/* ---- Listing ---- */
+
+/* What the program `listing` prints for a file: lines of version, form, type, sizes, encoding, endian, start and extent of the
+ * data, and each key with its value, or one line for a refusal, to the front of `out`; the bytes past it stay.
+ * Refuses 22 if the text does not fit (131,072 bytes are always enough). A file that is refused is no refusal of this call. */
+craneholt_write_answer craneholt_listing(const uint8_t *file, size_t file_length, uint8_t *out, size_t out_length);
+
+#ifdef __cplusplus
+}
+#endif
+
+/* A sentence for a number of refusal. */
+static inline const char *craneholt_sentence(uint32_t number)
+{
+    static const char *const sentences[] = {
+        "nothing is refused",
+        "the file is longer than 4,294,967,295 bytes",
+        "the first line is not the magic of an NRRD file",
+        "the header is longer than 65,535 bytes",
+        "the header has more than 1,024 lines",
+        "the line holds a byte that is neither tab nor printable ASCII",
+        "the line has neither ': ' nor ':=', or its key is empty",
+        "no field has this name",
+        "this version of the format has no such field, or no key pairs",
+        "the field was given before",
+        "the field comes before the one that it needs (dimension; space or space dimension)",
+        "the field cannot have this value",
+        "a backslash is followed neither by 'n' nor by a backslash",
+        "the header has no end",
+        "a needed field is missing (dimension, type, encoding, sizes, endian)",
+        "the sizes ask for more than 4,294,967,295 bytes of data",
+        "line skip or byte skip passes the end of the file",
+        "the end of the data does not fit 64 bits",
+        "the file has fewer bytes than its sizes ask for",
+        "samples of type float and double are not supported",
+        "a sample is not a number, is outside its type, or is above 9,223,372,036,854,775,807",
+        "the data ends before the last sample",
+        "the lent buffer, list or table is too short",
+        "the coordinates are not one for each axis, each below its size",
+        "no header line can hold this key",
+        "the value holds a byte that is neither tab, line feed nor printable ASCII",
+        "the line table is not that of the file",
+        "there are not as many samples as the sizes ask for"
+    };
+    return number < sizeof sentences / sizeof sentences[0] ? sentences[number] : "no such refusal";
+}
+
+#endif

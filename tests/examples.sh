@@ -1,0 +1,57 @@
+# Runs the example callers, built in folder $1, on copies of the sample files, and compares what they print and leave.
+set -e
+build=$(cd "$1" && pwd)
+examples=$(cd "$(dirname "$0")/../examples" && pwd)
+work=$(mktemp -d)
+trap 'rm -rf "$work"' EXIT
+cp "$examples"/*.nrrd "$examples"/*.nhdr "$examples"/*.txt "$work"
+cd "$work"
+passed=0
+
+# expect NAME WANTED GOT
+expect() {
+    if [ "$2" != "$3" ]; then
+        printf '%s: expected\n%s\ngot\n%s\n' "$1" "$2" "$3"
+        exit 1
+    fi
+    passed=$((passed + 1))
+}
+
+expect "offsets differ" \
+    'sweep.nrrd has `utc offset` 37, head2.nhdr has 36: correct one of them first' \
+    "$("$build/merge" sweep.nrrd head2.nhdr 2>&1 || true)"
+
+expect "corrected" "head2.nhdr: utc offset is 37" "$("$build/correct" head2.nhdr 37)"
+
+expect "merged" \
+'head 1 at 0 0: 1
+head 1 at 1 0: 2
+head 1 at 0 1: 256
+head 1 at 1 1: 65535
+head 2 at 0 0: -2
+head 2 at 1 0: -1
+head 2 at 0 1: 0
+head 2 at 1 1: 1
+head 2 at 0 2: 2
+head 2 at 1 2: 300' \
+    "$("$build/merge" sweep.nrrd head2.nhdr)"
+
+# the corrected line alone has changed
+sed 's/utc offset:=36/utc offset:=37/' "$examples/head2.nhdr" > wanted
+expect "other lines stay" "$(od -c wanted)" "$(od -c head2.nhdr)"
+
+# the last of two lines with the key is set, the data stays, and the file is replaced by one that is a byte shorter
+"$build/correct" sweep.nrrd 5 > /dev/null
+sed 's/utc offset:=37/utc offset:=5/' "$examples/sweep.nrrd" > wanted
+expect "last line set" "$(od -c wanted)" "$(od -c sweep.nrrd)"
+
+# a refusal names the line and leaves the file as it was
+printf 'NRRD0004\ntype: uint8\nsizes: 1\n' > bad.nrrd
+cp bad.nrrd wanted
+expect "line named" \
+    "bad.nrrd:3: the field comes before the one that it needs (dimension; space or space dimension)" \
+    "$("$build/correct" bad.nrrd 5 2>&1 || true)"
+expect "file left" "$(od -c wanted)" "$(od -c bad.nrrd)"
+expect "nothing beside it" "" "$(ls | grep corrected || true)"
+
+echo "examples: $passed passed, 0 failed"
