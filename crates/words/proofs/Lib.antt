@@ -1,0 +1,4 @@
+pub mod Halves
+pub mod Signs
+pub mod Stores
+pub mod Groups
