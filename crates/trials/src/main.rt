@@ -1,19 +1,14 @@
-// Runs the cases of standard input through the reader and the look-ups. Each group of cases prints a line `NAME: RIGHT of ALL`;
-// each case that is not right prints a line before it, with its number in the group (from 1) and the part that is wrong.
+// Runs the cases of standard input through the reader and the look-ups. The frame and what is printed are those of crate `frames`.
 //
-// The frame. A number is 4 bytes, low byte first. A run is a number, its length in bytes, and so many bytes. A text is 0 where it is
-// absent, else 1 more than its length, and so many bytes.
-//
-//   input    the number of groups, the groups
-//   group    a run, the group's name, at most 256 bytes; the number of cases, the cases, each a run of at most 131,072 bytes
-//   case     0    the room: how many entries the lent table has, at most 16,384
-//            4    the number and the line of the refusal by `read`, both 0 where it accepts
-//            12   the same for `read_header`
-//            20   the 27 numbers of the reading, in the order of `format::Reading`, all 0 where `read_header` refuses
-//            128  a run, the file
-//            a run, the entries that `read` writes, as numbers
-//            for each of the 30 fields, in the order of the definitions (`fieldNames`): a text, the descriptor
-//            the number of keys; for each a run, the key; a text, the value as it stands in the file; a run, the value
+// A case has at most 131,072 bytes:
+//   0    the room: how many entries the lent table has, at most 16,384
+//   4    the number and the line of the refusal by `read`, both 0 where it accepts
+//   12   the same for `read_header`
+//   20   the 27 numbers of the reading, in the order of `format::Reading`, all 0 where `read_header` refuses
+//   128  a run, the file
+//   a run, the entries that `read` writes, as numbers
+//   for each of the 30 fields, in the order of the definitions (`fieldNames`): a text, the descriptor
+//   the number of keys; for each a run, the key; a text, the value as it stands in the file; a run, the value
 //
 // The table is filled with 7 before the call; its entries past those written must still be 7. `read` must answer the same reading as
 // `read_header`, or 27 zeros where it refuses. Of a file that is refused each look-up must answer the refusal.
@@ -25,107 +20,26 @@ use format::ReadAnswer;
 use format::Reading;
 use format::Refusal;
 use format::ValueAnswer;
-use libc::STDIN_FILENO;
-use libc::STDOUT_FILENO;
-ghost use Prim.Native.Nat.{_<_, _≤_};
+use frames::parts::number_at;
+use frames::parts::part;
+use frames::parts::plus;
+use frames::parts::refusal_at;
+use frames::parts::run_at;
+use frames::parts::run_end;
+use frames::parts::same_refusal;
+use frames::parts::text_at;
+use frames::parts::text_end;
+use frames::parts::text_given;
+use frames::report::MALFORMED;
+use frames::report::Tally;
 
 // What the bytes of a buffer for a value are before the call.
 const UNTOUCHED: u8 = 165;
-
-// The number of a case whose bytes do not fit the frame.
-const MALFORMED: u32 = 9;
 
 // A place in a frame, and whether all up to there is right.
 struct Step {
     at: usize,
     right: bool,
-}
-
-// Whether the cases fit the frame, and how many are right.
-struct Tally {
-    fits: bool,
-    right: u64,
-}
-
-fn wide(b: u8) -> u32
-    ensures { λ r. ⌜ r < 256 ⌝ }
-{
-    b as u32
-}
-
-// The sum, or the largest number where it is too large.
-fn plus(a: usize, b: usize) -> usize {
-    if usize::MAX - a < b {
-        return usize::MAX;
-    }
-    a + b
-}
-
-// The number at `at`, 0 past the end.
-fn number_at(s: &[u8], at: usize) -> u32 {
-    if s.len() < 4 {
-        return 0;
-    }
-    if s.len() - 4 < at {
-        return 0;
-    }
-    wide(s[at]) + 256 * wide(s[at + 1]) + 65536 * wide(s[at + 2]) + 16777216 * wide(s[at + 3])
-}
-
-// So many bytes at `at`, none where they pass the end.
-fn part<'a>(s: &'a [u8], at: usize, n: usize) -> &'a [u8] {
-    if s.len() < at {
-        return &s[..0];
-    }
-    if s.len() - at < n {
-        return &s[..0];
-    }
-    &s[at..at + n]
-}
-
-// The bytes of the run at `at`.
-fn run_at<'a>(s: &'a [u8], at: usize) -> &'a [u8] {
-    part(s, plus(at, 4), number_at(s, at) as usize)
-}
-
-// Where the run at `at` ends.
-fn run_end(s: &[u8], at: usize) -> usize {
-    plus(plus(at, 4), number_at(s, at) as usize)
-}
-
-// One less, 0 of 0.
-fn less_one(n: u32) -> u32 {
-    if n == 0 {
-        return 0;
-    }
-    n - 1
-}
-
-// The bytes of the text at `at`, none where it is absent.
-fn text_at<'a>(s: &'a [u8], at: usize) -> &'a [u8] {
-    part(s, plus(at, 4), less_one(number_at(s, at)) as usize)
-}
-
-// Whether the text at `at` is there.
-fn text_given(s: &[u8], at: usize) -> bool {
-    number_at(s, at) != 0
-}
-
-// Where the text at `at` ends.
-fn text_end(s: &[u8], at: usize) -> usize {
-    plus(plus(at, 4), less_one(number_at(s, at)) as usize)
-}
-
-// The refusal at `at`.
-fn refusal_at(s: &[u8], at: usize) -> Refusal {
-    Refusal {
-        number: number_at(s, at),
-        line: number_at(s, plus(at, 4)),
-    }
-}
-
-fn same_refusal(a: Refusal, b: Refusal) -> bool {
-    (a.number == b.number) & (a.line == b.line)
 }
 
 // Whether the numbers before the sizes are those of the frame.
@@ -363,48 +277,6 @@ fn case_fault(s: &[u8]) -> u32 {
     header_fault(file, s, run_end(s, at))
 }
 
-// What a case adds to the count.
-fn score(fault: u32) -> u64
-    ensures { λ r. ⌜ r ≤ 1 ⌝ }
-{
-    if fault == 0 {
-        return 1;
-    }
-    0
-}
-
-// Prints the number of a case that is not right, and the part.
-fn tell(n: u32, fault: u32) {
-    if fault != 0 {
-        io::write_all(STDOUT_FILENO, b"case ");
-        io::print_decimal(STDOUT_FILENO, n as u64);
-        io::write_all(STDOUT_FILENO, b" is wrong in part ");
-        io::print_decimal(STDOUT_FILENO, fault as u64);
-        io::write_all(STDOUT_FILENO, b"\n");
-    }
-}
-
-// Reads so many bytes of the input to the front of the buffer; whether they fit and the input has them.
-fn fill(buffer: &mut [u8], n: usize) -> bool {
-    if buffer.len() < n {
-        return false;
-    }
-    io::read_full(STDIN_FILENO, &mut buffer[..n]) == n
-}
-
-// The next number of the input, the largest one at its end.
-fn next_number() -> u32 {
-    let mut bytes = [0u8; 4];
-    if !fill(&mut bytes, 4) {
-        return u32::MAX;
-    }
-    first_number(&bytes)
-}
-
-fn first_number(bytes: &[u8; 4]) -> u32 {
-    number_at(bytes, 0)
-}
-
 // The part that is wrong of the case in the first `n` bytes.
 fn fault_in(buffer: &[u8; 131072], n: usize) -> u32 {
     case_fault(part(buffer, 0, n))
@@ -412,9 +284,9 @@ fn fault_in(buffer: &[u8; 131072], n: usize) -> u32 {
 
 // The part that is wrong of the next case of the input.
 fn next_fault() -> u32 {
-    let n = next_number() as usize;
+    let n = frames::input::next_number() as usize;
     let mut buffer = [0u8; 131072];
-    if !fill(&mut buffer, n) {
+    if !frames::input::fill(&mut buffer, n) {
         return MALFORMED;
     }
     fault_in(&buffer, n)
@@ -433,8 +305,8 @@ fn run_cases(count: u32) -> Tally {
             };
         }
         n += 1;
-        tell(n, fault);
-        right += score(fault);
+        frames::report::tell(n, fault);
+        right += frames::report::score(fault);
     }
     Tally {
         fits: true,
@@ -442,51 +314,35 @@ fn run_cases(count: u32) -> Tally {
     }
 }
 
-// Prints the line of a group, whose name is the first `n` bytes.
-fn tell_group(name: &[u8; 256], n: usize, right: u64, count: u32) {
-    io::write_all(STDOUT_FILENO, part(name, 0, n));
-    io::write_all(STDOUT_FILENO, b": ");
-    io::print_decimal(STDOUT_FILENO, right);
-    io::write_all(STDOUT_FILENO, b" of ");
-    io::print_decimal(STDOUT_FILENO, count as u64);
-    io::write_all(STDOUT_FILENO, b"\n");
-}
-
 // Runs the next group of the input; whether it fits the frame.
 fn run_group() -> bool {
-    let n = next_number() as usize;
+    let n = frames::input::next_number() as usize;
     let mut name = [0u8; 256];
-    if !fill(&mut name, n) {
+    if !frames::input::fill(&mut name, n) {
         return false;
     }
-    let count = next_number();
+    let count = frames::input::next_number();
     let tally = run_cases(count);
     if tally.fits {
-        tell_group(&name, n, tally.right, count);
+        frames::report::tell_group(&name, n, tally.right, count);
     }
     tally.fits
 }
 
-// Whether the input has no more bytes.
-fn ended() -> bool {
-    let mut byte = [0u8; 1];
-    !fill(&mut byte, 1)
-}
-
 // Runs the groups of the input; whether it fits the frame.
 fn run_groups() -> bool {
-    let mut left = next_number();
+    let mut left = frames::input::next_number();
     while 0 < left {
         if !run_group() {
             return false;
         }
         left -= 1;
     }
-    ended()
+    frames::input::ended()
 }
 
 fn main() {
     if !run_groups() {
-        io::write_all(STDOUT_FILENO, b"malformed\n");
+        frames::report::tell_malformed();
     }
 }

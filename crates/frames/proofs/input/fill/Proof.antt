@@ -1,10 +1,10 @@
--- `trials::fill` is safe and ends: the part that is lent lies within the buffer.
+-- `frames::input::fill` is safe and ends: the part that is lent lies within the buffer.
 -- Assumes nothing.
 use native.Mathlib.Omega.{arith}
 use lib.ListN.{length-take}
 use borrow.Author.Needs.{needs}
-use Rattle.trials.proofs.fill.Statement.{statement}
-use Rattle.trials.proofs.fill.Tie as tie
+use Rattle.frames.proofs.input.fill.Statement.{statement}
+use Rattle.frames.proofs.input.fill.Tie as tie
 
 returns : tie.Need-returns
 returns c = search needs

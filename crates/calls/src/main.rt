@@ -1,0 +1,374 @@
+// Runs the cases of standard input through the calls on the data, its samples, coordinates and written files. The frame and what is printed
+// are those of crate `frames`. A wide number is 8 bytes, low byte first; a negative sample is its two's complement.
+//
+// A case has at most 131,072 bytes:
+//   0    which call: 0 data, 1 samples, 2 coordinates, 3 writer
+//   4    the number and the line of the refusal, both 0 where the call accepts; with a refusal what is expected besides is 0 or empty
+// then, of a case for the data:
+//   12   1 where the data lies in the second file, else 0; its start; its length
+//   24   a run, the header's file; a run, the second file
+// for samples:
+//   12   the room, a wide number: how many entries the lent list has
+//   20   a run, the header's file; a run, the second file; a run, the samples as wide numbers
+// for coordinates:
+//   12   the number of the sample
+//   16   a run, the file; a run, at most 32 coordinates as wide numbers
+// for the writer:
+//   12   the room: how many bytes the lent buffer has
+//   16   version, type, encoding, endian, as wide numbers
+//   48   a run, at most 32 sizes as wide numbers; a run, at most 1,024 samples as wide numbers; a run, the file that is written
+//
+// `check_samples` is asked with the room itself; `samples` is lent at most 1,024 entries.
+// The list and the buffer are filled before the call; every entry and byte past those written must still be so.
+// A file that is written must be read back: its samples must be those lent.
+//
+// The parts of a case: 1 the answer, 2 the list, the buffer or the bytes of the data, 3 the answer of `check_samples`, 4 what is read back.
+// Where the input does not fit the frame the run ends with the line `malformed`.
+use format::CountAnswer;
+use format::DataAnswer;
+use format::Refusal;
+use format::WriteAnswer;
+use frames::parts::number_at;
+use frames::parts::part;
+use frames::parts::plus;
+use frames::parts::refusal_at;
+use frames::parts::run_at;
+use frames::parts::run_end;
+use frames::parts::same_refusal;
+use frames::report::MALFORMED;
+use frames::report::Tally;
+
+// What the entries of a list are before the call.
+const UNTOUCHED_SAMPLE: i64 = -6510615555426900571;
+
+// What the bytes of a buffer are before the call.
+const UNTOUCHED: u8 = 165;
+
+// The wide number at `at`.
+fn wide_at(s: &[u8], at: usize) -> u64 {
+    number_at(s, at) as u64 + 4294967296 * (number_at(s, plus(at, 4)) as u64)
+}
+
+// The number with these bits, a two's complement.
+fn signed(bits: u64) -> i64 {
+    if bits < 9223372036854775808 {
+        return bits as i64;
+    }
+    !((18446744073709551615 - bits) as i64)
+}
+
+// The wide numbers of a run, 0 past its end.
+fn wides_of(s: &[u8]) -> [u64; 32] {
+    let mut list = [0u64; 32];
+    let mut i: usize = 0;
+    while i < 32 {
+        list[i] = wide_at(s, 8 * i);
+        i += 1;
+    }
+    list
+}
+
+// The samples of a run, 0 past its end.
+fn samples_of(s: &[u8]) -> [i64; 1024] {
+    let mut list = [0i64; 1024];
+    let mut i: usize = 0;
+    while i < 1024 {
+        list[i] = signed(wide_at(s, 8 * i));
+        i += 1;
+    }
+    list
+}
+
+// The first n of the numbers, none where there are fewer.
+fn first_wides(list: &[u64], n: usize) -> &[u64] {
+    if list.len() < n {
+        return &list[..0];
+    }
+    &list[0..n]
+}
+
+// The first n of the samples, none where there are fewer.
+fn first_samples(list: &[i64], n: usize) -> &[i64] {
+    if list.len() < n {
+        return &list[..0];
+    }
+    &list[0..n]
+}
+
+// Whether the answer is the place of the data at the front of the case.
+fn place_right(a: DataAnswer, s: &[u8]) -> bool {
+    let told = a.refusal;
+    let holder = a.second == (number_at(s, 12) == 1);
+    let place = (a.start == number_at(s, 16) as u64) & (a.length == number_at(s, 20) as u64);
+    same_refusal(told, refusal_at(s, 4)) & holder & place
+}
+
+// The bytes at the place of the data at the front of the case.
+fn part_of<'a>(s: &[u8], file: &'a [u8], second: &'a [u8]) -> &'a [u8] {
+    let start = number_at(s, 16) as usize;
+    let length = number_at(s, 20) as usize;
+    if number_at(s, 12) == 1 {
+        return part(second, start, length);
+    }
+    part(file, start, length)
+}
+
+// The part of a case for the data that is wrong, 0 for none.
+fn data_fault(s: &[u8]) -> u32 {
+    let at = run_end(s, 24);
+    let file = run_at(s, 24);
+    let second = run_at(s, at);
+    if run_end(s, at) != s.len() {
+        return MALFORMED;
+    }
+    if !place_right(volume::place::data_place(file, second), s) {
+        return 1;
+    }
+    if !check::same(volume::place::data(file, second), part_of(s, file, second)) {
+        return 2;
+    }
+    0
+}
+
+// The entry that the list must have at `i`: the sample of the run, or what it was before the call.
+fn entry_at(s: &[u8], i: usize) -> i64 {
+    if i < s.len() / 8 {
+        return signed(wide_at(s, 8 * i));
+    }
+    UNTOUCHED_SAMPLE
+}
+
+// Whether the list has the samples of the run at its front, and every other entry is as it was before the call.
+fn list_right(list: &[i64; 1024], s: &[u8]) -> bool {
+    let mut right = true;
+    let mut i: usize = 0;
+    while i < 1024 {
+        right = right & (list[i] == entry_at(s, i));
+        i += 1;
+    }
+    right
+}
+
+// Whether the answer is this refusal, or as many samples as the run has.
+fn count_right(a: CountAnswer, refusal: Refusal, s: &[u8]) -> bool {
+    let told = a.refusal;
+    same_refusal(told, refusal) & (a.count == (s.len() / 8) as u64)
+}
+
+// The answer of `samples` where the first `room` entries of the list are lent, all where it has fewer.
+fn samples_to(file: &[u8], second: &[u8], list: &mut [i64], room: usize) -> CountAnswer {
+    if room < list.len() {
+        return volume::calls::samples(file, second, &mut list[0..room]);
+    }
+    volume::calls::samples(file, second, list)
+}
+
+// The part of the answers about samples that is wrong, 0 for none.
+fn decoding_fault(file: &[u8], second: &[u8], refusal: Refusal, room: usize, s: &[u8]) -> u32 {
+    let mut list = [UNTOUCHED_SAMPLE; 1024];
+    if !count_right(samples_to(file, second, &mut list, room), refusal, s) {
+        return 1;
+    }
+    if !list_right(&list, s) {
+        return 2;
+    }
+    if !count_right(volume::calls::check_samples(file, second, room), refusal, s) {
+        return 3;
+    }
+    0
+}
+
+// The part of a case for samples that is wrong, 0 for none.
+fn samples_fault(s: &[u8]) -> u32 {
+    let second = run_end(s, 20);
+    let samples = run_end(s, second);
+    if run_end(s, samples) != s.len() {
+        return MALFORMED;
+    }
+    let room = wide_at(s, 12) as usize;
+    decoding_fault(
+        run_at(s, 20),
+        run_at(s, second),
+        refusal_at(s, 4),
+        room,
+        run_at(s, samples),
+    )
+}
+
+// The part of a case for coordinates that is wrong, 0 for none.
+fn coordinates_fault(s: &[u8]) -> u32 {
+    let at = run_end(s, 16);
+    let run = run_at(s, at);
+    if run_end(s, at) != s.len() {
+        return MALFORMED;
+    }
+    let coords = wides_of(run);
+    let n = run.len() / 8;
+    let answer = volume::axes::sample_number(run_at(s, 16), first_wides(&coords, n));
+    let told = answer.refusal;
+    if !same_refusal(told, refusal_at(s, 4)) | (answer.number != number_at(s, 12) as u64) {
+        return 1;
+    }
+    0
+}
+
+// The answer of the writer to the numbers of the case.
+fn write_case(s: &[u8], sizes: &[u64], samples: &[i64], out: &mut [u8]) -> WriteAnswer {
+    let version = wide_at(s, 16);
+    let sampletype = wide_at(s, 24);
+    let encoding = wide_at(s, 32);
+    let endian = wide_at(s, 40);
+    writer::write(version, sizes, sampletype, encoding, endian, samples, out)
+}
+
+// The answer of the writer where the first `room` bytes of the buffer are lent, all where it has fewer.
+fn write_to(s: &[u8], sizes: &[u64], samples: &[i64], out: &mut [u8], room: usize) -> WriteAnswer {
+    if room < out.len() {
+        return write_case(s, sizes, samples, &mut out[0..room]);
+    }
+    write_case(s, sizes, samples, out)
+}
+
+// The answer of the writer to a case with these runs of sizes and samples.
+fn written(s: &[u8], sizes: &[u8], samples: &[u8], out: &mut [u8]) -> WriteAnswer {
+    let wides = wides_of(sizes);
+    let list = samples_of(samples);
+    let axes = first_wides(&wides, sizes.len() / 8);
+    let lent = first_samples(&list, samples.len() / 8);
+    write_to(s, axes, lent, out, number_at(s, 12) as usize)
+}
+
+// Whether the bytes from `from` on are as they were before the call.
+fn untouched(out: &[u8; 65536], from: usize) -> bool {
+    let mut right = true;
+    let mut i = from;
+    while i < 65536 {
+        right = right & (out[i] == UNTOUCHED);
+        i += 1;
+    }
+    right
+}
+
+// Whether the bytes of the buffer are the file and then as they were before the call.
+fn holds(out: &[u8; 65536], file: &[u8]) -> bool {
+    untouched(out, file.len()) & check::same(part(out, 0, file.len()), file)
+}
+
+// Whether the samples of the file are those of the run. There is nothing to read back where nothing was written.
+fn back_right(file: &[u8], s: &[u8]) -> bool {
+    if file.len() == 0 {
+        return true;
+    }
+    let fine = Refusal { number: 0, line: 0 };
+    decoding_fault(file, &file[..0], fine, 1024, s) == 0
+}
+
+// The part of a case for the writer that is wrong, 0 for none.
+fn write_fault(s: &[u8]) -> u32 {
+    let samples = run_end(s, 48);
+    let at = run_end(s, samples);
+    if run_end(s, at) != s.len() {
+        return MALFORMED;
+    }
+    let file = run_at(s, at);
+    let mut out = [UNTOUCHED; 65536];
+    let answer = written(s, run_at(s, 48), run_at(s, samples), &mut out);
+    let told = answer.refusal;
+    if !same_refusal(told, refusal_at(s, 4)) | (answer.length != file.len() as u64) {
+        return 1;
+    }
+    if !holds(&out, file) {
+        return 2;
+    }
+    if !back_right(file, run_at(s, samples)) {
+        return 4;
+    }
+    0
+}
+
+// The part of a case that is wrong, 0 for none.
+fn case_fault(s: &[u8]) -> u32 {
+    let call = number_at(s, 0);
+    if call == 0 {
+        return data_fault(s);
+    }
+    if call == 1 {
+        return samples_fault(s);
+    }
+    if call == 2 {
+        return coordinates_fault(s);
+    }
+    if call == 3 {
+        return write_fault(s);
+    }
+    MALFORMED
+}
+// The part that is wrong of the case in the first `n` bytes.
+fn fault_in(buffer: &[u8; 131072], n: usize) -> u32 {
+    case_fault(part(buffer, 0, n))
+}
+
+// The part that is wrong of the next case of the input.
+fn next_fault() -> u32 {
+    let n = frames::input::next_number() as usize;
+    let mut buffer = [0u8; 131072];
+    if !frames::input::fill(&mut buffer, n) {
+        return MALFORMED;
+    }
+    fault_in(&buffer, n)
+}
+
+// Runs the next cases of the input, so many.
+fn run_cases(count: u32) -> Tally {
+    let mut right: u64 = 0;
+    let mut n: u32 = 0;
+    while n < count {
+        let fault = next_fault();
+        if fault == MALFORMED {
+            return Tally {
+                fits: false,
+                right: right,
+            };
+        }
+        n += 1;
+        frames::report::tell(n, fault);
+        right += frames::report::score(fault);
+    }
+    Tally {
+        fits: true,
+        right: right,
+    }
+}
+
+// Runs the next group of the input; whether it fits the frame.
+fn run_group() -> bool {
+    let n = frames::input::next_number() as usize;
+    let mut name = [0u8; 256];
+    if !frames::input::fill(&mut name, n) {
+        return false;
+    }
+    let count = frames::input::next_number();
+    let tally = run_cases(count);
+    if tally.fits {
+        frames::report::tell_group(&name, n, tally.right, count);
+    }
+    tally.fits
+}
+
+// Runs the groups of the input; whether it fits the frame.
+fn run_groups() -> bool {
+    let mut left = frames::input::next_number();
+    while 0 < left {
+        if !run_group() {
+            return false;
+        }
+        left -= 1;
+    }
+    frames::input::ended()
+}
+
+fn main() {
+    if !run_groups() {
+        frames::report::tell_malformed();
+    }
+}

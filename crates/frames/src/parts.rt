@@ -1,0 +1,84 @@
+// The parts of a frame: numbers, runs and texts at a place. Past the end a number is 0 and a run is empty.
+use format::Refusal;
+ghost use Prim.Native.Nat.{_<_};
+
+fn wide(b: u8) -> u32
+    ensures { λ r. ⌜ r < 256 ⌝ }
+{
+    b as u32
+}
+
+// The sum, or the largest number where it is too large.
+pub fn plus(a: usize, b: usize) -> usize {
+    if usize::MAX - a < b {
+        return usize::MAX;
+    }
+    a + b
+}
+
+// The number at `at`, 0 past the end.
+pub fn number_at(s: &[u8], at: usize) -> u32 {
+    if s.len() < 4 {
+        return 0;
+    }
+    if s.len() - 4 < at {
+        return 0;
+    }
+    wide(s[at]) + 256 * wide(s[at + 1]) + 65536 * wide(s[at + 2]) + 16777216 * wide(s[at + 3])
+}
+
+// So many bytes at `at`, none where they pass the end.
+pub fn part<'a>(s: &'a [u8], at: usize, n: usize) -> &'a [u8] {
+    if s.len() < at {
+        return &s[..0];
+    }
+    if s.len() - at < n {
+        return &s[..0];
+    }
+    &s[at..at + n]
+}
+
+// The bytes of the run at `at`.
+pub fn run_at<'a>(s: &'a [u8], at: usize) -> &'a [u8] {
+    part(s, plus(at, 4), number_at(s, at) as usize)
+}
+
+// Where the run at `at` ends.
+pub fn run_end(s: &[u8], at: usize) -> usize {
+    plus(plus(at, 4), number_at(s, at) as usize)
+}
+
+// One less, 0 of 0.
+fn less_one(n: u32) -> u32 {
+    if n == 0 {
+        return 0;
+    }
+    n - 1
+}
+
+// The bytes of the text at `at`, none where it is absent.
+pub fn text_at<'a>(s: &'a [u8], at: usize) -> &'a [u8] {
+    part(s, plus(at, 4), less_one(number_at(s, at)) as usize)
+}
+
+// Whether the text at `at` is there.
+pub fn text_given(s: &[u8], at: usize) -> bool {
+    number_at(s, at) != 0
+}
+
+// Where the text at `at` ends.
+pub fn text_end(s: &[u8], at: usize) -> usize {
+    plus(plus(at, 4), less_one(number_at(s, at)) as usize)
+}
+
+// The refusal at `at`: its number and its line.
+pub fn refusal_at(s: &[u8], at: usize) -> Refusal {
+    Refusal {
+        number: number_at(s, at),
+        line: number_at(s, plus(at, 4)),
+    }
+}
+
+pub fn same_refusal(a: Refusal, b: Refusal) -> bool {
+    (a.number == b.number) & (a.line == b.line)
+}
