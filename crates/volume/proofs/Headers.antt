@@ -104,6 +104,10 @@ module _ (s : List ℕ) {es : List Entry} {gs : List Given} {r : List Line} (e :
   as-many : length (sizesOf gs) ≡ dimensionOf gs
   as-many = header-kept .sized (needs-sizes gs (header-complete .needed))
 
+  -- there are at most 16
+  pub header-few : length (sizesOf gs) ≤ maxAxes
+  header-few = omega (arith, as-many, header-kept .axes)
+
   -- the reading's sizes are at least as many
   pub header-axes : dimensionOf gs ≤ length (sizesOf gs ++ replicate (maxAxes - length (sizesOf gs)) 0)
   header-axes = omega (arith, as-many, length-append (sizesOf gs) (replicate (maxAxes - length (sizesOf gs)) 0))

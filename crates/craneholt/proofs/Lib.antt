@@ -1,0 +1,4 @@
+pub mod CutTables
+pub mod CutCoordinates
+pub mod Fronts
+pub mod Packed

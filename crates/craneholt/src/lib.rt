@@ -1,0 +1,119 @@
+// The entry points for C: numbers and lent bytes in, an answer by value out. Each is a call of a function of the library.
+use format::CountAnswer;
+use format::DataAnswer;
+use format::FindAnswer;
+use format::NumberAnswer;
+use format::ReadAnswer;
+use format::SetAnswer;
+use format::ValueAnswer;
+ghost use mathlib.Core.Path.{_≡_};
+ghost use mathlib.Core.List.{List};
+ghost use Prim.Native.Nat.{ℕ, _/_, min};
+ghost use Rattle.format.specs.declared.ReadAnswer.{ReadAnswer};
+ghost use Rattle.format.specs.declared.ValueAnswer.{ValueAnswer};
+ghost use Rattle.format.specs.declared.SetAnswer.{SetAnswer};
+ghost use Rattle.format.specs.Limits.{maxLines};
+ghost use Rattle.format.specs.Boundary.{entryBytes};
+ghost use Rattle.format.specs.Calls.{readHeaderCall, findFieldCall, findKeyCall, copyValueCall, dataPlaceCall, checkSamplesCall};
+ghost use Rattle.craneholt.specs.EntryPoints.{readEntry, sampleNumberEntry, setKeyEntry};
+
+// How many entries a table of so many bytes has, at most 1,024: no header has more lines.
+fn room_of(bytes: usize) -> usize
+    ensures { λ r. ⌜ r ≡ min (bytes / entryBytes) maxLines ⌝ }
+{
+    let entries = bytes / 4;
+    if entries < 1024 { entries } else { 1024 }
+}
+
+// The reading of a file's header.
+#[no_mangle]
+pub extern "C" fn craneholt_read_header(file: &[u8]) -> ReadAnswer
+    ensures { λ r. ⌜ r ≡ readHeaderCall (now (file .entry)) ⌝ }
+{
+    header::read::read_header(file)
+}
+
+// The reading of a file's header, and where each of its lines starts, 4 bytes each, at the front of the table.
+#[no_mangle]
+pub extern "C" fn craneholt_read(file: &[u8], table: &mut [u8]) -> ReadAnswer
+    ensures { λ r. ⌜ _≡_ {A = ReadAnswer × List ℕ} (r, now (table .exit)) (readEntry (now (file .entry)) (now (table .entry))) ⌝ }
+{
+    let mut local = [0u32; 1024];
+    let room = room_of(table.len());
+    let answer = header::read::read(file, &mut local[..room]);
+    // a refused file has no lines
+    let count = answer.reading.lines as usize;
+    words::put_entries(&local[..count], table);
+    answer
+}
+
+// Where the descriptor of a field lies in the file.
+#[no_mangle]
+pub extern "C" fn craneholt_find_field(file: &[u8], field: u32) -> FindAnswer
+    ensures { λ r. ⌜ r ≡ findFieldCall (now (file .entry)) field ⌝ }
+{
+    header::find::find_field(file, field)
+}
+
+// Where the value's text of a key lies in the file.
+#[no_mangle]
+pub extern "C" fn craneholt_find_key(file: &[u8], key: &[u8]) -> FindAnswer
+    ensures { λ r. ⌜ r ≡ findKeyCall (now (file .entry)) (now (key .entry)) ⌝ }
+{
+    header::find::find_key(file, key)
+}
+
+// The value of a key to the front of `out`, escapes resolved.
+#[no_mangle]
+pub extern "C" fn craneholt_copy_value(file: &[u8], key: &[u8], out: &mut [u8]) -> ValueAnswer
+    ensures { λ r. ⌜ _≡_ {A = ValueAnswer × List ℕ} (r, now (out .exit)) (copyValueCall (now (file .entry)) (now (key .entry)) (now (out .entry))) ⌝ }
+{
+    header::find::copy_value(file, key, out)
+}
+
+// Where the data lies: in the file or in the second one.
+#[no_mangle]
+pub extern "C" fn craneholt_data(file: &[u8], second: &[u8]) -> DataAnswer
+    ensures { λ r. ⌜ r ≡ dataPlaceCall (now (file .entry)) (now (second .entry)) ⌝ }
+{
+    volume::place::data_place(file, second)
+}
+
+// The refusal that a list of `room` samples would meet, or how many samples there are.
+#[no_mangle]
+pub extern "C" fn craneholt_check_samples(file: &[u8], second: &[u8], room: usize) -> CountAnswer
+    ensures { λ r. ⌜ r ≡ checkSamplesCall (now (file .entry)) (now (second .entry)) room ⌝ }
+{
+    volume::calls::check_samples(file, second, room)
+}
+
+// The number of the sample at the coordinates, 8 bytes each.
+#[no_mangle]
+pub extern "C" fn craneholt_sample_number(file: &[u8], coords: &[u8]) -> NumberAnswer
+    ensures { λ r. ⌜ r ≡ sampleNumberEntry (now (file .entry)) (now (coords .entry)) ⌝ }
+{
+    // one more than there can be axes
+    let mut local = [0u64; 17];
+    let n = words::numbers(coords, &mut local);
+    volume::axes::sample_number(file, &local[..n])
+}
+
+// Sets a key to a value in the file in the first `used` bytes of a buffer, whose line table has `count` entries, 4 bytes each.
+#[no_mangle]
+pub extern "C" fn craneholt_set_key(
+    buf: &mut [u8],
+    used: usize,
+    table: &mut [u8],
+    count: usize,
+    key: &[u8],
+    value: &[u8],
+) -> SetAnswer
+    ensures { λ r. ⌜ _≡_ {A = SetAnswer × (List ℕ × List ℕ)} (r, (now (buf .exit), now (table .exit))) (setKeyEntry (now (buf .entry)) used (now (table .entry)) count (now (key .entry)) (now (value .entry))) ⌝ }
+{
+    // a header has at most 1,024 lines
+    let mut local = [0u32; 1024];
+    let n = words::entries(table, &mut local);
+    let answer = settings::set::set_key(buf, used, &mut local[..n], count, key, value);
+    words::put_entries(&local[..n], table);
+    answer
+}
