@@ -24,28 +24,38 @@ static size_t our_header(void *on)
     return craneholt_read(v->file, v->length, table, sizeof table).reading.lines;
 }
 
-static size_t teem_read(volume *v, int header_only)
+static Nrrd *teem_read(volume *v, int header_only)
 {
     FILE *in = fmemopen(v->file, v->length, "rb");
     Nrrd *nrrd = nrrdNew();
     NrrdIoState *state = nrrdIoStateNew();
     nrrdIoStateSet(state, nrrdIoStateSkipData, header_only);
-    int failed = nrrdRead(nrrd, in, state);
-    size_t n = failed ? 0 : nrrd->dim;
+    must_hold(nrrdRead(nrrd, in, state) == 0, "libteem");
     nrrdIoStateNix(state);
-    nrrdNuke(nrrd);
     fclose(in);
-    return n;
+    return nrrd;
 }
 
 static size_t teem_header(void *on)
 {
-    return teem_read((volume *)on, AIR_TRUE);
+    nrrdNuke(teem_read((volume *)on, AIR_TRUE));
+    return 1;
 }
 
 static size_t teem_data(void *on)
 {
-    return teem_read((volume *)on, AIR_FALSE);
+    nrrdNuke(teem_read((volume *)on, AIR_FALSE));
+    return 1;
+}
+
+static size_t teem_samples(void *on)
+{
+    Nrrd *nrrd = teem_read((volume *)on, AIR_FALSE);
+    Nrrd *wide = nrrdNew();
+    must_hold(nrrdConvert(wide, nrrd, nrrdTypeLLong) == 0, "libteem");
+    nrrdNuke(wide);
+    nrrdNuke(nrrd);
+    return 1;
 }
 
 /* the data where it lies */
@@ -112,6 +122,6 @@ int main(void)
     make_volume(&v);
     compare("its place (nothing is copied)", our_place, teem_data, &v, 1);
     compare("a copy, as libteem makes one", our_copy, teem_data, &v, 1);
-    compare("all samples as int64_t", our_samples, teem_data, &v, 1);
+    compare("all samples as int64_t", our_samples, teem_samples, &v, 1);
     return EXIT_SUCCESS;
 }

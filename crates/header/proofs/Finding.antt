@@ -33,7 +33,7 @@ use Rattle.text.specs.Rows.{rowAnswer}
 use Rattle.text.specs.Meanings.{meansKey}
 use Rattle.text.proofs.Places.{mark-split-field, mark-split-pair, mark-split-nothing, trim-front-le}
 use Rattle.header.specs.Spans.{LineAt, PastAt}
-use Rattle.header.specs.Lookup.{IsItem, Items, Left, keyThen, keyElse, KeyLeft, FieldLeft, isField, SecondAt}
+use Rattle.header.specs.Lookup.{Headed, IsItem, Items, Left, keyThen, keyElse, KeyLeft, FieldLeft, isField, SecondAt}
 
 -- ---- a line that is neither empty nor a comment, by its first byte
 
@@ -407,16 +407,8 @@ module _ (file : List ℕ) where
       let y : w .first ≡ l = cc in
       absurd (omega (arith, w .long, ap size y))
 
--- an accepted file with a header of n lines
-pub record Accepted (file : List ℕ) (n : ℕ) : Type 0 where
-  pub entries : List Entry
-  pub fields : List Given
-  pub after : List Line
-  pub is : header file ≡ accepted entries fields after
-  pub many : length entries ≡ n
-
--- there is a byte in it, and a line in its header
-pub some-byte : (file : List ℕ) {n : ℕ} → Accepted file n → 0 < length file
+-- there is a byte in an accepted file, and a line in its header
+pub some-byte : (file : List ℕ) {n : ℕ} → Headed file n → 0 < length file
 some-byte file a =
     let x = header-sound file (a .is) in
     let c = x .split ∙ ap (λ es. linesOf es ++ a .after) (x .entries) in
@@ -424,6 +416,9 @@ some-byte file a =
 
 some-line : (file : List ℕ) {es : List Entry} {gs : List Given} {ls : List Line} → header file ≡ accepted es gs ls → 0 < length es
 some-line file e = let x = header-sound file e in rw (x .entries) (omega arith)
+
+pub some-lines : (file : List ℕ) {n : ℕ} → Headed file n → 1 ≤ n
+some-lines file a = omega (arith, some-line file (a .is), a .many)
 
 module _ (file : List ℕ) (read : ReadAnswer) (e : read ≡ readHeaderCall file) where
   pub was-refused : read .reading .lines ≡ 0 → header file ≡ refused (read .refusal)
@@ -434,13 +429,13 @@ module _ (file : List ℕ) (read : ReadAnswer) (e : read ≡ readHeaderCall file
       go (refused r) p q = p ∙ ap refused (sym (ap (λ a. a .refusal) q))
       go (accepted es gs ls) p q = absurd (omega (arith, some-line file p, ap (λ a. a .reading .lines) q))
 
-  pub was-accepted : (read .reading .lines ≡ 0 → ⊥) → Accepted file (read .reading .lines)
+  pub was-accepted : (read .reading .lines ≡ 0 → ⊥) → Headed file (read .reading .lines)
   unfolding readingOf noReading
   was-accepted z = go (header file) refl e
     where
-      go : (o : Outcome) → header file ≡ o → read ≡ readAnswer o → Accepted file (read .reading .lines)
+      go : (o : Outcome) → header file ≡ o → read ≡ readAnswer o → Headed file (read .reading .lines)
       go (refused r) p q = absurd (z (ap (λ a. a .reading .lines) q))
-      go (accepted es gs ls) p q = record { entries = es; fields = gs; after = ls; is = p; many = sym (ap (λ a. a .reading .lines) q) }
+      go (accepted es gs ls) p q = record { entries = es; fields = gs; after = ls; is = p; many = ap (λ a. a .reading .lines) q }
 
 -- the lines of a fine header were judged to be its items
 pub items : (version : ℕ) (es : List Entry) (gs gs′ : List Given) (r : List Line) → Fine version gs es gs′ r → Items es
@@ -451,7 +446,7 @@ items version (entry l i ∷ es) gs gs′ r f = (
 )
 
 -- the lines after line 1 are those of the entries after it
-module _ (file : List ℕ) {n at : ℕ} (a : Accepted file n) (s : SecondAt file at) where
+module _ (file : List ℕ) {n at : ℕ} (a : Headed file n) (s : SecondAt file at) where
   start : (Q : List Entry → Type 0) → ((l : Line) (v : ℕ) (es : List Entry) → at ≡ size l → a .entries ≡ entry l (magic v) ∷ es → Q es)
       → Left Q file at (n - 1)
   unfolding unlines

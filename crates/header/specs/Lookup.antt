@@ -11,9 +11,17 @@ use Rattle.format.specs.Bytes.{if_then_else_, isSome}
 use Rattle.format.specs.Limits.{maxHeader}
 use Rattle.format.specs.Lines.{Line, text, size, lines}
 use Rattle.format.specs.Fields.{Given}
-use Rattle.format.specs.Header.{Item, Entry, entry, linesOf, right, judge, valueIn, headerLength}
+use Rattle.format.specs.Header.{Item, Entry, entry, linesOf, right, judge, accepted, header, valueIn, headerLength}
 use Rattle.format.specs.Settings.{hasKey}
 use Rattle.format.specs.Calls.{valuePlace, keyPlace, findKeyCall, fieldPlace, findFieldCall}
+
+-- a file whose header is accepted, with so many lines
+pub record Headed (file : List ℕ) (lines : ℕ) : Type 0 where
+  pub entries : List Entry
+  pub fields : List Given
+  pub after : List Line
+  pub is : header file ≡ accepted entries fields after
+  pub many : lines ≡ length entries
 
 -- a line with the text t was judged to be the item
 pub record IsItem (t : List ℕ) (i : Item) : Type 0 where

@@ -16,7 +16,7 @@ ghost use Rattle.format.specs.Descriptors.{fromDescriptor, descriptor};
 ghost use Rattle.format.specs.Header.{Item};
 ghost use Rattle.format.specs.Settings.{beginsFine};
 ghost use Rattle.format.specs.Calls.{noPlace, foundAt, descriptorPlace, findKeyCall, findFieldCall, copyValueCall};
-ghost use Rattle.header.specs.Lookup.{IsItem, keyThen, isField, KeyLeft, FieldLeft, SecondAt};
+ghost use Rattle.header.specs.Lookup.{Headed, IsItem, keyThen, isField, KeyLeft, FieldLeft, SecondAt};
 
 // The file is refused, or nothing is found in it.
 fn nowhere(refusal: Refusal) -> FindAnswer
@@ -49,8 +49,8 @@ fn placed(start: usize, length: usize) -> FindAnswer
     }
 }
 
-// Whether a line is neither empty nor a comment.
-fn begins(t: &[u8]) -> bool
+// Whether a text is not empty and does not begin as a comment.
+pub fn begins(t: &[u8]) -> bool
     ensures { λ r. ⌜ r ≡ beginsFine (now (t .entry)) ⌝ }
 {
     if t.len() == 0 {
@@ -179,7 +179,15 @@ fn first_field(file: &[u8], field: u32, from: usize, count: u32) -> FindAnswer
     absent()
 }
 
-// Where the value's text of a key lies in the file: in the last line with the key.
+// Where the value's text of a key lies in a file whose header has so many lines: in the last line with the key.
+pub fn find_key_in(file: &[u8], key: &[u8], lines: u32) -> FindAnswer
+    requires { ⌜ Headed (now file) lines ⌝ }
+    ensures { λ r. ⌜ r ≡ findKeyCall (now (file .entry)) (now (key .entry)) ⌝ }
+{
+    last_pair(file, key, second_line(file), lines - 1)
+}
+
+// Where the value's text of a key lies in the file.
 pub fn find_key(file: &[u8], key: &[u8]) -> FindAnswer
     ensures { λ r. ⌜ r ≡ findKeyCall (now (file .entry)) (now (key .entry)) ⌝ }
 {
@@ -190,7 +198,7 @@ pub fn find_key(file: &[u8], key: &[u8]) -> FindAnswer
     if count == 0 {
         return nowhere(refusal);
     }
-    last_pair(file, key, second_line(file), count - 1)
+    find_key_in(file, key, count)
 }
 
 // Where the descriptor of a field lies in the file.

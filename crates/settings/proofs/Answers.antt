@@ -8,7 +8,7 @@ use lib.Seq.{length-take-le}
 use borrow.Author.Tests.{lt-ltb, le-ltb}
 use Rattle.format.specs.declared.SetAnswer.{SetAnswer}
 use Rattle.format.specs.Bytes.{over}
-use Rattle.format.specs.Refusals.{lentTooShort, refusal, fine}
+use Rattle.format.specs.Refusals.{lentTooShort, refusal}
 use Rattle.format.specs.Settings.{pairText, refilled, setKey}
 use Rattle.format.specs.Calls.{setKeyCall}
 use Rattle.settings.specs.declared.plan.Plan.{Plan}
@@ -52,7 +52,7 @@ module _ (buf : List ℕ) (used : ℕ) (table : List ℕ) (count : ℕ) (k v : L
       -- done
       pub call-done : (buf′ : List ℕ) → buf′ ≡ refilled buf used edit
           → (table′ : List ℕ) → table′ ≡ over (shifted (p .from) (p .to) (p .front) (p .more) (take count table)) table
-          → _≡_ {A = SetAnswer × (List ℕ × List ℕ)} (record { refusal = fine; length = p .length; count = p .count }, (buf′, table′)) (setKeyCall buf used table count k v)
+          → _≡_ {A = SetAnswer × (List ℕ × List ℕ)} (record { refusal = p .refusal; length = p .length; count = p .count }, (buf′, table′)) (setKeyCall buf used table count k v)
       unfolding setKey
       call-done buf′ e table′ f =
-          rw (le-ltb (length buf) used h, r .answer buf used refl) (λ i. (record { refusal = fine; length = p .length; count = p .count }, (e i, f i)))
+          rw (le-ltb (length buf) used h, r .answer buf used refl) (λ i. (record { refusal = r .told i; length = p .length; count = p .count }, (e i, f i)))

@@ -19,9 +19,9 @@ use Rattle.format.specs.Header.{Entry, lineOf, linesOf, accepted, header, table
 use Rattle.format.specs.Settings.{tableFine}
 use Rattle.format.proofs.Lines.{length-unlines-cons, length-lines-le, length-starts}
 use Rattle.format.proofs.Header.{header-sound}
+use Rattle.header.specs.Lookup.{Headed}
 use Rattle.header.specs.Spans.{LineAt, PastAt}
 use Rattle.header.specs.Tables.{Tabled, startsOf}
-use Rattle.settings.specs.Edits.{Headed}
 
 -- the first k entries match, and the next line starts at `at`: what is left decides
 pub record Matching (file table : List ℕ) (count at k : ℕ) : Type 0 where

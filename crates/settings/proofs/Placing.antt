@@ -16,14 +16,14 @@ use Rattle.format.specs.Refusals.{fine}
 use Rattle.format.specs.Lines.{Ending, Line, line, text, ending, endingBytes, lineBytes, size, lines, unlines, starts}
 use Rattle.format.specs.Pairs.{escape}
 use Rattle.format.specs.Fields.{Given}
-use Rattle.format.specs.Header.{Item, magic, comment, field, pair, closing, Entry, entry, lineOf, linesOf, Outcome, refused, accepted, header, headerLength, valueIn, valueOf}
+use Rattle.format.specs.Header.{Item, magic, comment, field, pair, closing, Entry, entry, lineOf, linesOf, accepted, header, headerLength, valueIn, valueOf}
 use Rattle.format.specs.Settings.{pairText, hasKey, replaced, newLines}
 use Rattle.format.specs.Calls.{noPlace, foundAt, valuePlace, keyPlace, findKeyIn, findKeyCall}
 use Rattle.format.proofs.Bytes.{same-true}
 use Rattle.format.proofs.Lines.{size-line}
 use Rattle.format.proofs.Pairs.{pair-line}
 use Rattle.format.proofs.Header.{header-sound, magic-line}
-use Rattle.header.specs.Lookup.{IsItem, Items}
+use Rattle.header.specs.Lookup.{Headed, IsItem, Items}
 use Rattle.header.specs.Spans.{LineAt, PastAt}
 use Rattle.header.proofs.Finding.{items}
 use Rattle.settings.specs.declared.edit.Place.{Place}
@@ -197,12 +197,8 @@ module _ (file k : List ℕ) (p : FindAnswer) (is : p ≡ findKeyCall file k) wh
           let w = s .within in
           record { front = omega arith; starts = omega arith; ends = omega arith; short = omega arith }
 
-      pub found-safe : (m + 2 ≤ p .start) × (p .start + p .length ≤ maxHeader)
-      found-safe = go (header file) refl is
-        where
-          go : (o : Outcome) → header file ≡ o → p ≡ findKeyIn k o → (m + 2 ≤ p .start) × (p .start + p .length ≤ maxHeader)
-          go (refused r) e q = absurd (false≢true (sym (ap (λ a. a .found) q) ∙ there))
-          go (accepted es gs ls) e q = let b = bounds e in (b .front, b .short)
+      pub found-safe : {n : ℕ} → Headed file n → (m + 2 ≤ p .start) × (p .start + p .length ≤ maxHeader)
+      found-safe h = let b = bounds (h .is) in (b .front, b .short)
 
       pub found-placed : (es : List Entry) (gs : List Given) (ls : List Line) → header file ≡ accepted es gs ls
           → Placed k es (record { from = p .start - (m + 2); to = p .start + p .length; more = 0 })

@@ -20,11 +20,12 @@ use Rattle.format.specs.Settings.{keyFine, valueFine, pairText, newLines, table
 use Rattle.format.specs.Calls.{readAnswer, readHeaderCall, readingOf}
 use Rattle.format.proofs.Lines.{length-starts}
 use Rattle.format.proofs.Header.{header-sound}
-use Rattle.header.proofs.Finding.{was-refused, was-accepted, some-byte}
+use Rattle.header.specs.Lookup.{Headed}
+use Rattle.header.proofs.Finding.{was-refused, was-accepted}
 use Rattle.header.proofs.Numbered.{NumberedOutcome, header-numbered}
 use Rattle.settings.specs.declared.edit.Place.{Place}
 use Rattle.settings.specs.declared.plan.Plan.{Plan}
-use Rattle.settings.specs.Edits.{edited, Headed, Placed, Small, askedNumber, noPlan, fitted, movedBy, shifted, Shiftable, Ready, Planned}
+use Rattle.settings.specs.Edits.{edited, Placed, Small, askedNumber, noPlan, fitted, movedBy, shifted, Shiftable, Ready, Planned}
 use Rattle.settings.proofs.Held.{length-edited}
 use Rattle.settings.proofs.Shifting.{moved-within, start-within, fine-many, fine-is}
 
@@ -54,9 +55,6 @@ module _ (file : List ℕ) (a : ReadAnswer) (is : a ≡ readHeaderCall file) whe
         lines = ap (λ x. x .reading .lines) q;
         bytes = ap (λ x. x .reading .length) q;
       }
-
-  pub some-bytes : (a .reading .lines ≡ 0 → ⊥) → 0 < length file
-  some-bytes h = some-byte file (was-accepted file a is h)
 
   -- the reading's refusal
   pub plan-unread : a .reading .lines ≡ 0 → (room : ℕ) (table : List ℕ) (count : ℕ) (k v : List ℕ) → Planned file room table count k v (noPlan (a .refusal))
@@ -290,6 +288,7 @@ module _ (file k v : List ℕ) {es : List Entry} {gs : List Given} {ls : List Li
                 long = rw exact;
                 fits = rooms .0;
                 shift = moves;
+                told = refl;
                 answer = λ buf used b.
                     read-is buf used ∙ store-is buf used b ∙ all buf used .0
                     ∙ ap (λ t. changed (lent (refilled buf used edit) length′ (over t table) count′)) starts-are;

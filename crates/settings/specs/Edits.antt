@@ -10,8 +10,8 @@ use Rattle.format.specs.Bytes.{if_then_else_, over}
 use Rattle.format.specs.Limits.{maxFile, maxHeader, maxLines}
 use Rattle.format.specs.Refusals.{fileTooLong, headerTooLong, tooManyLines, notInVersion, lentTooShort, badKey, badValue, wrongTable, refusal, fine}
 use Rattle.format.specs.Lines.{Line, text, size, lines, unlines, starts}
-use Rattle.format.specs.Fields.{Given, pairsSince}
-use Rattle.format.specs.Header.{Entry, linesOf, accepted, header, headerLength, tableOf}
+use Rattle.format.specs.Fields.{pairsSince}
+use Rattle.format.specs.Header.{Entry, linesOf, header, headerLength, tableOf}
 use Rattle.format.specs.Settings.{pairText, newLines, lent, kept, changed, refilled, setRead}
 use Rattle.settings.specs.declared.edit.Place.{Place}
 use Rattle.settings.specs.declared.plan.Plan.{Plan}
@@ -37,14 +37,6 @@ pub record Shiftable (table : List ℕ) (count more from to front : ℕ) : Type 
   pub room : count + more ≤ length table
   pub second : from ≤ maxFile
   pub small : (k : ℕ) → k < count → movedBy to front (getD table k 0) ≤ maxFile
-
--- a file whose header is accepted, with so many lines
-pub record Headed (file : List ℕ) (lines : ℕ) : Type 0 where
-  pub entries : List Entry
-  pub fields : List Given
-  pub after : List Line
-  pub is : header file ≡ accepted entries fields after
-  pub many : lines ≡ length entries
 
 -- line 1 as a place: a line after it, with its ending, is put in where its text ends
 abbrev pub FirstAt : List ℕ → Place → Type 0
@@ -102,6 +94,7 @@ pub record Ready (file : List ℕ) (room : ℕ) (table : List ℕ) (count : ℕ)
   pub long : p .length ≡ p .from + length (pairText k v) + (length file - p .to)
   pub fits : p .length ≤ room
   pub shift : Shiftable table count (p .more) (p .from) (p .to) (p .front)
+  pub told : p .refusal ≡ fine
   pub answer : (buf : List ℕ) (used : ℕ) → length buf ≡ room
       → let new = edited file (p .from) (p .to) (pairText k v) in
       setRead buf used table count k v (header file) ≡ changed (lent (refilled buf used new) (p .length) (over (shifted (p .from) (p .to) (p .front) (p .more) (take count table)) table) (p .count))

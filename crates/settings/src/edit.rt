@@ -8,6 +8,7 @@ ghost use Rattle.format.specs.Lines.{Line};
 ghost use Rattle.format.specs.Fields.{Given};
 ghost use Rattle.format.specs.Header.{Entry, accepted, header};
 ghost use Rattle.format.specs.Settings.{pairText, refilled};
+ghost use Rattle.header.specs.Lookup.{Headed};
 ghost use Rattle.settings.specs.Edits.{edited, FirstAt, Placed};
 
 // The pair's text goes between the bytes before `from` and those from `to` on. With a new line `to` is below `from`: the ending of line 1
@@ -38,20 +39,22 @@ fn after_first(file: &[u8]) -> Place
     }
 }
 
-// The place of a key's line: its last one, or a new one after line 1.
-pub fn find_place(file: &[u8], key: &[u8]) -> Place
-    requires { ⌜ 0 < length (now file) ⌝ }
+// The place of a key's line in a file whose header has so many lines: its last one, or a new one after line 1.
+pub fn find_place(file: &[u8], lines: u32, key: &[u8]) -> Place
+    requires { ⌜ Headed (now file) lines ⌝ }
     ensures { λ r. ⌜ ((es : List Entry) (gs : List Given) (ls : List Line) → header (now (file .entry)) ≡ accepted es gs ls → Placed (now (key .entry)) es r) ⌝ }
 {
-    let found = header::find::find_key(file, key);
+    let found = header::find::find_key_in(file, key, lines);
     if !found.found {
         return after_first(file);
     }
     let start = found.start as usize;
     let front = crate::texts::escaped_length(key) + 2;
+    let from = start - front;
+    let to = start + found.length as usize;
     Place {
-        from: start - front,
-        to: start + found.length as usize,
+        from: from,
+        to: to,
         more: 0,
     }
 }

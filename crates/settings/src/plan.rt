@@ -10,7 +10,8 @@ ghost use Rattle.format.specs.Lines.{Line};
 ghost use Rattle.format.specs.Fields.{Given};
 ghost use Rattle.format.specs.Header.{Entry, accepted, header, tableOf};
 ghost use Rattle.format.specs.Settings.{keyFine, valueFine, tableFine};
-ghost use Rattle.settings.specs.Edits.{Headed, Small, askedNumber, noPlan, fitted, Planned};
+ghost use Rattle.header.specs.Lookup.{Headed};
+ghost use Rattle.settings.specs.Edits.{Small, askedNumber, noPlan, fitted, Planned};
 
 // A refusal, or the edit: the pair's text between `from` and `to`, where it ends, how many lines more there are, and the new file's bytes and
 // header lines.
@@ -138,7 +139,7 @@ pub fn prepare(
     if number != 0 {
         return refuse(number);
     }
-    let place = crate::edit::find_place(file, key);
+    let place = crate::edit::find_place(file, read.reading.lines, key);
     let m = crate::texts::pair_length(key, value);
     fit(
         place,

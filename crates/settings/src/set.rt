@@ -48,5 +48,5 @@ pub fn set_key(
     let length = plan.length;
     crate::edit::splice_pair(buf, used, plan.from, plan.to, length, key, value);
     crate::tables::shift_table(table, count, plan.more, plan.from, plan.to, plan.front);
-    answer(Refusal { number: 0, line: 0 }, length, plan.count)
+    answer(refusal, length, plan.count)
 }

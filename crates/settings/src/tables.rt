@@ -10,8 +10,9 @@ ghost use Rattle.format.specs.Lines.{Line};
 ghost use Rattle.format.specs.Fields.{Given};
 ghost use Rattle.format.specs.Header.{Entry, accepted, header, tableOf};
 ghost use Rattle.format.specs.Settings.{tableFine};
+ghost use Rattle.header.specs.Lookup.{Headed};
 ghost use Rattle.header.specs.Tables.{Tabled, startsOf};
-ghost use Rattle.settings.specs.Edits.{Headed, movedBy, shifted, Shiftable};
+ghost use Rattle.settings.specs.Edits.{movedBy, shifted, Shiftable};
 
 // Whether the first `count` entries are where the first `count` lines start.
 fn starts_match(file: &[u8], table: &[u32], count: usize) -> bool

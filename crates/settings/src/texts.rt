@@ -7,7 +7,7 @@ ghost use lib.ListN.{length};
 ghost use lib.Seq.{sets};
 ghost use Rattle.format.specs.Limits.{maxHeader};
 ghost use Rattle.format.specs.Pairs.{escape};
-ghost use Rattle.format.specs.Settings.{settable, beginsFine, keyFine, valueFine, pairText};
+ghost use Rattle.format.specs.Settings.{settable, keyFine, valueFine, pairText};
 
 // Whether a key or a value may hold the byte.
 fn is_settable(b: u8) -> bool
@@ -32,21 +32,11 @@ pub fn value_fine(value: &[u8]) -> bool
     fine
 }
 
-// Whether a key is not empty and does not begin as a comment.
-fn begins(key: &[u8]) -> bool
-    ensures { λ r. ⌜ r ≡ beginsFine (now (key .entry)) ⌝ }
-{
-    if key.len() == 0 {
-        return false;
-    }
-    key[0] != b'#'
-}
-
 // Whether a line can hold the key.
 pub fn key_fine(key: &[u8]) -> bool
     ensures { λ r. ⌜ r ≡ keyFine (now (key .entry)) ⌝ }
 {
-    if !begins(key) {
+    if !header::find::begins(key) {
         return false;
     }
     if !value_fine(key) {

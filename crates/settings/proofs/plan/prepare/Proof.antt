@@ -2,7 +2,7 @@
 -- Assumes nothing.
 use mathlib.Core.Path.{sym, subst}
 use Rattle.settings.specs.Edits.{Planned}
-use Rattle.settings.proofs.Planning.{Read, read-of, headed, some-bytes, plan-unread, plan-asked, numbers-small, plan-fitted}
+use Rattle.settings.proofs.Planning.{Read, read-of, headed, plan-unread, plan-asked, numbers-small, plan-fitted}
 use borrow.Author.Needs.{needs}
 use Rattle.settings.proofs.plan.prepare.Statement.{statement}
 use Rattle.settings.proofs.plan.prepare.Tie as tie
@@ -41,9 +41,7 @@ returns-2 c =
     subst (Planned (a .file .now) (a .room) (a .table .now) (a .count) (a .key .now) (a .value .now)) (sym (c .refuse .ensures)) (plan-asked (a .file .now) (a .table .now) (a .count) (a .key .now) (a .value .now) _ (k .result) (w .is) (w .version) (k .ensures (w .entries) (w .fields) (w .after) (w .is)) (c .before .if2 .taken) (a .room))
 
 find-place-requires : tie.Need-find-place-requires
-find-place-requires c κs =
-    let r = c .before .before .before .before .before .read-header in
-    some-bytes _ (r .result) (r .ensures) (c .before .before .if1 .left)
+find-place-requires c κs = headed (was (c .before .before))
 
 pair-length-requires : tie.Need-pair-length-requires
 pair-length-requires c κs = search needs

@@ -1,0 +1,98 @@
+// Runs the settings of standard input: single ones, and lists of them, each lent what the one before it left. The frame and what is printed
+// are those of crate `frames`; module `packed` has the layout of a case.
+//
+// The parts of a case: 1 the answers, 2 the buffer, 3 the table, 4 the count and the table of a fresh reading, 5 the rest of that reading,
+// 6 the values of the keys, 7 the bytes after the header. Parts 4 to 7 are looked at where the case says that the table is that of the file.
+// Where the input does not fit the frame the run ends with the line `malformed`.
+mod after;
+mod list;
+mod packed;
+mod show;
+
+use frames::parts::part;
+use frames::report::MALFORMED;
+use frames::report::Tally;
+
+// The part of a case that is wrong, 0 for none. A fresh reading is shown where the case has a name.
+fn case_fault(s: &[u8]) -> u32 {
+    if packed::place(s, packed::END) != s.len() {
+        return MALFORMED;
+    }
+    let mut buf = [packed::UNTOUCHED; 73728];
+    let mut table = [packed::UNSET; 2048];
+    packed::unpack(&mut buf, packed::given(s, packed::LENT_BUFFER));
+    packed::put_entries(&mut table, packed::given(s, packed::LENT_TABLE));
+    let left = list::run(&mut buf, &mut table, s);
+    show::show(&buf, left.used, s);
+    after::fault(&buf, &table, left, s)
+}
+
+// The part that is wrong of the case in the first `n` bytes.
+fn fault_in(buffer: &[u8; 65536], n: usize) -> u32 {
+    case_fault(part(buffer, 0, n))
+}
+
+// The part that is wrong of the next case of the input.
+fn next_fault() -> u32 {
+    let n = frames::input::next_number() as usize;
+    let mut buffer = [0u8; 65536];
+    if !frames::input::fill(&mut buffer, n) {
+        return MALFORMED;
+    }
+    fault_in(&buffer, n)
+}
+
+// Runs the next cases of the input, so many.
+fn run_cases(count: u32) -> Tally {
+    let mut right: u64 = 0;
+    let mut n: u32 = 0;
+    while n < count {
+        let fault = next_fault();
+        if fault == MALFORMED {
+            return Tally {
+                fits: false,
+                right: right,
+            };
+        }
+        n += 1;
+        frames::report::tell(n, fault);
+        right += frames::report::score(fault);
+    }
+    Tally {
+        fits: true,
+        right: right,
+    }
+}
+
+// Runs the next group of the input; whether it fits the frame.
+fn run_group() -> bool {
+    let n = frames::input::next_number() as usize;
+    let mut name = [0u8; 256];
+    if !frames::input::fill(&mut name, n) {
+        return false;
+    }
+    let count = frames::input::next_number();
+    let tally = run_cases(count);
+    if tally.fits {
+        frames::report::tell_group(&name, n, tally.right, count);
+    }
+    tally.fits
+}
+
+// Runs the groups of the input; whether it fits the frame.
+fn run_groups() -> bool {
+    let mut left = frames::input::next_number();
+    while 0 < left {
+        if !run_group() {
+            return false;
+        }
+        left -= 1;
+    }
+    frames::input::ended()
+}
+
+fn main() {
+    if !run_groups() {
+        frames::report::tell_malformed();
+    }
+}
