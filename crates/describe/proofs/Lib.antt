@@ -1,0 +1,4 @@
+pub mod Printing
+pub mod Names
+pub mod KeyLines
+pub mod Listed

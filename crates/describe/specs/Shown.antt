@@ -1,0 +1,95 @@
+-- The call that lists a file, and its parts: the lines of a reading by its numbers, and the lines of keys by the lines of the header.
+use Prim.Native.Nat.{ℕ, _+_, _≤_}
+use mathlib.Core.Bool.{Bool, false, _||_}
+use mathlib.Core.List.{List, [], _∷_, _++_}
+use lib.Dec.{eqb, ltb}
+use lib.ListN.{length, take, drop}
+use Rattle.format.specs.declared.Reading.{Reading}
+use Rattle.format.specs.declared.WriteAnswer.{WriteAnswer}
+use Rattle.format.specs.Bytes.{if_then_else_, bytes, same, HASH, EQUALS}
+use Rattle.format.specs.Limits.{maxHeader}
+use Rattle.format.specs.Refusals.{lentTooShort}
+use Rattle.format.specs.Lines.{Line, text, lines, unlines}
+use Rattle.format.specs.Pairs.{Marked, unmarked, fieldMark, pairMark, mark}
+use Rattle.format.specs.Descriptors.{typeAt, typeName, encodings, endians, noEndian}
+use Rattle.format.specs.Calls.{writeAnswer}
+use Rattle.format.specs.Writer.{decimal, spaced, nameAt}
+use Rattle.format.specs.Listing.{shown, listing}
+
+-- ---- describe::listing: the answer, and the lent buffer as it returns
+
+-- 22 where the buffer is too short
+abbrev pub listingCall : List ℕ → List ℕ → WriteAnswer × List ℕ
+listingCall file out = writeAnswer (if ltb (length out) (length (listing file)) then lentTooShort else 0) (listing file) out
+
+-- ---- the lines of a reading, by its numbers
+
+abbrev pub formText : ℕ → List ℕ
+formText form = if eqb form 1 then bytes "detached" else bytes "attached"
+
+abbrev pub typeText : ℕ → List ℕ
+typeText t = bytes (typeName (typeAt t))
+
+abbrev pub endianText : ℕ → List ℕ
+endianText e = if eqb e noEndian then bytes "none" else nameAt endians e
+
+-- version, form and type
+unfoldable pub topText : Reading → List ℕ
+topText x = shown "version" (decimal (x .version)) ++ (shown "form" (formText (x .form)) ++ shown "type" (typeText (x .sampletype)))
+
+-- sizes, encoding and endian
+unfoldable pub middleText : Reading → List ℕ
+middleText x =
+    shown "sizes" (spaced (take (x .dimension) (x .sizes)))
+    ++ (shown "encoding" (nameAt encodings (x .encoding)) ++ shown "endian" (endianText (x .endian)))
+
+-- start and extent
+unfoldable pub endText : ℕ → ℕ → List ℕ
+endText start extent = shown "start" (decimal start) ++ shown "extent" (decimal extent)
+
+-- ---- the lines of keys, by the lines of a header
+
+-- the mark of a line; an empty line and a comment have none
+abbrev pub markOf : List ℕ → Marked
+markOf [] = unmarked
+markOf (b ∷ t) = if eqb b HASH then unmarked else mark (b ∷ t)
+
+-- the line is that of a pair whose key has the text k
+abbrev pub isKey : List ℕ → Marked → Bool
+isKey k unmarked = false
+isKey k (fieldMark n d) = false
+isKey k (pairMark j v) = same k j
+
+-- one of the lines is
+unfoldable pub isLater : List ℕ → List Line → Bool
+isLater k [] = false
+isLater k (l ∷ ls) = isKey k (markOf (text l)) || isLater k ls
+
+-- the texts of a key and its value
+abbrev pub keyText : List ℕ → List ℕ → List ℕ
+keyText k v = shown "key" (k ++ EQUALS ∷ v)
+
+-- what a line of the header shows, by its mark and the lines after it
+abbrev pub shownMark : Marked → List Line → List ℕ
+shownMark unmarked ls = []
+shownMark (fieldMark n d) ls = []
+shownMark (pairMark k v) ls = if isLater k ls then [] else keyText k v
+
+unfoldable pub shownLines : List Line → List ℕ
+shownLines [] = []
+shownLines (l ∷ ls) = shownMark (markOf (text l)) ls ++ shownLines ls
+
+-- so many lines of a file from `at` on
+abbrev pub linesFrom : List ℕ → ℕ → ℕ → List Line
+linesFrom file at count = take count (lines (drop at file))
+
+-- there are so many lines, and they end within the limit of a header
+pub record Within (file : List ℕ) (at count : ℕ) : Type 0 where
+  pub there : count ≤ length (lines (drop at file))
+  pub short : at + length (unlines (linesFrom file at count)) ≤ maxHeader
+
+-- ---- all lines of a reading; the data starts at `start`
+
+unfoldable pub readingText : List ℕ → Reading → ℕ → List ℕ
+readingText file x start =
+    topText x ++ (middleText x ++ (endText start (x .extent) ++ shownLines (linesFrom file 0 (x .lines))))

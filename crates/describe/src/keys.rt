@@ -1,0 +1,110 @@
+// The lines of the keys: each pair of the header that is the last one with its key, as its texts stand in the file. Two keys are the same
+// where their texts are, since a key has one escaped text.
+use crate::put;
+use header::lines::Span;
+use text::lines::Mark;
+ghost use mathlib.Core.Path.{_≡_};
+ghost use Prim.Native.Nat.{_+_, _≤_};
+ghost use lib.ListN.{length, take, drop};
+ghost use Rattle.format.specs.Limits.{maxLines};
+ghost use Rattle.text.specs.Places.{markPlace};
+ghost use Rattle.describe.specs.Printed.{Printed, maxPlace};
+ghost use Rattle.describe.specs.Shown.{markOf, isKey, isLater, keyText, shownMark, shownLines, linesFrom, Within};
+
+// The mark of a line; an empty line and a comment have none.
+fn mark_of(t: &[u8]) -> Mark
+    ensures { λ r. ⌜ r ≡ markPlace (markOf (now (t .entry))) ⌝ }
+{
+    if t.len() == 0 {
+        return Mark::Nothing;
+    }
+    if t[0] == b'#' {
+        return Mark::Nothing;
+    }
+    text::lines::find_mark(t)
+}
+
+// Whether a line is that of a pair whose key has this text.
+fn is_key(t: &[u8], key: &[u8]) -> bool
+    ensures { λ r. ⌜ r ≡ isKey (now (key .entry)) (markOf (now (t .entry))) ⌝ }
+{
+    match mark_of(t) {
+        Mark::Field(_) => false,
+        Mark::Pair(i) => text::bytes::is_same(key, &t[..i]),
+        Mark::Nothing => false,
+    }
+}
+
+// Whether one of `count` lines from `from` on is that of a pair whose key has this text.
+fn is_later(file: &[u8], key: &[u8], from: usize, count: u32) -> bool
+    requires { ⌜ Within (now file) from count ⌝ }
+    ensures { λ r. ⌜ r ≡ isLater (now (key .entry)) (linesFrom (now (file .entry)) from count) ⌝ }
+{
+    let mut at = from;
+    let mut left = count;
+    while 0 < left {
+        match header::lines::line_at(file, at) {
+            Span::Found(e, next) => {
+                if is_key(&file[at..e], key) {
+                    return true;
+                }
+                at = next;
+            }
+            Span::Past => {
+                return false;
+            }
+        }
+        left -= 1;
+    }
+    false
+}
+
+// The line of a pair, of whose text the key is the first i bytes.
+fn put_key(out: &mut [u8], at: usize, t: &[u8], i: usize) -> usize
+    requires { ⌜ (i + 2 ≤ length (now t)) × (at + (length (now t) + 4) ≤ maxPlace) ⌝ }
+    ensures { λ r. ⌜ Printed (length (now (t .entry)) + 4) (now (out .entry)) at (keyText (take i (now (t .entry))) (drop (i + 2) (now (t .entry)))) (now (out .exit)) r ⌝ }
+{
+    let a = put::put_bytes(out, at, b"key ");
+    let e = put::put_bytes(out, a, &t[..i]);
+    put::put_line(out, e, b"=", &t[i + 2..])
+}
+
+// What a line shows; `left` lines from `next` on come after it.
+fn put_item(file: &[u8], out: &mut [u8], at: usize, t: &[u8], next: usize, left: u32) -> usize
+    requires { ⌜ Within (now file) next left × (at + (length (now t) + 4) ≤ maxPlace) ⌝ }
+    ensures { λ r. ⌜ Printed (length (now (t .entry)) + 4) (now (out .entry)) at (shownMark (markOf (now (t .entry))) (linesFrom (now (file .entry)) next left)) (now (out .exit)) r ⌝ }
+{
+    match mark_of(t) {
+        Mark::Field(_) => at,
+        Mark::Pair(i) => {
+            if is_later(file, &t[..i], next, left) {
+                return at;
+            }
+            put_key(out, at, t, i)
+        }
+        Mark::Nothing => at,
+    }
+}
+
+// What the first `count` lines of the file show.
+pub fn put_keys(file: &[u8], out: &mut [u8], start: usize, count: u32) -> usize
+    requires { ⌜ Within (now file) 0 count × (count ≤ maxLines) × (start ≤ 480) ⌝ }
+    ensures { λ r. ⌜ Printed 69631 (now (out .entry)) start (shownLines (linesFrom (now (file .entry)) 0 count)) (now (out .exit)) r ⌝ }
+{
+    let mut o = start;
+    let mut at: usize = 0;
+    let mut left = count;
+    while 0 < left {
+        match header::lines::line_at(file, at) {
+            Span::Found(e, next) => {
+                o = put_item(file, out, o, &file[at..e], next, left - 1);
+                at = next;
+            }
+            Span::Past => {
+                return o;
+            }
+        }
+        left -= 1;
+    }
+    o
+}

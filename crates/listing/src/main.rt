@@ -1,0 +1,13 @@
+// Lists the file on standard input: its reading and the place of its data, or why it is refused.
+use libc::STDIN_FILENO;
+use libc::STDOUT_FILENO;
+
+fn main() {
+    // a byte more than is listed, so that a longer file is told
+    let mut file = [0u8; 65537];
+    let n = io::read_full(STDIN_FILENO, &mut file);
+    // enough for any listing, as `describe::listing` ensures
+    let mut out = [0u8; 70111];
+    let answer = describe::listing(&file[..n], &mut out);
+    io::write_all(STDOUT_FILENO, &out[..answer.length as usize]);
+}
