@@ -6,16 +6,20 @@ use format::NumberAnswer;
 use format::ReadAnswer;
 use format::SetAnswer;
 use format::ValueAnswer;
+use format::WriteAnswer;
 ghost use mathlib.Core.Path.{_≡_};
 ghost use mathlib.Core.List.{List};
 ghost use Prim.Native.Nat.{ℕ, _/_, min};
 ghost use Rattle.format.specs.declared.ReadAnswer.{ReadAnswer};
 ghost use Rattle.format.specs.declared.ValueAnswer.{ValueAnswer};
+ghost use Rattle.format.specs.declared.CountAnswer.{CountAnswer};
+ghost use Rattle.format.specs.declared.WriteAnswer.{WriteAnswer};
 ghost use Rattle.format.specs.declared.SetAnswer.{SetAnswer};
 ghost use Rattle.format.specs.Limits.{maxLines};
 ghost use Rattle.format.specs.Boundary.{entryBytes};
 ghost use Rattle.format.specs.Calls.{readHeaderCall, findFieldCall, findKeyCall, copyValueCall, dataPlaceCall, checkSamplesCall};
-ghost use Rattle.craneholt.specs.EntryPoints.{readEntry, sampleNumberEntry, setKeyEntry};
+ghost use Rattle.craneholt.specs.EntryPoints.{readEntry, samplesEntry, sampleNumberEntry, setKeyEntry};
+ghost use Rattle.describe.specs.Shown.{listingCall};
 
 // How many entries a table of so many bytes has, at most 1,024: no header has more lines.
 fn room_of(bytes: usize) -> usize
@@ -87,6 +91,14 @@ pub extern "C" fn craneholt_check_samples(file: &[u8], second: &[u8], room: usiz
     volume::calls::check_samples(file, second, room)
 }
 
+// The samples to the front of the list, 8 bytes each; untouched where they are refused.
+#[no_mangle]
+pub extern "C" fn craneholt_samples(file: &[u8], second: &[u8], list: &mut [u8]) -> CountAnswer
+    ensures { λ r. ⌜ _≡_ {A = CountAnswer × List ℕ} (r, now (list .exit)) (samplesEntry (now (file .entry)) (now (second .entry)) (now (list .entry))) ⌝ }
+{
+    volume::calls::samples_to_bytes(file, second, list)
+}
+
 // The number of the sample at the coordinates, 8 bytes each.
 #[no_mangle]
 pub extern "C" fn craneholt_sample_number(file: &[u8], coords: &[u8]) -> NumberAnswer
@@ -116,4 +128,12 @@ pub extern "C" fn craneholt_set_key(
     let answer = settings::set::set_key(buf, used, &mut local[..n], count, key, value);
     words::put_entries(&local[..n], table);
     answer
+}
+
+// The listing of a file to the front of `out`.
+#[no_mangle]
+pub extern "C" fn craneholt_listing(file: &[u8], out: &mut [u8]) -> WriteAnswer
+    ensures { λ r. ⌜ _≡_ {A = WriteAnswer × List ℕ} (r, now (out .exit)) (listingCall (now (file .entry)) (now (out .entry))) ⌝ }
+{
+    describe::listing(file, out)
 }

@@ -1,4 +1,5 @@
 pub mod HexLaws
+pub mod PackedLaws
 pub mod RawLaws
 pub mod WidthLaws
 pub mod TokenLaws

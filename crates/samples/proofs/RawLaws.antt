@@ -1,17 +1,17 @@
 -- Laws of raw samples, each stated once, over the width.
 -- Assumes nothing.
 use Prim.Native.Nat.{ℕ, zero, suc, _+_, _*_, _-_, _^_, _/_, _%_, _≤_, _<_, min}
-use native.Mathlib.Nat.{mul-assoc, mul-comm, suc-mul, zero-add, pow-suc, one-le-pow, mod-add-div, mod-lt, mod-eq-of-lt, add-mod-right, le-trans}
+use native.Mathlib.Nat.{suc-mul, mod-lt, mod-eq-of-lt, add-mod-right, le-trans}
 use native.Mathlib.Numerals.{add-one}
 use native.Mathlib.Omega.{arith}
 use mathlib.Core.Path.{_≡_, refl, sym, ap, _∙_}
 use mathlib.Core.Bool.{Bool, true, false, _||_, false≢true}
-use mathlib.Core.List.{List, [], _∷_, _++_, reverse, reverse-append}
+use mathlib.Core.List.{List, reverse, reverse-append}
 use mathlib.Core.Logic.{inl, inr, ⊎-elim}
-use lib.Dec.{eqb, ltb, leb, lit<, lit≤}
-use lib.IntN.{ℤ, pos, negsuc, subℕ, _-ℤ_}
+use lib.Dec.{eqb, ltb, leb, lit≤}
+use lib.IntN.{ℤ, pos, subℕ, _-ℤ_}
 use lib.ListN.{length, take, drop, getD, set, length-drop, length-reverse, length-set}
-use lib.Seq.{drop-drop, drop-cons, take-add, length-take-le, getD-drop, sets, sets-eq}
+use lib.Seq.{drop-drop, getD-drop, sets}
 use borrow.Author.Tests.{lt-ltb, le-ltb, ltb-true, ltb-false, leb-true, le-leb, eqb-true, ne-eqb}
 use mir.Syntax.{w64}
 use mir.Val.{SFits, toZ, ofZ}
@@ -21,48 +21,18 @@ use Rattle.format.specs.Descriptors.{NumberKind, signed, unsigned}
 use Rattle.format.specs.Limits.{maxSample}
 use Rattle.format.specs.Samples.{Decoded, rawSamples, thenSamples, withSample, stopped, sampleValue, valueOfBits, inType, fromBytes, toBytes, ordered, toSigned}
 use Rattle.format.proofs.Samples.{AllBytes, all-bytes, length-to-bytes, to-from-bytes, from-bytes-below, ordered-bytes, length-ordered}
+pub use Rattle.words.proofs.Halves.{from-append, from-one, sample-is}
+pub use Rattle.words.proofs.Stores.{sets-over}
+use Rattle.words.proofs.Halves.{to-bytes-halves, length-part}
+use Rattle.words.proofs.Groups.{bytes-take, bytes-drop}
 use Rattle.samples.specs.Bits.{Bits, turned, folded, isWidth}
 use Rattle.samples.specs.Widths.{Width}
-
--- ---- numbers by the least byte first
-
-pub from-append : (s t : List ℕ) → fromBytes (s ++ t) ≡ fromBytes s + 256 ^ length s * fromBytes t
-unfolding fromBytes
-from-append [] t = omega arith
-from-append (b ∷ s) t =
-    omega (arith, from-append s t, mul-assoc 256 (256 ^ length s) (fromBytes t), ap (λ (n : ℕ). n * fromBytes t) (pow-suc 256 (length s) ∙ mul-comm (256 ^ length s) 256))
-
-module _ (s : List ℕ) (at : ℕ) where
-  -- one byte
-  pub from-one : at + 1 ≤ length s → fromBytes (take 1 (drop at s)) ≡ getD s at 0
-  unfolding fromBytes
-  from-one h = rw (drop-cons s at 0 (omega arith)) (omega arith)
-
-  -- 2 * w bytes by two halves
-  pub from-halves : (w : ℕ) → at + (w + w) ≤ length s → fromBytes (take (w + w) (drop at s)) ≡ fromBytes (take w (drop at s)) + 256 ^ w * fromBytes (take w (drop (at + w) s))
-  from-halves w h =
-      let l : length (take w (drop at s)) ≡ w = length-take-le w (drop at s) (omega (arith, length-drop at s)) in
-      rw (take-add w w (drop at s), from-append, l, drop-drop w at s)
 
 -- ---- the bytes in the other order
 
 pub turned-2 : (x : ℕ) → x < 256 ^ 2 → turned 2 x ≡ x / 256 + 256 * (x % 256)
 unfolding turned fromBytes toBytes
 turned-2 x h = omega arith
-
-to-bytes-append : (a b r q : ℕ) → r < 256 ^ a → toBytes (a + b) (r + 256 ^ a * q) ≡ toBytes a r ++ toBytes b q
-unfolding toBytes
-to-bytes-append zero b r q h =
-    let z : zero + b ≡ b = omega arith in
-    let e : r + 256 ^ 0 * q ≡ q = omega arith in
-    rw (z, e)
-to-bytes-append (suc a) b r q h =
-    let p : 256 ^ suc a ≡ 256 ^ a * 256 = pow-suc 256 a in
-    let e : 256 ^ suc a * q ≡ 256 * (256 ^ a * q) = ap (λ (n : ℕ). n * q) (p ∙ mul-comm (256 ^ a) 256) ∙ mul-assoc 256 (256 ^ a) q in
-    let z : suc a + b ≡ suc (a + b) = omega arith in
-    let m : (r + 256 ^ suc a * q) % 256 ≡ r % 256 = omega arith in
-    let d : (r + 256 ^ suc a * q) / 256 ≡ r / 256 + 256 ^ a * q = omega arith in
-    rw (z, m, d, to-bytes-append a b (r / 256) q (omega arith))
 
 -- one byte
 pub turned-1 : (w x : ℕ) → w ≡ 1 → x < 256 ^ w → Bits w (turned w x) x
@@ -76,10 +46,8 @@ turned-halves w x =
     let p = 256 ^ w in
     let r = toBytes w (x % p) in
     let q = toBytes w (x / p) in
-    let e : toBytes (w + w) x ≡ r ++ q =
-    ap (toBytes (w + w)) (sym (mod-add-div x p)) ∙ to-bytes-append w w (x % p) (x / p) (mod-lt x (one-le-pow w 256 (lit< tt))) in
     let l : length (reverse q) ≡ w = length-reverse q ∙ length-to-bytes w (x / p) in
-    ap (λ (s : List ℕ). fromBytes (reverse s)) e ∙ ap fromBytes (reverse-append r q) ∙ from-append (reverse q) (reverse r)
+    ap (λ (s : List ℕ). fromBytes (reverse s)) (to-bytes-halves w x) ∙ ap fromBytes (reverse-append r q) ∙ from-append (reverse q) (reverse r)
     ∙ ap (λ (n : ℕ). fromBytes (reverse q) + 256 ^ n * fromBytes (reverse r)) l
 
 -- ---- widths
@@ -118,37 +86,19 @@ not-width w d e = false≢true (sym e ∙ width-is w d)
 
 -- ---- the number at a place
 
-bytes-take : (k : ℕ) (s : List ℕ) → AllBytes s → AllBytes (take k s)
-bytes-take zero s p = tt
-bytes-take (suc k) [] p = tt
-bytes-take (suc k) (b ∷ s) p = (p .0, bytes-take k s (p .1))
-
-bytes-drop : (k : ℕ) (s : List ℕ) → AllBytes s → AllBytes (drop k s)
-bytes-drop zero s p = p
-bytes-drop (suc k) [] p = tt
-bytes-drop (suc k) (b ∷ s) p = bytes-drop k s (p .1)
-
 module _ (s : List ℕ) (at w : ℕ) (h : at + w ≤ length s) where
-  length-part : length (take w (drop at s)) ≡ w
-  length-part = length-take-le w (drop at s) (omega (arith, length-drop at s))
-
   -- the bytes of the loaded number in the other order
   pub turned-part : ((i : ℕ) → getD s i 0 < 256) → turned w (fromBytes (take w (drop at s))) ≡ fromBytes (reverse (take w (drop at s)))
   unfolding turned
   turned-part f =
       let p : AllBytes (take w (drop at s)) = bytes-take w (drop at s) (bytes-drop at s (all-bytes s f)) in
-      ap (λ (l : List ℕ). fromBytes (reverse l)) (rw length-part at (to-from-bytes (take w (drop at s)) p))
+      ap (λ (l : List ℕ). fromBytes (reverse l)) (rw (length-part s at w h) at (to-from-bytes (take w (drop at s)) p))
 
   bits-below : (e : ℕ) → ((i : ℕ) → getD s i 0 < 256) → fromBytes (ordered e (take w (drop at s))) < 256 ^ w
   bits-below e f =
       let l = take w (drop at s) in
       let p : AllBytes l = bytes-take w (drop at s) (bytes-drop at s (all-bytes s f)) in
-      rw (length-ordered e l, length-part) at (from-bytes-below (ordered e l) (ordered-bytes e l p))
-
-  -- the sample at a place, by its number
-  pub sample-is : (k : NumberKind) (e : ℕ) → sampleValue k e (take w (drop at s)) ≡ valueOfBits k w (fromBytes (ordered e (take w (drop at s))))
-  unfolding sampleValue
-  sample-is k e = rw length-part
+      rw (length-ordered e l, length-part s at w h) at (from-bytes-below (ordered e l) (ordered-bytes e l p))
 
 -- ---- two's complement
 
@@ -199,26 +149,6 @@ module _ (x h : ℕ) (b : x < 2 * h) (l : h ≤ 2147483648) where
   pub fold-kept : toZ w64 (ofZ w64 (toZ w64 ((x + h) % (2 * h)) -ℤ toZ w64 h)) ≡ folded h x
   fold-kept = toZ-ofZ fold-fits ∙ fold-value
 
-minus-one-less : (k : ℕ) → negsuc 0 -ℤ pos k ≡ negsuc k
-minus-one-less zero = refl
-minus-one-less (suc j) = ap (λ (n : ℕ). negsuc (suc n)) (zero-add j)
-
-module _ (k : ℕ) (h : k < 2 ^ 63) where
-  below-zero : negsuc 0 -ℤ toZ w64 k ≡ negsuc k
-  below-zero = rw (toZ-pos w64 h) (minus-one-less k)
-
-  pub below-zero-fits : SFits w64 (negsuc 0 -ℤ toZ w64 k)
-  below-zero-fits = rw below-zero (record { sfits = h })
-
-  pub below-zero-kept : toZ w64 (ofZ w64 (negsuc 0 -ℤ toZ w64 k)) ≡ negsuc k
-  below-zero-kept = toZ-ofZ below-zero-fits ∙ below-zero
-
-pub folded-low : (h x : ℕ) → x < h → folded h x ≡ pos x
-folded-low h x l = rw (lt-ltb x h l)
-
-pub folded-high : (h x : ℕ) → h ≤ x → folded h x ≡ negsuc (2 * h - 1 - x)
-folded-high h x l = rw (le-ltb x h l)
-
 -- ---- the types
 
 -- an unsigned value of a type is below 2 ^ 63
@@ -251,12 +181,7 @@ pub word-in : (n : ℕ) → inType unsigned 8 (pos n) ≡ leb n maxSample
 unfolding inType
 word-in n = refl
 
--- ---- a list that is written from its front on
-
-pub sets-over : (l d : List ℤ) → length l ≤ length d → sets d 0 l ≡ over l d
-sets-over l d h =
-    let z : 0 + length l ≡ length l = omega arith in
-    sets-eq l d 0 (omega arith) ∙ rw z
+-- ---- the samples of a list
 
 -- there are at most n samples
 raw-few : (k : NumberKind) (w e n : ℕ) (s : List ℕ) → length (rawSamples k w e n s .seen) ≤ n

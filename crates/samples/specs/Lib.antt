@@ -1,4 +1,5 @@
 pub mod Bits
 pub mod HexForms
+pub mod Packed
 pub mod Tokens
 pub mod Widths

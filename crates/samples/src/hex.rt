@@ -11,10 +11,10 @@ ghost use Rattle.samples.specs.Widths.{Width, kindBy, endianBy};
 use crate::raw;
 
 // A refusal, or 0, and then the bits that were read and the place after them.
-struct Hex {
-    code: u32,
-    bits: u64,
-    next: usize,
+pub(crate) struct Hex {
+    pub(crate) code: u32,
+    pub(crate) bits: u64,
+    pub(crate) next: usize,
 }
 
 fn refused(code: u32) -> Hex
@@ -182,7 +182,7 @@ fn in_type(x: u64, w: usize, signed: bool) -> bool
 }
 
 // The bits of the sample at a place.
-fn hex_bits(s: &[u8], at: usize, w: usize, signed: bool, big: bool) -> Hex
+pub(crate) fn hex_bits(s: &[u8], at: usize, w: usize, signed: bool, big: bool) -> Hex
     requires { ⌜ Width w ⌝ }
     requires { ⌜ at ≤ length (now s) ⌝ }
     ensures { λ r. ⌜ Told w (now (s .entry)) (bitsRead (kindBy signed) w (endianBy big) (hexBytes w (digitsAt (now (s .entry)) at))) (r .code) (r .bits) (r .next) ⌝ }

@@ -1,2 +1,3 @@
+pub mod Boundary
 pub mod Places
 pub mod Parts

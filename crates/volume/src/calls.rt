@@ -6,7 +6,7 @@ use format::Refusal;
 ghost use mathlib.Core.Path.{_≡_};
 ghost use mathlib.Core.Bool.{false};
 ghost use mathlib.Core.List.{List};
-ghost use Prim.Native.Nat.{ℕ, _*_, _≤_};
+ghost use Prim.Native.Nat.{ℕ, _*_, _/_, _≤_};
 ghost use lib.Dec.{eqb};
 ghost use lib.IntN.{ℤ};
 ghost use lib.ListN.{length};
@@ -15,7 +15,9 @@ ghost use Rattle.format.specs.Bytes.{if_then_else_, over};
 ghost use Rattle.format.specs.Refusals.{refusal, fine};
 ghost use Rattle.format.specs.Descriptors.{numberKind, isFloating, sampleBytes};
 ghost use Rattle.format.specs.Calls.{noSamples, checkSamplesCall, samplesCall};
+ghost use Rattle.samples.specs.Packed.{samplesOver};
 ghost use Rattle.samples.specs.Widths.{kindBy};
+ghost use Rattle.volume.specs.Boundary.{samplesEntry};
 ghost use Rattle.volume.specs.Parts.{WidthOf, decodedBy, Decodable, partBy, Held, Placed};
 
 // There are no samples.
@@ -131,6 +133,25 @@ fn check_place(reading: Reading, file: &[u8], second: &[u8], d: DataAnswer, n: u
     }
 }
 
+// The same to the front of lent bytes.
+fn pack_part(s: &[u8], reading: Reading, n: usize, list: &mut [u8])
+    requires { ⌜ Decodable reading n (now s) ⌝ }
+    requires { ⌜ decodedBy reading n (now s) .number ≡ 0 ⌝ }
+    requires { ⌜ n ≤ length (now list) / 8 ⌝ }
+    ensures { λ _. ⌜ now (list .exit) ≡ samplesOver (decodedBy reading n (now (s .entry)) .seen) (now (list .entry)) ⌝ }
+{
+    let w = width_of(reading.sampletype);
+    let signed = is_signed(reading.sampletype);
+    let big = reading.endian == 1;
+    if reading.encoding == 0 {
+        return samples::packed::fill_raw(s, n, w, signed, big, list);
+    }
+    if reading.encoding == 1 {
+        return samples::packed::fill_text(s, n, w, signed, list);
+    }
+    samples::packed::fill_hex(s, n, w, signed, big, list)
+}
+
 // n samples to the front of the list, by the place of the data; none of them is refused.
 fn fill_place(
     reading: Reading,
@@ -151,6 +172,29 @@ fn fill_place(
         fill_part(&second[start..start + length], reading, n, list)
     } else {
         fill_part(&file[start..start + length], reading, n, list)
+    }
+}
+
+// The same to the front of lent bytes.
+fn pack_place(
+    reading: Reading,
+    file: &[u8],
+    second: &[u8],
+    d: DataAnswer,
+    n: usize,
+    list: &mut [u8],
+)
+    requires { ⌜ Held (now file) (now second) reading n d ⌝ }
+    requires { ⌜ decodedBy reading n (partBy d (now file) (now second)) .number ≡ 0 ⌝ }
+    requires { ⌜ n ≤ length (now list) / 8 ⌝ }
+    ensures { λ _. ⌜ now (list .exit) ≡ samplesOver (decodedBy reading n (partBy d (now (file .entry)) (now (second .entry))) .seen) (now (list .entry)) ⌝ }
+{
+    let start = d.start as usize;
+    let length = d.length as usize;
+    if d.second {
+        pack_part(&second[start..start + length], reading, n, list)
+    } else {
+        pack_part(&file[start..start + length], reading, n, list)
     }
 }
 
@@ -197,5 +241,23 @@ pub fn samples(file: &[u8], second: &[u8], list: &mut [i64]) -> CountAnswer
         return checked;
     }
     fill_place(reading, file, second, d, checked.count as usize, list);
+    checked
+}
+
+// The same for a caller that lends the list as bytes, 8 for each sample; a rest too short for one stays.
+pub fn samples_to_bytes(file: &[u8], second: &[u8], list: &mut [u8]) -> CountAnswer
+    ensures { λ r. ⌜ _≡_ {A = CountAnswer × List ℕ} (r, now (list .exit)) (samplesEntry (now (file .entry)) (now (second .entry)) (now (list .entry))) ⌝ }
+{
+    let answer = header::read::read_header(file);
+    if answer.refusal.number != 0 {
+        return none(answer.refusal);
+    }
+    let reading = answer.reading;
+    let d = crate::place::locate(reading, file, second, true);
+    let checked = check_at(reading, file, second, d, list.len() / 8);
+    if checked.refusal.number != 0 {
+        return checked;
+    }
+    pack_place(reading, file, second, d, checked.count as usize, list);
     checked
 }
