@@ -80,7 +80,7 @@ module _ (b : ℕ) where
       go (some v) f h = f
 
   -- a digit is no blank
-  digit-solid : isSome (hexDigit b) ≡ true → blank b ≡ false
+  pub digit-solid : isSome (hexDigit b) ≡ true → blank b ≡ false
   digit-solid h = go (between 9 13 b) (eqb b 32) refl refl
     where
       not-digit : hexDigit b ≡ none → ⊥
@@ -296,11 +296,11 @@ module _ (s : List ℕ) (at w : ℕ) where
 -- ---- the bits of a sample
 
 -- the bytes that are read are w bytes
-abbrev Sound : ℕ → HexRun → Type 0
+abbrev pub Sound : ℕ → HexRun → Type 0
 Sound w (noHex n) = Unit {0}
 Sound w (hexRun v s) = (length v ≡ w) × AllBytes v
 
-hex-sound : (w : ℕ) (s : List ℕ) → Sound w (hexBytes w s)
+pub hex-sound : (w : ℕ) (s : List ℕ) → Sound w (hexBytes w s)
 unfolding hexBytes
 hex-sound zero s = (refl, tt)
 hex-sound (suc w) [] = tt

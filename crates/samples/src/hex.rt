@@ -9,6 +9,7 @@ ghost use Rattle.samples.specs.Bits.{Bits, byEndian};
 ghost use Rattle.samples.specs.HexForms.{digitOr, digitsAt, Skipped, firstByte, readHex, bitsRead, Told};
 ghost use Rattle.samples.specs.Widths.{Width, kindBy, endianBy};
 use crate::raw;
+use crate::scan;
 
 // A refusal, or 0, and then the bits that were read and the place after them.
 pub(crate) struct Hex {
@@ -28,7 +29,7 @@ fn refused(code: u32) -> Hex
 }
 
 // Without branches, since the processor would often mispredict them.
-fn is_digit(b: u8) -> bool
+pub(crate) fn is_digit(b: u8) -> bool
     ensures { λ r. ⌜ r ≡ isSome (hexDigit b) ⌝ }
 {
     ((48 <= b) & (b <= 57)) | (((97 <= b) & (b <= 102)) | ((65 <= b) & (b <= 70)))
@@ -48,7 +49,7 @@ fn digit(b: u8) -> u8
     if is_digit(b) { digit_value(b) } else { 255 }
 }
 
-fn is_blank(b: u8) -> bool
+pub(crate) fn is_blank(b: u8) -> bool
     ensures { λ r. ⌜ r ≡ blank b ⌝ }
 {
     if b == 32 {
@@ -222,11 +223,15 @@ fn check_samples(s: &[u8], n: usize, w: usize, signed: bool, big: bool) -> u32
 }
 
 // The refusal that n samples of w bytes come to: 20 or 21, whichever comes first, or 0.
+// Where the digits alone tell it, no sample is decoded.
 pub fn check_hex(s: &[u8], n: usize, w: usize, signed: bool, big: bool) -> u32
     ensures { λ r. ⌜ (Width w → r ≡ hexSamples (kindBy signed) w (endianBy big) n (withoutBlanks (now (s .entry))) .number) ⌝ }
 {
     if !raw::is_width(w) {
         return 0;
+    }
+    if scan::by_digits(s.len(), n, w, signed) {
+        return scan::check_digits(s, 2 * w * n);
     }
     check_samples(s, n, w, signed, big)
 }

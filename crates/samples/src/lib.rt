@@ -2,4 +2,5 @@
 pub mod hex;
 pub mod packed;
 pub mod raw;
+pub mod scan;
 pub mod text;
