@@ -2,18 +2,18 @@
 -- Assumes nothing.
 use mathlib.Core.Path.{_≡_, refl, sym, ap, _∙_}
 use mathlib.Core.Bool.{Bool, true, false}
-use mathlib.Core.List.{List, [], _∷_, _++_, append-nil, append-assoc, flatMap, reverse, reverse-cons}
+use mathlib.Core.List.{List, [], _∷_, _++_, append-assoc, flatMap, reverse, reverse-cons}
 use Prim.Native.Nat.{ℕ, suc, _+_, _*_, _-_, _/_, _%_, _≤_, _<_}
-use native.Mathlib.Nat.{add-zero, add-suc, suc-add, le-step, ne-of-gt, mul-add, mul-one, mul-suc, mul-zero, sub-zero, zero-mul, suc-mul}
+use native.Mathlib.Nat.{add-zero, add-suc, suc-add, le-step, ne-of-gt, sub-zero, zero-mul, suc-mul}
 use native.Mathlib.Numerals.{add-one}
 use native.Mathlib.Omega.{arith}
 use lib.Dec.{eqb}
-use lib.ListN.{length, getD, set, drop, length-append, drop-of-length-le, length-reverse}
-use lib.Seq.{sets, length-sets, set-comm, drop-cons}
+use lib.ListN.{length, getD, set, take, drop, length-append, length-take, length-set, drop-of-length-le, take-append-drop, length-reverse}
+use lib.Seq.{sets, slice, slice-cons, length-sets, length-take-le, set-comm, set-set, drop-cons, drop-append-le}
 use Rattle.format.specs.Bytes.{if_then_else_}
 use Rattle.format.specs.Descriptors.{big}
 use Rattle.format.specs.Samples.{toBytes, ordered}
-use Rattle.format.proofs.Samples.{length-to-bytes, length-ordered}
+use Rattle.format.proofs.Samples.{length-to-bytes}
 
 module _ {ℓ} {A : Type ℓ} where
   -- a store below a run
@@ -44,7 +44,35 @@ module _ {ℓ} {A : Type ℓ} where
   pub set-then : (l v : List A) (i : ℕ) (a : A) → sets (set l i a) (i + 1) v ≡ sets l i (a ∷ v)
   set-then l v i a = ap (λ (k : ℕ). sets (set l i a) k v) (add-one i)
 
--- ---- f of each element of zs from i on
+  -- a run of at least one element takes the place of what was stored where it begins
+  pub set-under : (l v : List A) (i : ℕ) (a : A) → 1 ≤ length v → sets (set l i a) i v ≡ sets l i v
+  set-under l [] i a h = absurd (omega arith)
+  set-under l (b ∷ v) i a h = ap (λ (m : List A). sets m (suc i) v) (set-set l i a b)
+
+-- ---- f of each element
+
+module _ {A : Type 0} (f : A → List ℕ) where
+  flat-append : (u v : List A) → flatMap f (u ++ v) ≡ flatMap f u ++ flatMap f v
+  unfolding flatMap
+  flat-append [] v = refl
+  flat-append (a ∷ u) v = rw (flat-append u v, append-assoc)
+
+  -- f of each element has w bytes
+  pub flat-const : (w : ℕ) → ((z : A) → length (f z) ≡ w) → (zs : List A) → length (flatMap f zs) ≡ length zs * w
+  unfolding flatMap
+  flat-const w size [] = sym (zero-mul w)
+  flat-const w size (z ∷ zs) = length-append (f z) (flatMap f zs) ∙ omega (arith, size z, flat-const w size zs, suc-mul (length zs) w)
+
+-- bytes one by one
+pub flat-each : (s : List ℕ) → flatMap (λ b. b ∷ []) s ≡ s
+unfolding flatMap
+flat-each [] = refl
+flat-each (b ∷ s) = rw (flat-each s)
+
+-- ---- the elements of zs from i on
+
+pub drop-next : {A : Type 0} (zs : List A) (i : ℕ) (z : A) → i < length zs → drop i zs ≡ getD zs i z ∷ drop (i + 1) zs
+drop-next zs i z h = rw add-one (drop-cons zs i z h)
 
 module _ {A : Type 0} (f : A → List ℕ) (zs : List A) (i : ℕ) where
   module _ (z : A) (h : i < length zs) where
@@ -60,162 +88,127 @@ module _ {A : Type 0} (f : A → List ℕ) (zs : List A) (i : ℕ) where
   unfolding flatMap
   flat-over h = ap (flatMap f) (drop-of-length-le zs h)
 
--- ---- a loop that stores f of each element of zs, one after the other, to make `run`: d as it is where element i goes to place o
-
-module _ {A : Type 0} (f : A → List ℕ) (zs : List A) (run d₀ : List ℕ) (at : ℕ) where
-  pub record Putting (d : List ℕ) (o i : ℕ) : Type 0 where
-    pub few : i ≤ length zs
-    pub long : length d ≡ length d₀
-    pub room : o + length (flatMap f (drop i zs)) ≡ at + length run
-    pub left : sets d₀ at run ≡ sets d o (flatMap f (drop i zs))
-
-  pub putting-none : flatMap f zs ≡ run → Putting d₀ at 0
-  putting-none e = record { few = omega arith; long = refl; room = ap (λ (r : List ℕ). at + length r) e; left = ap (sets d₀ at) (sym e) }
-
-  module _ {d : List ℕ} {o i : ℕ} (p : Putting d o i) where
-    module _ (z : A) (h : i < length zs) where
-      next : flatMap f (drop i zs) ≡ f (getD zs i z) ++ flatMap f (drop (i + 1) zs)
-      next = flat-next f zs i z h
-
-      next-length : length (flatMap f (drop i zs)) ≡ length (f (getD zs i z)) + length (flatMap f (drop (i + 1) zs))
-      next-length = flat-next-length f zs i z h
-
-      -- there is room for the next element
-      pub putting-room : o + length (f (getD zs i z)) ≤ at + length run
-      putting-room = omega (arith, p .room, next-length)
-
-      -- it is stored
-      pub putting-more : (d′ : List ℕ) (o′ : ℕ) → d′ ≡ sets d o (f (getD zs i z)) → o′ ≡ o + length (f (getD zs i z)) → Putting d′ o′ (i + 1)
-      putting-more d′ o′ e q =
-          let v : List ℕ = flatMap f (drop (i + 1) zs) in
-          record {
-            few = omega arith;
-            long = ap length e ∙ length-sets d o (f (getD zs i z)) ∙ p .long;
-            room = omega (arith, p .room, next-length);
-            left = p .left ∙ ap (sets d o) next ∙ sets-append (f (getD zs i z)) v d o ∙ ap (λ (k : ℕ). sets (sets d o (f (getD zs i z))) k v) (sym q) ∙ ap (λ (r : List ℕ). sets r o′ v) (sym e);
-          }
-
-    pub putting-done : length zs ≤ i → d ≡ sets d₀ at run
-    putting-done h = sym (p .left ∙ ap (sets d o) (flat-over f zs i h))
-
-    pub putting-end : length zs ≤ i → o ≡ at + length run
-    putting-end h = omega (arith, p .room, ap length (flat-over f zs i h))
-
--- ---- a loop that stores the w bytes of x, each byte as g gives it in m bytes, in the order of the endian, least byte first
-
-module _ (g : ℕ → List ℕ) (m : ℕ) (size : (b : ℕ) → length (g b) ≡ m) where
-  flat-length : (s : List ℕ) → length (flatMap g s) ≡ m * length s
+-- the elements from i up to `to`
+module _ {A : Type 0} (f : A → List ℕ) (zs : List A) (i to : ℕ) where
+  pub part-next : (z : A) → i < to → to ≤ length zs → flatMap f (slice i to zs) ≡ f (getD zs i z) ++ flatMap f (slice (i + 1) to zs)
   unfolding flatMap
-  flat-length [] = sym (mul-zero m)
-  flat-length (b ∷ s) = length-append (g b) (flatMap g s) ∙ omega (arith, size b, flat-length s, mul-suc m (length s))
+  part-next z h l = rw (add-one i, slice-cons i to zs z h l)
 
-  flat-append : (u v : List ℕ) → flatMap g (u ++ v) ≡ flatMap g u ++ flatMap g v
+  -- none is left
+  pub part-over : to ≤ i → flatMap f (slice i to zs) ≡ []
   unfolding flatMap
-  flat-append [] v = refl
-  flat-append (b ∷ u) v = rw (flat-append u v, append-assoc)
+  part-over h = ap (flatMap f) (drop-of-length-le (take to zs) {i = i} (omega (arith, length-take to zs)))
 
-  flat-last : (s : List ℕ) (b : ℕ) → flatMap g (reverse (b ∷ s)) ≡ flatMap g (reverse s) ++ g b
-  unfolding flatMap
-  flat-last s b = ap (flatMap g) (reverse-cons b s) ∙ flat-append (reverse s) (b ∷ []) ∙ ap (λ (r : List ℕ). flatMap g (reverse s) ++ r) (append-nil (g b))
+-- the elements up to e, and those after them
+pub flat-parts : {A : Type 0} (f : A → List ℕ) (zs : List A) (i e : ℕ) → i ≤ e → e ≤ length zs → flatMap f (drop i zs) ≡ flatMap f (slice i e zs) ++ flatMap f (drop e zs)
+flat-parts f zs i e h l =
+    let k : i ≤ length (take e zs) = omega (arith, length-take-le e zs l) in
+    ap (λ (r : List _). flatMap f (drop i r)) (sym (take-append-drop e zs))
+    ∙ ap (flatMap f) (drop-append-le i (take e zs) (drop e zs) k)
+    ∙ flat-append f (slice i e zs) (drop e zs)
 
-  -- the first place of the bytes that are left after j, and the place of byte j
-  abbrev pub from : ℕ → ℕ → ℕ → ℕ
-  from endian at j = if eqb endian big then at else at + m * j
+-- ---- a loop that stores `run` piece by piece: d as it is where `rest`, what is left of it, goes to place o
 
-  abbrev pub spot : ℕ → ℕ → ℕ → ℕ → ℕ
-  spot endian at w j = at + m * (if eqb endian big then w - 1 - j else j)
+pub record Putting (run d₀ : List ℕ) (at : ℕ) (d : List ℕ) (o : ℕ) (rest : List ℕ) : Type 0 where
+  pub long : length d ≡ length d₀
+  pub room : o + length rest ≡ at + length run
+  pub left : sets d₀ at run ≡ sets d o rest
 
-  pub run-length : (endian w x : ℕ) → length (flatMap g (ordered endian (toBytes w x))) ≡ m * w
-  run-length endian w x = flat-length (ordered endian (toBytes w x)) ∙ ap (λ (k : ℕ). m * k) (length-ordered endian (toBytes w x) ∙ length-to-bytes w x)
+pub putting-none : (run d₀ : List ℕ) (at : ℕ) (rest : List ℕ) → rest ≡ run → Putting run d₀ at d₀ at rest
+putting-none run d₀ at rest e = record { long = refl; room = ap (λ (r : List ℕ). at + length r) e; left = ap (sets d₀ at) (sym e) }
 
-  module _ (endian w x : ℕ) (d₀ : List ℕ) (at : ℕ) where
-    pub record Wording (d : List ℕ) (y j : ℕ) : Type 0 where
-      pub few : j ≤ w
-      pub long : length d ≡ length d₀
-      pub left : sets d₀ at (flatMap g (ordered endian (toBytes w x))) ≡ sets d (from endian at j) (flatMap g (ordered endian (toBytes (w - j) y)))
+module _ {run d₀ : List ℕ} {at : ℕ} {d : List ℕ} {o : ℕ} {rest : List ℕ} (p : Putting run d₀ at d o rest) where
+  module _ (u v : List ℕ) (e : rest ≡ u ++ v) where
+    -- there is room for the next piece
+    pub putting-room : o + length u ≤ at + length run
+    putting-room = omega (arith, p .room, ap length e, length-append u v)
 
-    pub wording-none : Wording d₀ x 0
-    wording-none = record { few = omega arith; long = refl; left = go (eqb endian big) }
-      where
-        go : (t : Bool) → sets d₀ at (flatMap g (if t then reverse (toBytes w x) else toBytes w x))
-            ≡ sets d₀ (if t then at else at + m * 0) (flatMap g (if t then reverse (toBytes (w - 0) x) else toBytes (w - 0) x))
-        go true = ap (λ (k : ℕ). sets d₀ at (flatMap g (reverse (toBytes k x)))) (sym (sub-zero w))
-        go false =
-            ap (λ (k : ℕ). sets d₀ k (flatMap g (toBytes w x))) (sym (ap (λ (k : ℕ). at + k) (mul-zero m) ∙ add-zero at))
-            ∙ ap (λ (k : ℕ). sets d₀ (at + m * 0) (flatMap g (toBytes k x))) (sym (sub-zero w))
+    -- it is stored
+    pub putting-more : (d′ : List ℕ) (o′ : ℕ) → d′ ≡ sets d o u → o′ ≡ o + length u → Putting run d₀ at d′ o′ v
+    putting-more d′ o′ q k = record {
+      long = ap length q ∙ length-sets d o u ∙ p .long;
+      room = omega (arith, p .room, ap length e, length-append u v);
+      left = p .left ∙ ap (sets d o) e ∙ sym (sets-then d u v o o′ k) ∙ ap (λ (r : List ℕ). sets r o′ v) (sym q);
+    }
 
-    module _ {d : List ℕ} {y j : ℕ} (p : Wording d y j) where
-      module _ (h : j < w) where
-        -- byte j stands within the run
-        pub spot-room : spot endian at w j + m ≤ at + m * w
-        spot-room = go (eqb endian big)
-          where
-            lifted : (k : ℕ) → k < w → at + m * k + m ≤ at + m * w
-            lifted k l =
-                let q : w ≡ k + 1 + (w - (k + 1)) = omega arith in
-                omega (arith, ap (λ (n : ℕ). m * n) q, mul-add m (k + 1) (w - (k + 1)), mul-add m k 1, mul-one m)
+  module _ (e : rest ≡ []) where
+    pub putting-done : d ≡ sets d₀ at run
+    putting-done = sym (p .left ∙ ap (sets d o) e)
 
-            go : (t : Bool) → at + m * (if t then w - 1 - j else j) + m ≤ at + m * w
-            go true = lifted (w - 1 - j) (omega arith)
-            go false = lifted j h
+    pub putting-end : o ≡ at + length run
+    putting-end = omega (arith, p .room, ap length e)
 
-        -- it is stored
-        pub wording-more : (d′ : List ℕ) → d′ ≡ sets d (spot endian at w j) (g (y % 256)) → Wording d′ (y / 256) (j + 1)
-        unfolding toBytes flatMap
-        wording-more d′ e = record {
-          few = omega arith;
-          long = ap length e ∙ length-sets d (spot endian at w j) (g (y % 256)) ∙ p .long;
-          left = p .left ∙ go (eqb endian big) ∙ ap (λ (r : List ℕ). sets r (from endian at (j + 1)) (flatMap g (ordered endian (toBytes (w - (j + 1)) (y / 256))))) (sym e);
-        }
-          where
-            b : ℕ
-            b = y % 256
+-- ---- a loop that stores the w bytes of x in the order of the endian, least byte first
 
-            s : List ℕ
-            s = toBytes (w - (j + 1)) (y / 256)
+-- the first place of the bytes that are left after j, and the place of byte j
+abbrev pub from : ℕ → ℕ → ℕ → ℕ
+from endian at j = if eqb endian big then at else at + j
 
-            q : w - j ≡ suc (w - (j + 1))
-            q = omega arith
+abbrev pub spot : ℕ → ℕ → ℕ → ℕ → ℕ
+spot endian at w j = at + (if eqb endian big then w - 1 - j else j)
 
-            split : toBytes (w - j) y ≡ y % 256 ∷ toBytes (w - (j + 1)) (y / 256)
-            split = ap (λ (k : ℕ). toBytes k y) q
+-- d as it is where byte j goes to its place
+pub record Wording (endian w x : ℕ) (d₀ : List ℕ) (at : ℕ) (d : List ℕ) (y j : ℕ) : Type 0 where
+  pub few : j ≤ w
+  pub long : length d ≡ length d₀
+  pub left : sets d₀ at (ordered endian (toBytes w x)) ≡ sets d (from endian at j) (ordered endian (toBytes (w - j) y))
 
-            go : (t : Bool) → sets d (if t then at else at + m * j) (flatMap g (if t then reverse (toBytes (w - j) y) else toBytes (w - j) y))
-                ≡ sets (sets d (at + m * (if t then w - 1 - j else j)) (g (y % 256))) (if t then at else at + m * (j + 1)) (flatMap g (if t then reverse (toBytes (w - (j + 1)) (y / 256)) else toBytes (w - (j + 1)) (y / 256)))
-            go true =
-                let u : List ℕ = flatMap g (reverse s) in
-                let l : length u ≡ m * (w - 1 - j) =
-                flat-length (reverse s) ∙ ap (λ (k : ℕ). m * k) (length-reverse s ∙ length-to-bytes (w - (j + 1)) (y / 256) ∙ omega arith) in
-                ap (λ (r : List ℕ). sets d at (flatMap g (reverse r))) split
-                ∙ ap (sets d at) (flat-last s b)
-                ∙ sym (sets-before u (g b) d at)
-                ∙ ap (λ (k : ℕ). sets (sets d (at + k) (g b)) at u) l
-            go false =
-                let o : ℕ = at + m * j in
-                let n : o + length (g b) ≡ at + m * (j + 1) = omega (arith, size b, mul-add m j 1, mul-one m) in
-                ap (λ (r : List ℕ). sets d o (flatMap g r)) split
-                ∙ sets-append (g b) (flatMap g s) d o
-                ∙ ap (λ (k : ℕ). sets (sets d o (g b)) k (flatMap g s)) n
+pub wording-none : (endian w x : ℕ) (d₀ : List ℕ) (at : ℕ) → Wording endian w x d₀ at d₀ x 0
+wording-none endian w x d₀ at = record { few = omega arith; long = refl; left = go (eqb endian big) }
+  where
+    go : (t : Bool) → sets d₀ at (if t then reverse (toBytes w x) else toBytes w x)
+        ≡ sets d₀ (if t then at else at + 0) (if t then reverse (toBytes (w - 0) x) else toBytes (w - 0) x)
+    go true = rw (sub-zero w)
+    go false = rw (sub-zero w, add-zero at)
 
-      pub wording-done : w ≤ j → d ≡ sets d₀ at (flatMap g (ordered endian (toBytes w x)))
-      unfolding toBytes flatMap
-      wording-done h = sym (p .left ∙ go (eqb endian big))
-        where
-          z : w - j ≡ 0
-          z = omega arith
+-- byte j stands within the run
+pub spot-room : (endian at w j : ℕ) → j < w → spot endian at w j + 1 ≤ at + w
+spot-room endian at w j h = go (eqb endian big)
+  where
+    go : (t : Bool) → at + (if t then w - 1 - j else j) + 1 ≤ at + w
+    go true = omega arith
+    go false = omega arith
 
-          go : (t : Bool) → sets d (if t then at else at + m * j) (flatMap g (if t then reverse (toBytes (w - j) y) else toBytes (w - j) y)) ≡ d
-          go true = ap (λ (k : ℕ). sets d at (flatMap g (reverse (toBytes k y)))) z
-          go false = ap (λ (k : ℕ). sets d (at + m * j) (flatMap g (toBytes k y))) z
+module _ {endian w x : ℕ} {d₀ : List ℕ} {at : ℕ} {d : List ℕ} {y j : ℕ} (p : Wording endian w x d₀ at d y j) where
+  -- it is stored
+  pub wording-more : j < w → (d′ : List ℕ) → d′ ≡ set d (spot endian at w j) (y % 256) → Wording endian w x d₀ at d′ (y / 256) (j + 1)
+  unfolding toBytes
+  wording-more h d′ e = record {
+    few = omega arith;
+    long = ap length e ∙ length-set d (spot endian at w j) (y % 256) ∙ p .long;
+    left = p .left ∙ go (eqb endian big) ∙ ap (λ (r : List ℕ). sets r (from endian at (j + 1)) (ordered endian (toBytes (w - (j + 1)) (y / 256)))) (sym e);
+  }
+    where
+      s : List ℕ
+      s = toBytes (w - (j + 1)) (y / 256)
 
--- bytes one by one
-pub flat-each : (s : List ℕ) → flatMap (λ b. b ∷ []) s ≡ s
-unfolding flatMap
-flat-each [] = refl
-flat-each (b ∷ s) = rw (flat-each s)
+      q : w - j ≡ suc (w - (j + 1))
+      q = omega arith
 
--- f of each element has w bytes
-pub flat-const : {A : Type 0} (f : A → List ℕ) (w : ℕ) → ((z : A) → length (f z) ≡ w) → (zs : List A) → length (flatMap f zs) ≡ length zs * w
-unfolding flatMap
-flat-const f w size [] = sym (zero-mul w)
-flat-const f w size (z ∷ zs) = length-append (f z) (flatMap f zs) ∙ omega (arith, size z, flat-const f w size zs, suc-mul (length zs) w)
+      split : toBytes (w - j) y ≡ y % 256 ∷ toBytes (w - (j + 1)) (y / 256)
+      split = ap (λ (k : ℕ). toBytes k y) q
+
+      go : (t : Bool) → sets d (if t then at else at + j) (if t then reverse (toBytes (w - j) y) else toBytes (w - j) y)
+          ≡ sets (set d (at + (if t then w - 1 - j else j)) (y % 256)) (if t then at else at + (j + 1)) (if t then reverse (toBytes (w - (j + 1)) (y / 256)) else toBytes (w - (j + 1)) (y / 256))
+      go true =
+          let l : length (reverse s) ≡ w - 1 - j = length-reverse s ∙ length-to-bytes (w - (j + 1)) (y / 256) ∙ omega arith in
+          ap (λ (r : List ℕ). sets d at (reverse r)) split
+          ∙ ap (sets d at) (reverse-cons (y % 256) s)
+          ∙ sym (sets-before (reverse s) (y % 256 ∷ []) d at)
+          ∙ ap (λ (k : ℕ). sets (set d (at + k) (y % 256)) at (reverse s)) l
+      go false =
+          let n : at + j + 1 ≡ at + (j + 1) = omega arith in
+          ap (sets d (at + j)) split
+          ∙ sym (set-then d s (at + j) (y % 256))
+          ∙ ap (λ (k : ℕ). sets (set d (at + j) (y % 256)) k s) n
+
+  pub wording-done : w ≤ j → d ≡ sets d₀ at (ordered endian (toBytes w x))
+  unfolding toBytes
+  wording-done h = sym (p .left ∙ go (eqb endian big))
+    where
+      z : w - j ≡ 0
+      z = omega arith
+
+      go : (t : Bool) → sets d (if t then at else at + j) (if t then reverse (toBytes (w - j) y) else toBytes (w - j) y) ≡ d
+      go true = ap (λ (k : ℕ). sets d at (reverse (toBytes k y))) z
+      go false = ap (λ (k : ℕ). sets d (at + j) (toBytes k y)) z

@@ -5,12 +5,14 @@ use mathlib.Core.Bool.{true}
 use mathlib.Core.List.{List, [], _∷_, _++_, flatMap, append-assoc}
 use Prim.Native.Nat.{ℕ, zero, suc, _+_, _*_, _-_, _^_, _/_, _%_, _≤_, _<_}
 use lib.Pow.{pow-add}
-use native.Mathlib.Nat.{pow-suc, one-le-pow, mul-assoc, mul-sub, mul-one, mul-comm, mul-left-comm, mul-suc, suc-mul, zero-mul}
+use native.Mathlib.Nat.{pow-suc, one-le-pow, pow-le-pow-right, mul-le-mul, mul-assoc, mul-sub, mul-one, mul-comm, mul-left-comm, mul-suc, suc-mul, zero-mul}
 use native.Mathlib.Omega.{arith}
 use lib.Dec.{lit<}
 use lib.IntN.{ℤ, pos, negsuc}
-use lib.ListN.{length, length-append}
-use borrow.Author.Tests.{ltb-true, ne-eqb}
+use lib.ListN.{length, getD, drop, length-append, drop-of-length-le}
+use lib.Seq.{slice, length-slice, drop-cons}
+use native.Mathlib.Numerals.{add-one}
+use borrow.Author.Tests.{ltb-true, leb-true, ne-eqb}
 use mathlib.Core.Logic.{⊎-elim}
 use Rattle.format.specs.Bytes.{LF}
 use Rattle.format.specs.Descriptors.{NumberKind, signed, unsigned, floating}
@@ -18,8 +20,9 @@ use Rattle.format.specs.Samples.{inType, lowest, highest, toBytes, fromSigned, 
 use Rattle.format.specs.Writer.{signedDecimal, hexOfByte, hexText, rawData, textData, dataBytes, allInType}
 use Rattle.format.proofs.Bytes.{and-left, and-right}
 use Rattle.format.proofs.Samples.{length-to-bytes, length-ordered, length-value-bytes}
-use Rattle.writer.specs.Stored.{lowBytes, lowHex, textLine, inRange, allInRange, Width}
-use Rattle.writer.proofs.Runs.{run-length}
+use Rattle.writer.specs.Stored.{lowBytes, textLine, inRange, allInRange, Width}
+use Rattle.writer.proofs.Digits.{at-most-20}
+use Rattle.writer.proofs.Runs.{flat-const, flat-parts}
 
 -- ---- text
 
@@ -31,13 +34,41 @@ flat-text (z ∷ zs) = rw (flat-text zs, append-assoc)
 pub line-length : (z : ℤ) → length (textLine z) ≡ length (signedDecimal z) + 1
 line-length z = length-append (signedDecimal z) (LF ∷ [])
 
--- ---- the sizes of bytes and hex
+-- ---- the longest text
+
+module _ (w : ℕ) (narrow : w ≤ 8) where
+  small : 256 ^ w ≤ 256 ^ 8
+  small = pow-le-pow-right {n = 256} (lit< tt) narrow
+
+  -- a sample of a type has at most 21 bytes
+  few-bytes : (k : NumberKind) (z : ℤ) → inType k w z ≡ true → length (signedDecimal z) ≤ 21
+  unfolding inType
+  few-bytes k (pos n) e = omega (arith, at-most-20 n (under k (leb-true n (highest k w) e)))
+    where
+      under : (k : NumberKind) → n ≤ highest k w → n < 18446744073709551616
+      under signed h = omega (arith, small)
+      under unsigned h = omega arith
+      under floating h = omega arith
+  few-bytes k (negsuc n) e = omega (arith, at-most-20 (suc n) (under k (ltb-true n (lowest k w) e)))
+    where
+      under : (k : NumberKind) → n < lowest k w → suc n < 18446744073709551616
+      under signed h = omega (arith, small)
+      under unsigned h = absurd (omega arith)
+      under floating h = absurd (omega arith)
+
+  pub text-bound : (k : NumberKind) (zs : List ℤ) → allInType k w zs ≡ true → length (textData zs) ≤ 22 * length zs
+  unfolding textData allInType
+  text-bound k [] e = omega arith
+  text-bound k (z ∷ zs) e =
+      omega (arith, length-append (signedDecimal z) (LF ∷ textData zs), few-bytes k z (and-left (inType k w z) (allInType k w zs) e), text-bound k zs (and-right (inType k w z) (allInType k w zs) e))
+
+-- ---- the size of a sample's bytes
 
 pub low-size : (w endian : ℕ) (z : ℤ) → length (lowBytes w endian z) ≡ w
 low-size w endian z = length-ordered endian (toBytes w (fromSigned 8 z)) ∙ length-to-bytes w (fromSigned 8 z)
 
-pub hex-size : (w endian : ℕ) (z : ℤ) → length (lowHex w endian z) ≡ 2 * w
-hex-size w endian z = run-length hexOfByte 2 (λ b. refl) endian w (fromSigned 8 z)
+pub part-length : (w endian from to : ℕ) (zs : List ℤ) → to ≤ length zs → length (flatMap (lowBytes w endian) (slice from to zs)) ≡ (to - from) * w
+part-length w endian from to zs h = flat-const (lowBytes w endian) w (low-size w endian) (slice from to zs) ∙ ap (λ (k : ℕ). k * w) (length-slice from to zs h)
 
 -- ---- bytes
 
@@ -95,15 +126,19 @@ unfolding hexText
 hex-append [] t = refl
 hex-append (b ∷ s) t = rw (hex-append s t)
 
-hex-flat : (s : List ℕ) → flatMap hexOfByte s ≡ hexText s
-unfolding flatMap hexText
-hex-flat [] = refl
-hex-flat (b ∷ s) = rw (hex-flat s)
+module _ (s : List ℕ) (i : ℕ) where
+  pub hex-next : i < length s → hexText (drop i s) ≡ hexOfByte (getD s i 0) ++ hexText (drop (i + 1) s)
+  unfolding hexText
+  hex-next h = rw (add-one i, drop-cons s i 0 h)
 
-pub hex-data : (w endian : ℕ) (zs : List ℤ) → flatMap (lowHex w endian) zs ≡ hexText (flatMap (lowBytes w endian) zs)
-unfolding flatMap hexText
-hex-data w endian [] = refl
-hex-data w endian (z ∷ zs) = rw (hex-data w endian zs, hex-flat (lowBytes w endian z), hex-append (lowBytes w endian z) (flatMap (lowBytes w endian) zs))
+  pub hex-over : length s ≤ i → hexText (drop i s) ≡ []
+  unfolding hexText
+  hex-over h = ap hexText (drop-of-length-le s h)
+
+-- the hex of the elements up to e, and of those after them
+pub hex-parts : {A : Type 0} (f : A → List ℕ) (zs : List A) (i e : ℕ) → i ≤ e → e ≤ length zs
+    → hexText (flatMap f (drop i zs)) ≡ hexText (flatMap f (slice i e zs)) ++ hexText (flatMap f (drop e zs))
+hex-parts f zs i e h l = ap hexText (flat-parts f zs i e h l) ∙ hex-append (flatMap f (slice i e zs)) (flatMap f (drop e zs))
 
 -- ---- the range of a type
 
@@ -125,10 +160,16 @@ raw-size w endian [] = sym (zero-mul w)
 raw-size w endian (z ∷ zs) =
     length-append (valueBytes w endian z) (rawData w endian zs) ∙ omega (arith, length-value-bytes w endian z, raw-size w endian zs, suc-mul (length zs) w)
 
-hex-length : (s : List ℕ) → length (hexText s) ≡ 2 * length s
+pub hex-length : (s : List ℕ) → length (hexText s) ≡ 2 * length s
 unfolding hexText
 hex-length [] = omega arith
 hex-length (b ∷ s) = omega (arith, hex-length s)
+
+pub twice : (n w : ℕ) → n * (2 * w) ≡ 2 * (n * w)
+twice n w = mul-left-comm n 2 w
+
+pub hex-whole : (w endian : ℕ) (zs : List ℤ) → length (hexText (flatMap (lowBytes w endian) zs)) ≡ length zs * (2 * w)
+hex-whole w endian zs = omega (arith, hex-length (flatMap (lowBytes w endian) zs), flat-const (lowBytes w endian) w (low-size w endian) zs, twice (length zs) w)
 
 module _ (encoding w endian : ℕ) (zs : List ℤ) where
   pub raw-is : encoding ≡ 0 → dataBytes encoding w endian zs ≡ rawData w endian zs
@@ -151,8 +192,11 @@ module _ (encoding w endian : ℕ) (zs : List ℤ) where
       ap length (hex-is n m) ∙ length-append (hexText (rawData w endian zs)) (LF ∷ [])
       ∙ omega (arith, hex-length (rawData w endian zs), raw-size w endian zs)
 
-pub twice : (n w : ℕ) → n * (2 * w) ≡ 2 * (n * w)
-twice n w = mul-left-comm n 2 w
+-- the bytes of 256 samples fit the buffer of a part
+pub part-room : (w i e : ℕ) → w ≤ 8 → e ≤ i + 256 → (e - i) * w ≤ 2048
+part-room w i e h l =
+    let k : e - i ≤ 256 = omega arith in
+    omega (arith, mul-le-mul k h)
 
 -- ---- the width
 

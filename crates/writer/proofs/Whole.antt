@@ -10,7 +10,7 @@ use lib.Dec.{eqb, ltb}
 use lib.IntN.{ℤ}
 use lib.ListN.{length, take, drop, length-append}
 use lib.Seq.{sets, sets-eq, take-at}
-use borrow.Author.Tests.{ne-eqb, ltb-false}
+use borrow.Author.Tests.{ne-eqb, ltb-false, le-ltb}
 use Rattle.format.specs.Bytes.{if_then_else_, over}
 use Rattle.format.specs.Limits.{maxFile, maxExtent}
 use Rattle.format.specs.Refusals.{fine, refusal}
@@ -23,6 +23,15 @@ use Rattle.roundtrip.proofs.Names.{sample-bytes}
 use Rattle.writer.proofs.Runs.{sets-then}
 
 -- ---- the refusals
+
+-- what is no longer than a file that is not refused is not refused
+pub late-less : (a b room : ℕ) → a ≤ b → 0 ≡ lateRefusal b room → 0 ≡ lateRefusal a room
+late-less a b room h e = go (ltb maxFile b) (ltb room b) refl refl e
+  where
+    go : (s t : Bool) → ltb maxFile b ≡ s → ltb room b ≡ t → _≡_ {A = ℕ} 0 (if s then 1 else if t then 22 else 0) → 0 ≡ lateRefusal a room
+    go true t k l r = absurd (omega arith)
+    go false true k l r = absurd (omega arith)
+    go false false k l r = rw (le-ltb maxFile a (omega (arith, ltb-false maxFile b k)), le-ltb room a (omega (arith, ltb-false room b l)))
 
 module _ (version : ℕ) (sizes : List ℕ) (t e endian : ℕ) (zs : List ℤ) where
   abbrev file : List ℕ
@@ -54,14 +63,22 @@ module _ (version : ℕ) (sizes : List ℕ) (t e endian : ℕ) (zs : List ℤ) w
 
     -- a call refused early
     pub early-call : (n : ℕ) → n ≡ earlyRefusal version sizes t e endian zs → (n ≡ 0 → ⊥) → writeCall version sizes t e endian zs out ≡ (refusedAnswer n, out)
-    early-call n q h =
-        answered n (parts (length out) ∙ rw (sym q, ne-eqb n 0 h)) ∙ kept n h
+    early-call n q h = answered n (parts (length out) ∙ rw (sym q, ne-eqb n 0 h)) ∙ kept n h
 
-    module _ (q : 0 ≡ earlyRefusal version sizes t e endian zs) (total : ℕ) (l : total ≡ length file) where
+    -- a call that is not: the header has `start` bytes, and a sample w
+    module _ (q : 0 ≡ earlyRefusal version sizes t e endian zs) (start w : ℕ) (es : start ≡ length (headerBytes version sizes t e endian)) (ew : w ≡ sampleBytes t) where
+      abbrev total : ℕ
+      total = start + length (dataBytes e w endian zs)
+
+      long : total ≡ length (fileBytes version sizes t e endian zs)
+      unfolding fileBytes
+      long =
+          rw (es, ew) (sym (length-append (headerBytes version sizes t e endian) (dataBytes e (sampleBytes t) endian zs)))
+
       late : writeRefusal version sizes t e endian zs (length out) ≡ lateRefusal total (length out)
-      late = parts (length out) ∙ rw (sym q, sym l)
+      late = parts (length out) ∙ rw (sym q, sym long)
 
-      -- a call refused late
+      -- it is refused late
       pub late-call : (n : ℕ) → n ≡ lateRefusal total (length out) → (n ≡ 0 → ⊥) → writeCall version sizes t e endian zs out ≡ (refusedAnswer n, out)
       late-call n r h = answered n (late ∙ sym r) ∙ kept n h
 
@@ -74,29 +91,23 @@ module _ (version : ℕ) (sizes : List ℕ) (t e endian : ℕ) (zs : List ℤ) w
           go false true k r = absurd (omega arith)
           go false false k r = ltb-false (length out) total k
 
-      -- a call that is not refused
-      pub full-call : 0 ≡ lateRefusal total (length out) → writeCall version sizes t e endian zs out ≡ (record { refusal = fine; length = total }, sets out 0 file)
-      full-call r =
-          let h : 0 + length file ≤ length out = omega (arith, fits r) in
-          let s : sets out 0 file ≡ over file out = sets-eq file out 0 h ∙ ap (λ (k : ℕ). file ++ drop k out) (zero-add (length file)) in
-          answered 0 (late ∙ sym r) ∙ rw (l, s)
+      -- the header and the data after it are the file
+      stored : sets (sets out 0 (headerBytes version sizes t e endian)) start (dataBytes e w endian zs) ≡ sets out 0 file
+      unfolding fileBytes
+      stored =
+          sets-then out (headerBytes version sizes t e endian) (dataBytes e w endian zs) 0 start (es ∙ sym (zero-add (length (headerBytes version sizes t e endian))))
+          ∙ ap (λ (k : ℕ). sets out 0 (headerBytes version sizes t e endian ++ dataBytes e k endian zs)) ew
+
+      -- it is not refused
+      pub full-call : 0 ≡ lateRefusal total (length out) → (n : ℕ) (d : List ℕ) → n ≡ total → d ≡ sets (sets out 0 (headerBytes version sizes t e endian)) start (dataBytes e w endian zs)
+          → (record { refusal = fine; length = n }, d) ≡ writeCall version sizes t e endian zs out
+      full-call r n d en ed =
+          let h : 0 + length file ≤ length out = omega (arith, fits r, long) in
+          let s : d ≡ over file out = ed ∙ stored ∙ sets-eq file out 0 h ∙ ap (λ (k : ℕ). file ++ drop k out) (zero-add (length file)) in
+          let l : n ≡ length file = en ∙ long in
+          rw (s, l) (sym (answered 0 (late ∙ sym r)))
 
 -- ---- the file
-
--- the header and the data after it
-pub file-stored : (version : ℕ) (sizes : List ℕ) (t e endian w : ℕ) (zs : List ℤ) (out : List ℕ) (start : ℕ) → start ≡ length (headerBytes version sizes t e endian) → w ≡ sampleBytes t
-    → sets (sets out 0 (headerBytes version sizes t e endian)) start (dataBytes e w endian zs) ≡ sets out 0 (fileBytes version sizes t e endian zs)
-unfolding fileBytes
-file-stored version sizes t e endian w zs out start q r =
-    sets-then out (headerBytes version sizes t e endian) (dataBytes e w endian zs) 0 start (q ∙ sym (zero-add (length (headerBytes version sizes t e endian))))
-    ∙ ap (λ (k : ℕ). sets out 0 (headerBytes version sizes t e endian ++ dataBytes e k endian zs)) r
-
-pub file-length : (version : ℕ) (sizes : List ℕ) (t e endian w : ℕ) (zs : List ℤ) → w ≡ sampleBytes t
-    → length (headerBytes version sizes t e endian) + length (dataBytes e w endian zs) ≡ length (fileBytes version sizes t e endian zs)
-unfolding fileBytes
-file-length version sizes t e endian w zs r =
-    ap (λ (k : ℕ). length (headerBytes version sizes t e endian) + length (dataBytes e k endian zs)) r
-    ∙ sym (length-append (headerBytes version sizes t e endian) (dataBytes e (sampleBytes t) endian zs))
 
 -- what stands at the front of a list where a run was stored
 pub stored-front : (x l run : List ℕ) (n : ℕ) → x ≡ sets l 0 run → n ≡ length run → n ≤ length l → take n x ≡ run

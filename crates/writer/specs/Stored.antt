@@ -1,7 +1,7 @@
 -- What the writer's parts store and test, in the words of their contracts. Each is tied to the definitions of `format` by a law of proofs/.
 use mathlib.Core.Path.{_≡_}
 use mathlib.Core.Logic.{_⊎_}
-use Prim.Native.Nat.{ℕ, _*_, _≤_, _<_}
+use Prim.Native.Nat.{ℕ, zero, suc, _*_, _-_, _/_, _%_, _≤_, _<_}
 use mathlib.Core.Bool.{Bool, true, not, _&&_}
 use mathlib.Core.List.{List, [], _∷_, _++_, flatMap}
 use lib.Dec.{eqb, leb, ltb}
@@ -13,15 +13,23 @@ use Rattle.format.specs.declared.WriteAnswer.{WriteAnswer}
 use Rattle.format.specs.Refusals.{refusal, fileTooLong, badDescriptor, extentTooLarge, floatSamples, badSample, lentTooShort, wrongCount}
 use Rattle.format.specs.Descriptors.{typeAt, typeName, encodings, endians, sampleBytes, numberKind, isFloating, endianNeeded, product, extent}
 use Rattle.format.specs.Samples.{toBytes, ordered, fromSigned}
-use Rattle.format.specs.Writer.{decimal, signedDecimal, hexOfByte, nameAt, allInType, writable}
+use Rattle.format.specs.Writer.{digit, decimal, signedDecimal, nameAt, allInType, writable}
 
 -- the low w bytes of a sample's 64 bits
 abbrev pub lowBytes : ℕ → ℕ → ℤ → List ℕ
 lowBytes w endian z = ordered endian (toBytes w (fromSigned 8 z))
 
--- the same in hex
-abbrev pub lowHex : ℕ → ℕ → ℤ → List ℕ
-lowHex w endian z = flatMap hexOfByte (lowBytes w endian z)
+-- the last k digits of a number
+unfoldable pub digits : ℕ → ℕ → List ℕ
+digits zero n = []
+digits (suc k) n = digits k (n / 10) ++ (digit (n % 10) ∷ [])
+
+-- a sample of the bits x: the bytes of its sign as text, and its value without the sign
+abbrev pub signLength : ℕ → ℕ
+signLength x = if ltb x 9223372036854775808 then 0 else 1
+
+abbrev pub absolute : ℕ → ℕ
+absolute x = if ltb x 9223372036854775808 then x else 18446744073709551616 - x
 
 -- a sample on a line
 abbrev pub textLine : ℤ → List ℕ

@@ -4,7 +4,7 @@ ghost use mathlib.Core.Bool.{true};
 ghost use Prim.Native.Nat.{_*_, _≤_, _<_, min};
 ghost use Rattle.format.specs.Bytes.{isIn};
 ghost use Rattle.format.specs.Descriptors.{product, sampleBytes, numberKind};
-ghost use Rattle.format.specs.Samples.{lowest, highest};
+ghost use Rattle.format.specs.Samples.{lowest, highest, toSigned};
 ghost use Rattle.format.specs.Writer.{writable};
 ghost use Rattle.writer.specs.Stored.{inRange, allInRange, Width, earlyRefusal, lateRefusal, Numbers, Ready};
 use crate::put;
@@ -86,25 +86,23 @@ fn product(ns: &[u64]) -> u64
     x
 }
 
-// Whether a sample lies from -low to high.
-fn in_range(z: i64, low: u64, high: u64) -> bool
-    ensures { λ r. ⌜ r ≡ inRange low high z ⌝ }
+// Whether the sample of the bits x lies from -low to high. The range of every type begins and ends so that one test does.
+fn in_range(x: u64, low: u64, high: u64) -> bool
+    requires { ⌜ (low ≤ 9223372036854775808) × (high < 9223372036854775808) ⌝ }
+    ensures { λ r. ⌜ r ≡ inRange low high (toSigned 8 x) ⌝ }
 {
-    let m = put::magnitude(z);
-    if z < 0 {
-        return m < low;
-    }
-    m <= high
+    std::num::wrapping_add_u64(x, low) <= low + high
 }
 
 // Whether all samples do. There is no early exit.
 fn all_in_range(samples: &[i64], low: u64, high: u64) -> bool
+    requires { ⌜ (low ≤ 9223372036854775808) × (high < 9223372036854775808) ⌝ }
     ensures { λ r. ⌜ r ≡ allInRange low high (now (samples .entry)) ⌝ }
 {
     let mut fine = true;
     let mut i: usize = 0;
     while i < samples.len() {
-        fine = fine & in_range(samples[i], low, high);
+        fine = fine & in_range(put::bits_at(samples, i), low, high);
         i += 1;
     }
     fine
@@ -151,14 +149,14 @@ pub fn width_of(t: u64) -> u64
 
 fn lowest_of(t: u64) -> u64
     requires { ⌜ t < 10 ⌝ }
-    ensures { λ r. ⌜ r ≡ lowest (numberKind t) (sampleBytes t) ⌝ }
+    ensures { λ r. ⌜ (r ≡ lowest (numberKind t) (sampleBytes t)) × (r ≤ 9223372036854775808) ⌝ }
 {
     LOWEST[t as usize]
 }
 
 fn highest_of(t: u64) -> u64
     requires { ⌜ t < 10 ⌝ }
-    ensures { λ r. ⌜ r ≡ highest (numberKind t) (sampleBytes t) ⌝ }
+    ensures { λ r. ⌜ (r ≡ highest (numberKind t) (sampleBytes t)) × (r < 9223372036854775808) ⌝ }
 {
     HIGHEST[t as usize]
 }

@@ -44,15 +44,14 @@ pub fn write(
     let mut head = [0u8; 512];
     let start = head::put_header(&mut head, version, sizes, sampletype, encoding, endian);
     let w = check::width_of(sampletype) as usize;
-    let total = start + body::data_length(samples, encoding, w);
-    let late = check::late_refusal(total, out.len());
+    let late = body::file_refusal(start, samples, encoding, w, out.len());
     if late != 0 {
         return refused(late);
     }
     put::put_bytes(out, 0, &head[..start]);
-    body::put_data(out, start, samples, encoding, w, endian);
+    let end = body::put_data(out, start, samples, encoding, w, endian);
     WriteAnswer {
         refusal: Refusal { number: 0, line: 0 },
-        length: total as u64,
+        length: end as u64,
     }
 }

@@ -1,16 +1,16 @@
 // Bytes, numbers and samples stored from a place of a lent buffer on. Each function returns the place after what it stored.
 ghost use mathlib.Core.Path.{_≡_};
-ghost use mathlib.Core.List.{flatMap};
 ghost use Prim.Native.Nat.{_+_, _*_, _-_, _≤_, _<_};
 ghost use lib.Dec.{eqb};
-ghost use lib.ListN.{length};
+ghost use lib.IntN.{pos};
+ghost use lib.ListN.{length, getD};
 ghost use lib.Seq.{sets};
 ghost use lib.Signed.{mag};
 ghost use Rattle.format.specs.Bytes.{if_then_else_};
 ghost use Rattle.format.specs.Descriptors.{big};
-ghost use Rattle.format.specs.Samples.{toBytes, ordered, fromSigned};
-ghost use Rattle.format.specs.Writer.{decimal, signedDecimal, hexOfByte, hexLetter};
-ghost use Rattle.writer.specs.Stored.{textLine};
+ghost use Rattle.format.specs.Samples.{toBytes, ordered, toSigned, fromSigned};
+ghost use Rattle.format.specs.Writer.{decimal, signedDecimal, hexLetter, hexText};
+ghost use Rattle.writer.specs.Stored.{digits, signLength, absolute, textLine};
 
 // The bytes s.
 pub fn put_bytes(out: &mut [u8], at: usize, s: &[u8]) -> usize
@@ -26,85 +26,210 @@ pub fn put_bytes(out: &mut [u8], at: usize, s: &[u8]) -> usize
     at + i
 }
 
-// How many digits a number has.
-pub fn decimal_length(n: u64) -> usize
-    ensures is { λ r. ⌜ r ≡ length (decimal n) ⌝ }
-    ensures bounds { λ r. ⌜ (1 ≤ r) × (r ≤ 20) ⌝ }
+// The digits of a number below 100, with a zero in front where it has only one.
+fn put_two(out: &mut [u8], at: usize, n: u64) -> usize
+    requires { ⌜ (n < 100) × (at + 2 ≤ length (now out)) ⌝ }
+    ensures place { λ r. ⌜ r ≡ at + 2 ⌝ }
+    ensures stored { λ _. ⌜ now (out .exit) ≡ sets (now (out .entry)) at (digits 2 n) ⌝ }
 {
-    let mut m = n;
-    let mut k: usize = 1;
-    while 10 <= m {
-        m = m / 10;
-        k += 1;
-    }
-    k
+    out[at] = (48 + n / 10) as u8;
+    out[at + 1] = (48 + n % 10) as u8;
+    at + 2
 }
 
-// A number's digits, the last one first.
+// Four digits, and eight, by halves.
+fn put_four(out: &mut [u8], at: usize, n: u64) -> usize
+    requires { ⌜ (n < 10000) × (at + 4 ≤ length (now out)) ⌝ }
+    ensures place { λ r. ⌜ r ≡ at + 4 ⌝ }
+    ensures stored { λ _. ⌜ now (out .exit) ≡ sets (now (out .entry)) at (digits 4 n) ⌝ }
+{
+    let o = put_two(out, at, n / 100);
+    put_two(out, o, n % 100)
+}
+
+fn put_eight(out: &mut [u8], at: usize, n: u64) -> usize
+    requires { ⌜ (n < 100000000) × (at + 8 ≤ length (now out)) ⌝ }
+    ensures place { λ r. ⌜ r ≡ at + 8 ⌝ }
+    ensures stored { λ _. ⌜ now (out .exit) ≡ sets (now (out .entry)) at (digits 8 n) ⌝ }
+{
+    let o = put_four(out, at, n / 10000);
+    put_four(out, o, n % 10000)
+}
+
+// A number of up to four digits.
+fn put_to_4(out: &mut [u8], at: usize, n: u64) -> usize
+    requires { ⌜ (n < 10000) × (at + length (decimal n) ≤ length (now out)) ⌝ }
+    ensures place { λ r. ⌜ r ≡ at + length (decimal n) ⌝ }
+    ensures stored { λ _. ⌜ now (out .exit) ≡ sets (now (out .entry)) at (decimal n) ⌝ }
+{
+    if n < 10 {
+        out[at] = (48 + n) as u8;
+        return at + 1;
+    }
+    if n < 100 {
+        return put_two(out, at, n);
+    }
+    if n < 1000 {
+        out[at] = (48 + n / 100) as u8;
+        return put_two(out, at + 1, n % 100);
+    }
+    put_four(out, at, n)
+}
+
+// A number of up to eight digits.
+fn put_to_8(out: &mut [u8], at: usize, n: u64) -> usize
+    requires { ⌜ (n < 100000000) × (at + length (decimal n) ≤ length (now out)) ⌝ }
+    ensures place { λ r. ⌜ r ≡ at + length (decimal n) ⌝ }
+    ensures stored { λ _. ⌜ now (out .exit) ≡ sets (now (out .entry)) at (decimal n) ⌝ }
+{
+    if n < 10000 {
+        return put_to_4(out, at, n);
+    }
+    let o = put_to_4(out, at, n / 10000);
+    put_four(out, o, n % 10000)
+}
+
+// A number of up to twelve digits.
+fn put_to_12(out: &mut [u8], at: usize, n: u64) -> usize
+    requires { ⌜ (n < 1000000000000) × (at + length (decimal n) ≤ length (now out)) ⌝ }
+    ensures place { λ r. ⌜ r ≡ at + length (decimal n) ⌝ }
+    ensures stored { λ _. ⌜ now (out .exit) ≡ sets (now (out .entry)) at (decimal n) ⌝ }
+{
+    if n < 100000000 {
+        return put_to_8(out, at, n);
+    }
+    let o = put_to_4(out, at, n / 100000000);
+    put_eight(out, o, n % 100000000)
+}
+
+// A number.
 pub fn put_decimal(out: &mut [u8], at: usize, n: u64) -> usize
     requires { ⌜ at + length (decimal n) ≤ length (now out) ⌝ }
     ensures place { λ r. ⌜ (r ≡ at + length (decimal n)) × (r ≤ at + 20) ⌝ }
     ensures stored { λ _. ⌜ now (out .exit) ≡ sets (now (out .entry)) at (decimal n) ⌝ }
 {
-    let end = at + decimal_length(n);
-    let mut m = n;
-    let mut j = end - 1;
-    while 10 <= m {
-        out[j] = (48 + m % 10) as u8;
-        m = m / 10;
-        j -= 1;
+    if n < 100000000 {
+        return put_to_8(out, at, n);
     }
-    out[j] = (48 + m) as u8;
-    end
+    let o = put_to_12(out, at, n / 100000000);
+    put_eight(out, o, n % 100000000)
+}
+
+// How many digits a number has: one of up to four, of up to eight, of up to twelve, and any number.
+fn length_to_4(n: u64) -> usize
+    requires { ⌜ n < 10000 ⌝ }
+    ensures { λ r. ⌜ r ≡ length (decimal n) ⌝ }
+    ensures few { λ r. ⌜ r ≤ 4 ⌝ }
+{
+    if 1000 <= n {
+        return 4;
+    }
+    if 100 <= n {
+        return 3;
+    }
+    if 10 <= n {
+        return 2;
+    }
+    1
+}
+
+fn length_to_8(n: u64) -> usize
+    requires { ⌜ n < 100000000 ⌝ }
+    ensures { λ r. ⌜ r ≡ length (decimal n) ⌝ }
+    ensures few { λ r. ⌜ r ≤ 8 ⌝ }
+{
+    if n < 10000 {
+        return length_to_4(n);
+    }
+    length_to_4(n / 10000) + 4
+}
+
+fn length_to_12(n: u64) -> usize
+    requires { ⌜ n < 1000000000000 ⌝ }
+    ensures { λ r. ⌜ r ≡ length (decimal n) ⌝ }
+    ensures few { λ r. ⌜ r ≤ 12 ⌝ }
+{
+    if n < 100000000 {
+        return length_to_8(n);
+    }
+    length_to_4(n / 100000000) + 8
+}
+
+fn decimal_length(n: u64) -> usize
+    ensures { λ r. ⌜ r ≡ length (decimal n) ⌝ }
+    ensures few { λ r. ⌜ r ≤ 20 ⌝ }
+{
+    if n < 100000000 {
+        return length_to_8(n);
+    }
+    length_to_12(n / 100000000) + 8
 }
 
 // n for a sample n, and for a sample -(n + 1).
-pub fn magnitude(z: i64) -> u64
+fn magnitude(z: i64) -> u64
     ensures { λ r. ⌜ r ≡ mag z ⌝ }
 {
     if z < 0 { (-1 - z) as u64 } else { z as u64 }
 }
 
 // The bits of a sample.
-pub fn bits(z: i64) -> u64
+fn bits(z: i64) -> u64
     ensures { λ r. ⌜ r ≡ fromSigned 8 z ⌝ }
 {
     let m = magnitude(z);
     if z < 0 { 18446744073709551615 - m } else { m }
 }
 
-// How many bytes a sample takes as text.
-pub fn signed_length(z: i64) -> usize
-    ensures { λ r. ⌜ (r ≡ length (signedDecimal z)) × (r ≤ 21) ⌝ }
+// The bits of sample k.
+pub fn bits_at(samples: &[i64], k: usize) -> u64
+    requires { ⌜ k < length (now samples) ⌝ }
+    ensures { λ r. ⌜ toSigned 8 r ≡ getD (now (samples .entry)) k (pos 0) ⌝ }
 {
-    let m = magnitude(z);
-    if z < 0 {
-        return decimal_length(m + 1) + 1;
-    }
-    decimal_length(m)
+    bits(samples[k])
 }
 
-// A sample as text.
-fn put_signed(out: &mut [u8], at: usize, z: i64) -> usize
-    requires { ⌜ at + length (signedDecimal z) ≤ length (now out) ⌝ }
-    ensures place { λ r. ⌜ r ≡ at + length (signedDecimal z) ⌝ }
-    ensures stored { λ _. ⌜ now (out .exit) ≡ sets (now (out .entry)) at (signedDecimal z) ⌝ }
+// How many bytes the sign of a sample takes as text: x is the sample's bits, here and below.
+fn sign_length(x: u64) -> usize
+    ensures { λ r. ⌜ r ≡ signLength x ⌝ }
 {
-    let m = magnitude(z);
-    if z < 0 {
-        out[at] = b'-';
-        return put_decimal(out, at + 1, m + 1);
+    if x < 9223372036854775808 { 0 } else { 1 }
+}
+
+// A sample without its sign.
+fn absolute(x: u64) -> u64
+    ensures { λ r. ⌜ r ≡ absolute x ⌝ }
+{
+    if x < 9223372036854775808 {
+        x
+    } else {
+        18446744073709551615 - x + 1
     }
-    put_decimal(out, at, m)
+}
+
+// How many bytes a sample takes as text.
+pub fn signed_length(x: u64) -> usize
+    ensures { λ r. ⌜ (r ≡ length (signedDecimal (toSigned 8 x))) × (r ≤ 21) ⌝ }
+{
+    sign_length(x) + decimal_length(absolute(x))
+}
+
+// A sample as text. Where it has no sign, its first digit takes the place of the `-`.
+fn put_signed(out: &mut [u8], at: usize, x: u64) -> usize
+    requires { ⌜ at + length (signedDecimal (toSigned 8 x)) ≤ length (now out) ⌝ }
+    ensures place { λ r. ⌜ r ≡ at + length (signedDecimal (toSigned 8 x)) ⌝ }
+    ensures stored { λ _. ⌜ now (out .exit) ≡ sets (now (out .entry)) at (signedDecimal (toSigned 8 x)) ⌝ }
+{
+    out[at] = b'-';
+    put_decimal(out, at + sign_length(x), absolute(x))
 }
 
 // A sample on a line.
-pub fn put_text_line(out: &mut [u8], at: usize, z: i64) -> usize
-    requires { ⌜ at + length (textLine z) ≤ length (now out) ⌝ }
-    ensures place { λ r. ⌜ r ≡ at + length (textLine z) ⌝ }
-    ensures stored { λ _. ⌜ now (out .exit) ≡ sets (now (out .entry)) at (textLine z) ⌝ }
+pub fn put_text_line(out: &mut [u8], at: usize, x: u64) -> usize
+    requires { ⌜ at + length (textLine (toSigned 8 x)) ≤ length (now out) ⌝ }
+    ensures place { λ r. ⌜ r ≡ at + length (textLine (toSigned 8 x)) ⌝ }
+    ensures stored { λ _. ⌜ now (out .exit) ≡ sets (now (out .entry)) at (textLine (toSigned 8 x)) ⌝ }
 {
-    let end = put_signed(out, at, z);
+    let end = put_signed(out, at, x);
     out[end] = b'\n';
     end + 1
 }
@@ -134,33 +259,28 @@ pub fn put_word(out: &mut [u8], at: usize, x: u64, w: usize, endian: u64) -> usi
     at + w
 }
 
-// A hex digit, lower case.
-fn hex_letter(n: u64) -> u8
+// A hex digit, lower case. There is no branch, so that the compiler makes many digits at once.
+fn hex_letter(n: u8) -> u8
     requires { ⌜ n < 16 ⌝ }
     ensures { λ r. ⌜ r ≡ hexLetter n ⌝ }
 {
-    if n < 10 {
-        (48 + n) as u8
-    } else {
-        (87 + n) as u8
-    }
+    48 + n + 39 * ((n + 6) / 16)
 }
 
-// The same in hex.
-pub fn put_hex_word(out: &mut [u8], at: usize, x: u64, w: usize, endian: u64) -> usize
-    requires { ⌜ at + 2 * w ≤ length (now out) ⌝ }
-    ensures place { λ r. ⌜ r ≡ at + 2 * w ⌝ }
-    ensures stored { λ _. ⌜ now (out .exit) ≡ sets (now (out .entry)) at (flatMap hexOfByte (ordered endian (toBytes w x))) ⌝ }
+// The bytes s in hex.
+pub fn put_hex_bytes(out: &mut [u8], at: usize, s: &[u8]) -> usize
+    requires { ⌜ at + 2 * length (now s) ≤ length (now out) ⌝ }
+    ensures place { λ r. ⌜ r ≡ at + 2 * length (now (s .entry)) ⌝ }
+    ensures stored { λ _. ⌜ now (out .exit) ≡ sets (now (out .entry)) at (hexText (now (s .entry))) ⌝ }
 {
-    let mut y = x;
-    let mut j: usize = 0;
-    while j < w {
-        let i = at + 2 * spot(j, w, endian);
-        let b = y % 256;
-        out[i] = hex_letter(b / 16);
-        out[i + 1] = hex_letter(b % 16);
-        y = y / 256;
-        j += 1;
+    let mut o = at;
+    let mut i: usize = 0;
+    while i < s.len() {
+        let b = s[i];
+        out[o] = hex_letter(b / 16);
+        out[o + 1] = hex_letter(b % 16);
+        o += 2;
+        i += 1;
     }
-    at + 2 * w
+    o
 }

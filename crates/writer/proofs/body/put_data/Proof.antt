@@ -2,23 +2,24 @@
 use borrow.Author.Needs.{needs}
 use Prim.Native.Nat.{ℕ, _+_, _*_}
 use mathlib.Core.Path.{_≡_, sym, ap, _∙_}
-use mathlib.Core.List.{List, _∷_, [], _++_, flatMap}
+use mathlib.Core.List.{List, [], _∷_, _++_, flatMap}
+use native.Mathlib.Nat.{sub-zero}
 use native.Mathlib.Omega.{arith}
 use denote.Ref.{now}
 use lib.ListN.{length, set}
-use lib.Seq.{sets}
+use lib.Seq.{sets, take-length}
 use Rattle.format.specs.Bytes.{LF}
 use Rattle.format.specs.Writer.{hexText}
-use Rattle.writer.specs.Stored.{lowHex}
-use Rattle.writer.proofs.Runs.{sets-then, flat-const}
-use Rattle.writer.proofs.Samples.{raw-is, raw-is-long, text-is, hex-is, hex-is-long, hex-data, hex-size, twice}
+use Rattle.writer.specs.Stored.{lowBytes}
+use Rattle.writer.proofs.Runs.{sets-then}
+use Rattle.writer.proofs.Samples.{raw-is, raw-is-long, text-is, hex-is, hex-is-long, hex-whole, twice}
 use Rattle.writer.proofs.body.put_data.Statement.{statement}
 use Rattle.writer.proofs.body.put_data.Tie as tie
 
 put-sized-requires : tie.Need-put-sized-requires
 put-sized-requires c κs =
     let a = c .before .before .before .args in
-    (c .before .before .before .pre .0 .0, omega (arith, raw-is-long (a .encoding) (a .w) (a .endian) (now (a .samples)) (c .before .if1 .taken), c .before .before .before .pre .1), c .before .before .before .pre .0 .1)
+    (c .before .before .before .pre .0 .0, omega arith, omega arith, omega (arith, raw-is-long (a .encoding) (a .w) (a .endian) (now (a .samples)) (c .before .if1 .taken), ap (λ (k : ℕ). k * a .w) (sub-zero (length (now (a .samples)))), c .before .before .before .pre .1), c .before .before .before .pre .0 .1)
 
 same-length : tie.Need-same-length
 same-length c = search needs
@@ -26,11 +27,10 @@ same-length c = search needs
 returns : tie.Need-returns
 returns c =
     let a = c .before .before .before .before .before .before .args in
+    let zs = now (a .samples) in
     let p = c .before .before .put-sized in
-    let h = c .before .before .before .before .if1 .taken in (
-      omega (arith, p .ensures .0, raw-is-long (a .encoding) (a .w) (a .endian) (now (a .samples)) h),
-      p .ensures .1 ∙ ap (sets (now (a .out)) (a .at)) (c .before .before .before .before .before .before .pre .0 .2 ∙ sym (raw-is (a .encoding) (a .w) (a .endian) (now (a .samples)) h)),
-    )
+    let h = c .before .before .before .before .if1 .taken in
+    (omega (arith, p .ensures .0, raw-is-long (a .encoding) (a .w) (a .endian) zs h, ap (λ (k : ℕ). k * a .w) (sub-zero (length zs))), p .ensures .1 ∙ ap (sets (now (a .out)) (a .at)) (ap (flatMap (lowBytes (a .w) (a .endian))) (take-length zs) ∙ c .before .before .before .before .before .before .pre .0 .2 ∙ sym (raw-is (a .encoding) (a .w) (a .endian) zs h)))
 
 put-text-requires : tie.Need-put-text-requires
 put-text-requires c κs =
@@ -50,7 +50,7 @@ returns-2 c =
 put-hex-requires : tie.Need-put-hex-requires
 put-hex-requires c κs =
     let a = c .before .before .before .before .args in
-    omega (arith, hex-is-long (a .encoding) (a .w) (a .endian) (now (a .samples)) (c .before .before .if1 .left) (c .before .if2 .left), twice (length (now (a .samples))) (a .w), c .before .before .before .before .pre .1)
+    (c .before .before .before .before .pre .0 .0, omega (arith, hex-is-long (a .encoding) (a .w) (a .endian) (now (a .samples)) (c .before .before .if1 .left) (c .before .if2 .left), twice (length (now (a .samples))) (a .w), c .before .before .before .before .pre .1), c .before .before .before .before .pre .0 .1)
 
 slice-write-out : tie.Need-slice-write-out
 slice-write-out c =
@@ -71,15 +71,14 @@ returns-3 : tie.Need-returns-3
 returns-3 c =
     let a = c .before .before .before .before .before .before .before .args in
     let p = c .before .before .put-hex in
-    let s = now (a .samples) in
-    let u = flatMap (lowHex (a .w) (a .endian)) s in
+    let zs = now (a .samples) in
+    let u = hexText (flatMap (lowBytes (a .w) (a .endian)) zs) in
     let n = c .before .before .before .before .before .if1 .left in
     let m = c .before .before .before .before .if2 .left in
-    let l : length u ≡ length s * (2 * a .w) = flat-const (lowHex (a .w) (a .endian)) (2 * a .w) (hex-size (a .w) (a .endian)) s in
-    let e : p .result ≡ a .at + length u = omega (arith, p .ensures .0) in (
-      omega (arith, p .ensures .0, hex-is-long (a .encoding) (a .w) (a .endian) (now (a .samples)) n m, twice (length s) (a .w)),
+    let e : p .result ≡ a .at + length u = omega (arith, p .ensures .0, hex-whole (a .w) (a .endian) zs) in (
+      omega (arith, p .ensures .0, hex-is-long (a .encoding) (a .w) (a .endian) zs n m, twice (length zs) (a .w)),
       ap (λ (d : List ℕ). set d (p .result) LF) (p .ensures .1) ∙ sets-then (now (a .out)) u (LF ∷ []) (a .at) (p .result) e
-          ∙ ap (sets (now (a .out)) (a .at)) (ap (λ (r : List ℕ). r ++ LF ∷ []) (hex-data (a .w) (a .endian) s ∙ ap hexText (c .before .before .before .before .before .before .before .pre .0 .2)) ∙ sym (hex-is (a .encoding) (a .w) (a .endian) (now (a .samples)) n m)),
+          ∙ ap (sets (now (a .out)) (a .at)) (ap (λ (r : List ℕ). hexText r ++ LF ∷ []) (c .before .before .before .before .before .before .before .pre .0 .2) ∙ sym (hex-is (a .encoding) (a .w) (a .endian) zs n m)),
     )
 
 pub put-data-spec : {M : Type 1} → statement M

@@ -1,75 +1,115 @@
--- `writer::body::put_hex` meets its contract: `Putting` of Runs.antt. Assumes nothing.
+-- `writer::body::put_hex` meets its contract: `Putting` of Runs.antt, a part of the samples at a time. Assumes nothing.
 use borrow.Author.Needs.{needs}
-use Prim.Native.Nat.{ℕ, _*_, _-_}
-use mathlib.Core.Path.{_≡_, refl, ap, _∙_}
+use Prim.Native.Nat.{_-_, _≤_}
+use mathlib.Core.Path.{_≡_, refl, sym, ap}
 use mathlib.Core.List.{flatMap}
 use native.Mathlib.Omega.{arith}
 use denote.Ref.{now}
-use lib.ListN.{length, getD}
-use lib.IntN.{pos}
-use Rattle.writer.specs.Stored.{lowHex}
-use Rattle.writer.proofs.Runs.{Putting, putting-none, putting-room, putting-more, putting-done, putting-end, flat-const}
-use Rattle.writer.proofs.Samples.{hex-size}
-use Rattle.writer.proofs.Signs.{read-back}
-use lib.Seq.{sets}
-use Rattle.format.specs.Samples.{toBytes, ordered, fromSigned}
-use Rattle.format.specs.Writer.{hexOfByte}
+use lib.ListN.{length, take, drop}
+use lib.Seq.{slice}
+use Rattle.format.specs.Writer.{hexText}
+use Rattle.writer.specs.Stored.{lowBytes}
+use Rattle.writer.proofs.Runs.{Putting, putting-none, putting-room, putting-more, putting-done, putting-end, flat-over}
+use Rattle.writer.proofs.Samples.{width-bounds, part-room, part-length, hex-parts, hex-length, hex-whole}
+use Rattle.writer.proofs.Whole.{stored-front}
 use Rattle.writer.proofs.body.put_hex.Statement.{statement}
 use Rattle.writer.proofs.body.put_hex.Tie as tie
 
 abbrev Inv-loop : tie.InvT-loop
-Inv-loop out₀ at samples w endian o₀ i₀ out o i = Putting (lowHex w endian) samples (flatMap (lowHex w endian) samples) out₀ at out o i
+Inv-loop out₀ at samples w endian part₀ o₀ i₀ n out part o i = Putting (hexText (flatMap (lowBytes w endian) samples)) out₀ at out o (hexText (flatMap (lowBytes w endian) (drop i samples))) × (i ≤ length samples) × (2048 ≡ length part)
 
 abbrev μ-loop : tie.MeasureT-loop
-μ-loop out₀ at samples w endian o₀ i₀ out o i = length samples - i
+μ-loop out₀ at samples w endian part₀ o₀ i₀ n out part o i = length samples - i
 
 loop-holds : tie.Need-loop-holds Inv-loop μ-loop
 loop-holds c =
     let a = c .before .args in
-    putting-none (lowHex (a .w) (a .endian)) (now (a .samples)) (flatMap (lowHex (a .w) (a .endian)) (now (a .samples))) (now (a .out)) (a .at) refl
+    let run = hexText (flatMap (lowBytes (a .w) (a .endian)) (now (a .samples))) in
+    (putting-none run (now (a .out)) (a .at) run refl, omega arith, refl)
 
-mul-bits : tie.Need-mul-bits Inv-loop μ-loop
-mul-bits c = search needs
+part-end-requires : tie.Need-part-end-requires Inv-loop μ-loop
+part-end-requires c κs = search needs
 
-shared-slice-copy-out-bits : tie.Need-shared-slice-copy-out-bits Inv-loop μ-loop
-shared-slice-copy-out-bits c = search needs
+slice-aggregate-put-sized : tie.Need-slice-aggregate-put-sized Inv-loop μ-loop
+slice-aggregate-put-sized c = c .before .before .before .loop .inv .2
 
-bits-requires : tie.Need-bits-requires Inv-loop μ-loop
-bits-requires c κs = search needs
+put-sized-requires : tie.Need-put-sized-requires Inv-loop μ-loop
+put-sized-requires c κs =
+    let a = c .before .before .before .before .before .args in
+    let i = c .before .before .before .loop .i in
+    let to = c .before .part-end .result in
+    let h = c .before .part-end .ensures in
+    (c .before .before .before .before .before .pre .0, omega arith, h .1, omega (arith, c .before .before .before .loop .inv .2, part-room (a .w) i to (width-bounds (a .w) (c .before .before .before .before .before .pre .0) .1) (h .2)), c .before .before .before .before .before .pre .2)
 
-put-hex-word-requires : tie.Need-put-hex-word-requires Inv-loop μ-loop
-put-hex-word-requires c κs =
-    let a = c .before .before .before .before .before .before .args in
-    let l = c .before .before .before .before .loop in
-    omega (arith, l .inv .long, putting-room (lowHex (a .w) (a .endian)) (now (a .samples)) (flatMap (lowHex (a .w) (a .endian)) (now (a .samples))) (now (a .out)) (a .at) (l .inv) (pos 0) (c .before .before .before .loop-test .taken), hex-size (a .w) (a .endian) (getD (now (a .samples)) (l .i) (pos 0)), flat-const (lowHex (a .w) (a .endian)) (2 * a .w) (hex-size (a .w) (a .endian)) (now (a .samples)))
+array-share-prefix-part : tie.Need-array-share-prefix-part Inv-loop μ-loop
+array-share-prefix-part c =
+    let a = c .before .before .before .before .before .before .before .before .args in
+    let i = c .before .before .before .before .before .before .loop .i in
+    let to = c .before .before .before .before .part-end .result in
+    omega (arith, c .before .before .put-sized .ensures .0, part-room (a .w) i to (width-bounds (a .w) (c .before .before .before .before .before .before .before .before .pre .0) .1) (c .before .before .before .before .part-end .ensures .2))
 
-add-i : tie.Need-add-i Inv-loop μ-loop
-add-i c = search needs
+slice-aggregate-put-hex-bytes : tie.Need-slice-aggregate-put-hex-bytes Inv-loop μ-loop
+slice-aggregate-put-hex-bytes c =
+    let a = c .before .before .before .before .before .before .before .before .before .args in
+    let zs = now (a .samples) in
+    let f = lowBytes (a .w) (a .endian) in
+    let l = c .before .before .before .before .before .before .before .loop in
+    let to = c .before .before .before .before .before .part-end .result in
+    let h = c .before .before .before .before .before .part-end .ensures in
+    let p = c .before .before .before .put-sized in
+    let r : p .result ≡ length (flatMap f (slice (l .i) to zs)) = omega (arith, p .ensures .0, part-length (a .w) (a .endian) (l .i) to zs (h .1)) in
+    let m : p .result ≤ 2048 = omega (arith, p .ensures .0, part-room (a .w) (l .i) to (width-bounds (a .w) (c .before .before .before .before .before .before .before .before .before .pre .0) .1) (h .2)) in
+    let s : take (p .result) (p .last .0) ≡ flatMap f (slice (l .i) to zs) = stored-front (p .last .0) (l .part) (flatMap f (slice (l .i) to zs)) (p .result) (p .ensures .1) r (omega (arith, l .inv .2)) in
+    rw s r
+
+put-hex-bytes-requires : tie.Need-put-hex-bytes-requires Inv-loop μ-loop
+put-hex-bytes-requires c κs =
+    let a = c .before .before .before .before .before .before .before .before .before .args in
+    let zs = now (a .samples) in
+    let f = lowBytes (a .w) (a .endian) in
+    let l = c .before .before .before .before .before .before .before .loop in
+    let to = c .before .before .before .before .before .part-end .result in
+    let h = c .before .before .before .before .before .part-end .ensures in
+    let p = c .before .before .before .put-sized in
+    let r : p .result ≡ length (flatMap f (slice (l .i) to zs)) = omega (arith, p .ensures .0, part-length (a .w) (a .endian) (l .i) to zs (h .1)) in
+    let m : p .result ≤ 2048 = omega (arith, p .ensures .0, part-room (a .w) (l .i) to (width-bounds (a .w) (c .before .before .before .before .before .before .before .before .before .pre .0) .1) (h .2)) in
+    let s : take (p .result) (p .last .0) ≡ flatMap f (slice (l .i) to zs) = stored-front (p .last .0) (l .part) (flatMap f (slice (l .i) to zs)) (p .result) (p .ensures .1) r (omega (arith, l .inv .2)) in
+    let n = putting-room (l .inv .0) (hexText (flatMap f (slice (l .i) to zs))) (hexText (flatMap f (drop to zs))) (hex-parts f zs (l .i) to (omega (arith, h .0)) (h .1)) in
+    rw s (omega (arith, l .inv .0 .long, c .before .before .before .before .before .before .before .before .before .pre .1, n, hex-length (flatMap f (slice (l .i) to zs)), hex-whole (a .w) (a .endian) zs))
 
 loop-less : tie.Need-loop-less Inv-loop μ-loop
-loop-less c = search needs
+loop-less c = omega (arith, c .before .before .before .before .before .before .before .before .part-end .ensures)
 
 loop-again : tie.Need-loop-again Inv-loop μ-loop
 loop-again c =
-    let a = c .before .before .before .before .before .before .before .before .before .args in
-    let l = c .before .before .before .before .before .before .before .loop in
-    let p = c .before .before .put-hex-word in
-    let z = getD (now (a .samples)) (l .i) (pos 0) in
-    let e : c .before .before .before .bits .result ≡ fromSigned 8 z = rw (read-back z (c .before .before .before .before .bits-arg .given)) at (c .before .before .before .bits .ensures) in
-    putting-more (lowHex (a .w) (a .endian)) (now (a .samples)) (flatMap (lowHex (a .w) (a .endian)) (now (a .samples))) (now (a .out)) (a .at) (l .inv) (pos 0) (c .before .before .before .before .before .before .loop-test .taken) _ _
-    (p .ensures .1 ∙ ap (λ (x : ℕ). sets (l .out) (l .o) (flatMap hexOfByte (ordered (a .endian) (toBytes (a .w) x)))) e) (omega (arith, p .ensures .0, hex-size (a .w) (a .endian) z))
+    let a = c .before .before .before .before .before .before .before .before .before .before .before .before .args in
+    let zs = now (a .samples) in
+    let f = lowBytes (a .w) (a .endian) in
+    let l = c .before .before .before .before .before .before .before .before .before .before .loop in
+    let to = c .before .before .before .before .before .before .before .before .part-end .result in
+    let h = c .before .before .before .before .before .before .before .before .part-end .ensures in
+    let p = c .before .before .before .before .before .before .put-sized in
+    let r : p .result ≡ length (flatMap f (slice (l .i) to zs)) = omega (arith, p .ensures .0, part-length (a .w) (a .endian) (l .i) to zs (h .1)) in
+    let m : p .result ≤ 2048 = omega (arith, p .ensures .0, part-room (a .w) (l .i) to (width-bounds (a .w) (c .before .before .before .before .before .before .before .before .before .before .before .before .pre .0) .1) (h .2)) in
+    let s : take (p .result) (p .last .0) ≡ flatMap f (slice (l .i) to zs) = stored-front (p .last .0) (l .part) (flatMap f (slice (l .i) to zs)) (p .result) (p .ensures .1) r (omega (arith, l .inv .2)) in
+    let q = c .before .before .put-hex-bytes in (
+      putting-more (l .inv .0) (hexText (flatMap f (slice (l .i) to zs))) (hexText (flatMap f (drop to zs))) (hex-parts f zs (l .i) to (omega (arith, h .0)) (h .1)) _ _
+          (rw s at (q .ensures .1)) (omega (arith, rw s at (q .ensures .0), hex-length (flatMap f (slice (l .i) to zs)))),
+      h .1,
+      sym (c .before .before .before .before .before .part2 .given),
+    )
 
 same-length : tie.Need-same-length Inv-loop μ-loop
-same-length c = c .before .loop .inv .long
+same-length c = c .before .loop .inv .0 .long
 
 returns : tie.Need-returns Inv-loop μ-loop
+unfolding hexText
 returns c =
     let a = c .before .before .before .args in
-    let p = c .before .loop .inv in
-    let h = c .loop-test .left in (
-      omega (arith, putting-end (lowHex (a .w) (a .endian)) (now (a .samples)) (flatMap (lowHex (a .w) (a .endian)) (now (a .samples))) (now (a .out)) (a .at) p h, flat-const (lowHex (a .w) (a .endian)) (2 * a .w) (hex-size (a .w) (a .endian)) (now (a .samples))),
-      putting-done (lowHex (a .w) (a .endian)) (now (a .samples)) (flatMap (lowHex (a .w) (a .endian)) (now (a .samples))) (now (a .out)) (a .at) p h,
-    )
+    let zs = now (a .samples) in
+    let l = c .before .loop in
+    let e = ap hexText (flat-over (lowBytes (a .w) (a .endian)) zs (l .i) (c .loop-test .left)) in
+    (omega (arith, putting-end (l .inv .0) e, hex-whole (a .w) (a .endian) zs), putting-done (l .inv .0) e)
 
 pub put-hex-spec : {M : Type 1} → statement M
 put-hex-spec =
@@ -78,11 +118,12 @@ put-hex-spec =
     Inv-loop
     μ-loop
     loop-holds
-    mul-bits
-    shared-slice-copy-out-bits
-    bits-requires
-    put-hex-word-requires
-    add-i
+    part-end-requires
+    slice-aggregate-put-sized
+    put-sized-requires
+    array-share-prefix-part
+    slice-aggregate-put-hex-bytes
+    put-hex-bytes-requires
     loop-less
     loop-again
     same-length

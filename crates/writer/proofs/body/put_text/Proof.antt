@@ -1,20 +1,20 @@
 -- `writer::body::put_text` meets its contract: `Putting` of Runs.antt. Assumes nothing.
 use borrow.Author.Needs.{needs}
-use Prim.Native.Nat.{_-_}
+use Prim.Native.Nat.{_+_, _-_, _≤_}
+use mathlib.Core.List.{flatMap}
 use native.Mathlib.Omega.{arith}
 use denote.Ref.{now}
-use lib.ListN.{length, getD}
 use lib.IntN.{pos}
+use lib.ListN.{length, getD, drop}
 use Rattle.format.specs.Writer.{textData}
 use Rattle.writer.specs.Stored.{textLine}
-use Rattle.writer.proofs.Runs.{Putting, putting-none, putting-room, putting-more, putting-done, putting-end}
+use Rattle.writer.proofs.Runs.{Putting, putting-none, putting-room, putting-more, putting-done, putting-end, flat-next, flat-over}
 use Rattle.writer.proofs.Samples.{flat-text}
-use Rattle.writer.proofs.Signs.{read-back}
 use Rattle.writer.proofs.body.put_text.Statement.{statement}
 use Rattle.writer.proofs.body.put_text.Tie as tie
 
 abbrev Inv-loop : tie.InvT-loop
-Inv-loop out₀ at samples o₀ i₀ out o i = Putting textLine samples (textData samples) out₀ at out o i
+Inv-loop out₀ at samples o₀ i₀ out o i = Putting (textData samples) out₀ at out o (flatMap textLine (drop i samples)) × (i ≤ length samples)
 
 abbrev μ-loop : tie.MeasureT-loop
 μ-loop out₀ at samples o₀ i₀ out o i = length samples - i
@@ -22,20 +22,16 @@ abbrev μ-loop : tie.MeasureT-loop
 loop-holds : tie.Need-loop-holds Inv-loop μ-loop
 loop-holds c =
     let a = c .before .args in
-    putting-none textLine (now (a .samples)) (textData (now (a .samples))) (now (a .out)) (a .at) (flat-text (now (a .samples)))
+    (putting-none (textData (now (a .samples))) (now (a .out)) (a .at) (flatMap textLine (now (a .samples))) (flat-text (now (a .samples))), omega arith)
 
-mul-put-text-line : tie.Need-mul-put-text-line Inv-loop μ-loop
-mul-put-text-line c = search needs
-
-shared-slice-copy-out-put-text-line : tie.Need-shared-slice-copy-out-put-text-line Inv-loop μ-loop
-shared-slice-copy-out-put-text-line c = search needs
+bits-at-requires : tie.Need-bits-at-requires Inv-loop μ-loop
+bits-at-requires c κs = search needs
 
 put-text-line-requires : tie.Need-put-text-line-requires Inv-loop μ-loop
 put-text-line-requires c κs =
-    let a = c .before .before .before .before .before .args in
+    let zs = now (c .before .before .before .before .before .args .samples) in
     let l = c .before .before .before .loop in
-    let z = getD (now (a .samples)) (l .i) (pos 0) in
-    rw (read-back z (c .put-text-line-arg2 .given)) (omega (arith, l .inv .long, putting-room textLine (now (a .samples)) (textData (now (a .samples))) (now (a .out)) (a .at) (l .inv) (pos 0) (c .before .before .loop-test .taken)))
+    rw (c .bits-at .ensures) (omega (arith, l .inv .0 .long, c .before .before .before .before .before .pre, putting-room (l .inv .0) (textLine (getD zs (l .i) (pos 0))) (flatMap textLine (drop (l .i + 1) zs)) (flat-next textLine zs (l .i) (pos 0) (c .before .before .loop-test .taken))))
 
 add-i : tie.Need-add-i Inv-loop μ-loop
 add-i c = search needs
@@ -45,20 +41,20 @@ loop-less c = search needs
 
 loop-again : tie.Need-loop-again Inv-loop μ-loop
 loop-again c =
-    let a = c .before .before .before .before .before .before .before .before .args in
+    let zs = now (c .before .before .before .before .before .before .before .before .args .samples) in
     let l = c .before .before .before .before .before .before .loop in
     let p = c .before .before .put-text-line in
-    let q = read-back (getD (now (a .samples)) (l .i) (pos 0)) (c .before .before .before .put-text-line-arg2 .given) in
-    putting-more textLine (now (a .samples)) (textData (now (a .samples))) (now (a .out)) (a .at) (l .inv) (pos 0) (c .before .before .before .before .before .loop-test .taken) _ _ (rw q at (p .ensures .1)) (rw q at (p .ensures .0))
+    let e = c .before .before .before .bits-at .ensures in
+    (putting-more (l .inv .0) (textLine (getD zs (l .i) (pos 0))) (flatMap textLine (drop (l .i + 1) zs)) (flat-next textLine zs (l .i) (pos 0) (c .before .before .before .before .before .loop-test .taken)) _ _ (rw e at (p .ensures .1)) (rw e at (p .ensures .0)), omega arith)
 
 same-length : tie.Need-same-length Inv-loop μ-loop
-same-length c = c .before .loop .inv .long
+same-length c = c .before .loop .inv .0 .long
 
 returns : tie.Need-returns Inv-loop μ-loop
 returns c =
-    let a = c .before .before .before .args in
-    let p = c .before .loop .inv in
-    (putting-end textLine (now (a .samples)) (textData (now (a .samples))) (now (a .out)) (a .at) p (c .loop-test .left), putting-done textLine (now (a .samples)) (textData (now (a .samples))) (now (a .out)) (a .at) p (c .loop-test .left))
+    let l = c .before .loop in
+    let e = flat-over textLine (now (c .before .before .before .args .samples)) (l .i) (c .loop-test .left) in
+    (putting-end (l .inv .0) e, putting-done (l .inv .0) e)
 
 pub put-text-spec : {M : Type 1} → statement M
 put-text-spec =
@@ -67,8 +63,7 @@ put-text-spec =
     Inv-loop
     μ-loop
     loop-holds
-    mul-put-text-line
-    shared-slice-copy-out-put-text-line
+    bits-at-requires
     put-text-line-requires
     add-i
     loop-less

@@ -1,17 +1,15 @@
--- `writer::body::text_length` meets its contract. The loop's invariant: n and the text of the samples from i on are as long as all the text.
--- Assumes nothing.
+-- `writer::body::text_length` meets its contract. The loop's invariant: n and the text of the samples from i on are as long as all the text. Assumes nothing.
 use borrow.Author.Needs.{needs}
 use Prim.Native.Nat.{_+_, _*_, _-_, _≤_}
 use mathlib.Core.Path.{_≡_, ap}
 use mathlib.Core.List.{flatMap}
 use native.Mathlib.Omega.{arith}
 use denote.Ref.{now}
-use lib.ListN.{length, drop, getD}
 use lib.IntN.{pos}
+use lib.ListN.{length, getD, drop}
 use Rattle.writer.specs.Stored.{textLine}
 use Rattle.writer.proofs.Runs.{flat-next-length, flat-over}
 use Rattle.writer.proofs.Samples.{flat-text, line-length}
-use Rattle.writer.proofs.Signs.{read-back}
 use Rattle.writer.proofs.body.text_length.Statement.{statement}
 use Rattle.writer.proofs.body.text_length.Tie as tie
 
@@ -24,11 +22,8 @@ abbrev μ-loop : tie.MeasureT-loop
 loop-holds : tie.Need-loop-holds Inv-loop μ-loop
 loop-holds c = search needs
 
-mul-signed-length : tie.Need-mul-signed-length Inv-loop μ-loop
-mul-signed-length c = search needs
-
-shared-slice-copy-out-signed-length : tie.Need-shared-slice-copy-out-signed-length Inv-loop μ-loop
-shared-slice-copy-out-signed-length c = search needs
+bits-at-requires : tie.Need-bits-at-requires Inv-loop μ-loop
+bits-at-requires c κs = search needs
 
 signed-length-requires : tie.Need-signed-length-requires Inv-loop μ-loop
 signed-length-requires c κs = search needs
@@ -49,9 +44,8 @@ loop-again : tie.Need-loop-again Inv-loop μ-loop
 loop-again c =
     let s = now (c .before .before .before .before .args .samples) in
     let i = c .before .before .before .loop .i in
-    let z = getD s i (pos 0) in
-    let e = rw (read-back z (c .before .signed-length-arg .given)) at (c .signed-length .ensures .0) in
-    omega (arith, e, flat-next-length textLine s i (pos 0) (c .before .before .loop-test .taken), line-length z)
+    let e = rw (c .before .bits-at .ensures) at (c .signed-length .ensures .0) in
+    omega (arith, e, c .signed-length .ensures .1, flat-next-length textLine s i (pos 0) (c .before .before .loop-test .taken), line-length (getD s i (pos 0)))
 
 returns : tie.Need-returns Inv-loop μ-loop
 returns c =
@@ -65,8 +59,7 @@ text-length-spec =
     Inv-loop
     μ-loop
     loop-holds
-    mul-signed-length
-    shared-slice-copy-out-signed-length
+    bits-at-requires
     signed-length-requires
     add-n
     add-n-2

@@ -1,14 +1,12 @@
--- `writer::check::all_in_range` meets its contract. Assumes nothing.
+-- `writer::check::all_in_range` meets its contract. The loop's invariant: what is known so far, and of the samples from i on. Assumes nothing.
 use borrow.Author.Needs.{needs}
 use Prim.Native.Nat.{_-_, _≤_}
-use mathlib.Core.Path.{_≡_, sym, _∙_}
-use mathlib.Core.Bool.{_&&_, and-true}
+use mathlib.Core.Path.{_≡_, refl, sym, ap, _∙_}
+use mathlib.Core.Bool.{Bool, _&&_, and-true}
 use native.Mathlib.Omega.{arith}
 use denote.Ref.{now}
-use lib.ListN.{length, drop, getD}
-use lib.IntN.{pos}
-use Rattle.writer.specs.Stored.{allInRange}
-use Rattle.writer.proofs.Signs.{read-back}
+use lib.ListN.{length, drop}
+use Rattle.writer.specs.Stored.{inRange, allInRange}
 use Rattle.writer.proofs.Refuse.{range-next, range-end}
 use Rattle.writer.proofs.check.all_in_range.Statement.{statement}
 use Rattle.writer.proofs.check.all_in_range.Tie as tie
@@ -20,13 +18,10 @@ abbrev μ-loop : tie.MeasureT-loop
 μ-loop samples low high fine₀ i₀ fine i = length samples - i
 
 loop-holds : tie.Need-loop-holds Inv-loop μ-loop
-loop-holds c = search needs
+loop-holds c = (omega arith, refl)
 
-mul-in-range : tie.Need-mul-in-range Inv-loop μ-loop
-mul-in-range c = search needs
-
-shared-slice-copy-out-in-range : tie.Need-shared-slice-copy-out-in-range Inv-loop μ-loop
-shared-slice-copy-out-in-range c = search needs
+bits-at-requires : tie.Need-bits-at-requires Inv-loop μ-loop
+bits-at-requires c κs = search needs
 
 in-range-requires : tie.Need-in-range-requires Inv-loop μ-loop
 in-range-requires c κs = search needs
@@ -41,15 +36,13 @@ loop-again : tie.Need-loop-again Inv-loop μ-loop
 loop-again c =
     let a = c .before .before .before .before .args in
     let l = c .before .before .before .loop in
-    let z = getD (now (a .samples)) (l .i) (pos 0) in
-    let e = rw (read-back z (c .before .in-range-arg .given)) at (c .in-range .ensures) in
-    (omega arith, range-next (a .low) (a .high) (now (a .samples)) (l .i) (l .fine) (c .in-range .result) (c .before .before .loop-test .taken) e (l .inv .1))
+    (omega arith, range-next (a .low) (a .high) (now (a .samples)) (l .i) (l .fine) (c .in-range .result) (c .before .before .loop-test .taken) (c .in-range .ensures ∙ ap (inRange (a .low) (a .high)) (c .before .bits-at .ensures)) (l .inv .1))
 
 returns : tie.Need-returns Inv-loop μ-loop
 returns c =
     let a = c .before .before .args in
     let l = c .before .loop in
-    sym (l .inv .1 ∙ rw (range-end (a .low) (a .high) (now (a .samples)) (l .i) (c .loop-test .left)) (and-true (l .fine)))
+    sym (l .inv .1 ∙ ap (λ (b : Bool). l .fine && b) (range-end (a .low) (a .high) (now (a .samples)) (l .i) (c .loop-test .left)) ∙ and-true (l .fine))
 
 pub all-in-range-spec : {M : Type 1} → statement M
 all-in-range-spec =
@@ -58,8 +51,7 @@ all-in-range-spec =
     Inv-loop
     μ-loop
     loop-holds
-    mul-in-range
-    shared-slice-copy-out-in-range
+    bits-at-requires
     in-range-requires
     add-i
     loop-less

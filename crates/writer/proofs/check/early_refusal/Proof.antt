@@ -61,7 +61,7 @@ returns-5 c =
     let a = c .before .before .before .before .before .before .before .before .before .before .before .before .before .args in
     let i = c .before .before .before .before .before .before .before .before .before .before .before .is-writable in
     let y = not-false (i .result) (c .before .before .before .before .before .before .before .before .before .before .if1 .left) in
-    (early-20 (a .version) (now (a .sizes)) (a .sampletype) (a .encoding) (a .endian) (now (a .samples)) (sym (i .ensures .0) ∙ y) (i .ensures .1 y) (c .before .before .before .before .before .before .before .before .before .product .result) (c .before .before .before .before .before .before .before .before .width-of .result) (c .before .before .before .before .before .before .before .times .result) (c .before .before .before .before .before .before .before .before .before .product .ensures) (c .before .before .before .before .before .before .before .before .width-of .ensures .0) (c .before .before .before .before .before .before .before .times .ensures) (c .before .before .before .before .before .before .if2 .left) (c .before .before .before .before .before .if3 .left) (c .before .before .before .before .if4 .left) (c .before .before .before .lowest-of .result) (c .before .before .highest-of .result) (c .before .before .before .lowest-of .ensures) (c .before .before .highest-of .ensures) (c .before .all-in-range .result) (c .before .all-in-range .ensures) (not-true (c .before .all-in-range .result) (c .if5 .taken)), λ q. absurd (omega arith))
+    (early-20 (a .version) (now (a .sizes)) (a .sampletype) (a .encoding) (a .endian) (now (a .samples)) (sym (i .ensures .0) ∙ y) (i .ensures .1 y) (c .before .before .before .before .before .before .before .before .before .product .result) (c .before .before .before .before .before .before .before .before .width-of .result) (c .before .before .before .before .before .before .before .times .result) (c .before .before .before .before .before .before .before .before .before .product .ensures) (c .before .before .before .before .before .before .before .before .width-of .ensures .0) (c .before .before .before .before .before .before .before .times .ensures) (c .before .before .before .before .before .before .if2 .left) (c .before .before .before .before .before .if3 .left) (c .before .before .before .before .if4 .left) (c .before .before .before .lowest-of .result) (c .before .before .highest-of .result) (c .before .before .before .lowest-of .ensures .0) (c .before .before .highest-of .ensures .0) (c .before .all-in-range .result) (c .before .all-in-range .ensures) (not-true (c .before .all-in-range .result) (c .if5 .taken)), λ q. absurd (omega arith))
 
 returns-6 : tie.Need-returns-6
 returns-6 c =
@@ -69,7 +69,7 @@ returns-6 c =
     let i = c .before .before .before .before .before .before .before .before .before .before .before .is-writable in
     let y = not-false (i .result) (c .before .before .before .before .before .before .before .before .before .before .if1 .left) in
     let q = not-false (c .before .all-in-range .result) (c .if5 .left) in
-    (early-0 (a .version) (now (a .sizes)) (a .sampletype) (a .encoding) (a .endian) (now (a .samples)) (sym (i .ensures .0) ∙ y) (i .ensures .1 y) (c .before .before .before .before .before .before .before .before .before .product .result) (c .before .before .before .before .before .before .before .before .width-of .result) (c .before .before .before .before .before .before .before .times .result) (c .before .before .before .before .before .before .before .before .before .product .ensures) (c .before .before .before .before .before .before .before .before .width-of .ensures .0) (c .before .before .before .before .before .before .before .times .ensures) (c .before .before .before .before .before .before .if2 .left) (c .before .before .before .before .before .if3 .left) (c .before .before .before .before .if4 .left) (c .before .before .before .lowest-of .result) (c .before .before .highest-of .result) (c .before .before .before .lowest-of .ensures) (c .before .before .highest-of .ensures) (c .before .all-in-range .result) (c .before .all-in-range .ensures) q, λ e. ready (a .version) (now (a .sizes)) (a .sampletype) (a .encoding) (a .endian) (now (a .samples)) (sym (i .ensures .0) ∙ y) (i .ensures .1 y) (c .before .before .before .before .before .before .before .before .before .product .result) (c .before .before .before .before .before .before .before .before .width-of .result) (c .before .before .before .before .before .before .before .times .result) (c .before .before .before .before .before .before .before .before .before .product .ensures) (c .before .before .before .before .before .before .before .before .width-of .ensures .0) (c .before .before .before .before .before .before .before .times .ensures) (c .before .before .before .before .before .before .if2 .left) (c .before .before .before .before .before .if3 .left) (c .before .before .before .before .if4 .left) (c .before .before .before .lowest-of .result) (c .before .before .highest-of .result) (c .before .before .before .lowest-of .ensures) (c .before .before .highest-of .ensures) (c .before .all-in-range .result) (c .before .all-in-range .ensures) q)
+    (early-0 (a .version) (now (a .sizes)) (a .sampletype) (a .encoding) (a .endian) (now (a .samples)) (sym (i .ensures .0) ∙ y) (i .ensures .1 y) (c .before .before .before .before .before .before .before .before .before .product .result) (c .before .before .before .before .before .before .before .before .width-of .result) (c .before .before .before .before .before .before .before .times .result) (c .before .before .before .before .before .before .before .before .before .product .ensures) (c .before .before .before .before .before .before .before .before .width-of .ensures .0) (c .before .before .before .before .before .before .before .times .ensures) (c .before .before .before .before .before .before .if2 .left) (c .before .before .before .before .before .if3 .left) (c .before .before .before .before .if4 .left) (c .before .before .before .lowest-of .result) (c .before .before .highest-of .result) (c .before .before .before .lowest-of .ensures .0) (c .before .before .highest-of .ensures .0) (c .before .all-in-range .result) (c .before .all-in-range .ensures) q, λ e. ready (a .version) (now (a .sizes)) (a .sampletype) (a .encoding) (a .endian) (now (a .samples)) (sym (i .ensures .0) ∙ y) (i .ensures .1 y) (c .before .before .before .before .before .before .before .before .before .product .result) (c .before .before .before .before .before .before .before .before .width-of .result) (c .before .before .before .before .before .before .before .times .result) (c .before .before .before .before .before .before .before .before .before .product .ensures) (c .before .before .before .before .before .before .before .before .width-of .ensures .0) (c .before .before .before .before .before .before .before .times .ensures) (c .before .before .before .before .before .before .if2 .left) (c .before .before .before .before .before .if3 .left) (c .before .before .before .before .if4 .left) (c .before .before .before .lowest-of .result) (c .before .before .highest-of .result) (c .before .before .before .lowest-of .ensures .0) (c .before .before .highest-of .ensures .0) (c .before .all-in-range .result) (c .before .all-in-range .ensures) q)
 
 pub early-refusal-spec : {M : Type 1} → statement M
 early-refusal-spec =

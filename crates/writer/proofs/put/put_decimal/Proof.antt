@@ -1,100 +1,55 @@
--- `writer::put::put_decimal` meets its contract. The loop's invariant: the digits of m are left to store, the last of them at j. Assumes nothing.
+-- `writer::put::put_decimal` meets its contract: `decimal-stored` of Digits.antt. Assumes nothing.
 use borrow.Author.Needs.{needs}
-use Prim.Native.Nat.{_+_, _/_, _%_, _<_}
-use mathlib.Core.Path.{_≡_, refl, sym, _∙_}
+use Prim.Native.Nat.{ℕ, _+_, _%_, _^_}
+use mathlib.Core.Path.{_≡_, ap, _∙_}
+use mathlib.Core.List.{List}
 use native.Mathlib.Omega.{arith}
-use lib.ListN.{length, length-set}
+use denote.Ref.{now}
+use lib.ListN.{length}
 use lib.Seq.{sets}
+use Rattle.writer.specs.Stored.{digits}
 use Rattle.format.specs.Writer.{decimal}
-use Rattle.writer.proofs.Digits.{length-more, digit-turn, digit-last}
-use Rattle.format.proofs.Writer.{decimal-not-empty}
+use Rattle.writer.proofs.Digits.{decimal-long, decimal-stored, at-most-20}
 use Rattle.writer.proofs.put.put_decimal.Statement.{statement}
 use Rattle.writer.proofs.put.put_decimal.Tie as tie
 
-abbrev Inv-loop : tie.InvT-loop
-Inv-loop out₀ at n end m₀ j₀ out m j = (j + 1 ≡ at + length (decimal m)) × (j < end) × (length out ≡ length out₀) × (sets out₀ at (decimal n) ≡ sets out at (decimal m))
+put-to-8-requires : tie.Need-put-to-8-requires
+put-to-8-requires c κs = search needs
 
-abbrev μ-loop : tie.MeasureT-loop
-μ-loop out₀ at n end m₀ j₀ out m j = m
-
-decimal-length-requires : tie.Need-decimal-length-requires Inv-loop μ-loop
-decimal-length-requires c κs = search needs
-
-add-end : tie.Need-add-end Inv-loop μ-loop
-add-end c = search needs
-
-sub-j : tie.Need-sub-j Inv-loop μ-loop
-sub-j c = search needs
-
-loop-holds : tie.Need-loop-holds Inv-loop μ-loop
-loop-holds c = (omega arith, omega arith, refl, refl)
-
-add-out : tie.Need-add-out Inv-loop μ-loop
-add-out c = search needs
-
-cast-out : tie.Need-cast-out Inv-loop μ-loop
-cast-out c = search needs
-
-slice-write-out : tie.Need-slice-write-out Inv-loop μ-loop
-slice-write-out c = search needs
-
-sub-j-2 : tie.Need-sub-j-2 Inv-loop μ-loop
-sub-j-2 c =
-    let m = c .before .loop .m in
-    omega (arith, length-more m (c .loop-test .taken), decimal-not-empty (m / 10))
-
-loop-less : tie.Need-loop-less Inv-loop μ-loop
-loop-less c = search needs
-
-loop-again : tie.Need-loop-again Inv-loop μ-loop
-loop-again c =
-    let a = c .before .before .before .before .args in
-    let l = c .before .loop in
-    let h = c .loop-test .taken in (
-      omega (arith, length-more (l .m) h, decimal-not-empty (l .m / 10)),
-      omega arith,
-      simp length-set (l .inv .2),
-      l .inv .3 ∙ digit-turn (l .out) (a .at) (l .m) (l .j) (48 + l .m % 10) h (l .inv .0) refl,
-    )
-
-add-out-2 : tie.Need-add-out-2 Inv-loop μ-loop
-add-out-2 c = search needs
-
-cast-out-2 : tie.Need-cast-out-2 Inv-loop μ-loop
-cast-out-2 c = search needs
-
-slice-write-out-2 : tie.Need-slice-write-out-2 Inv-loop μ-loop
-slice-write-out-2 c = search needs
-
-same-length : tie.Need-same-length Inv-loop μ-loop
+same-length : tie.Need-same-length
 same-length c = search needs
 
-returns : tie.Need-returns Inv-loop μ-loop
-returns c =
-    let a = c .before .before .before .before .args in
-    let l = c .before .loop in (
-      omega arith,
-      sym (l .inv .3 ∙ digit-last (l .out) (a .at) (l .m) (l .j) (48 + l .m) (c .loop-test .left) (l .inv .0) refl),
-    )
+returns : tie.Need-returns
+returns c = ((c .before .before .put-to-8 .ensures .0, omega (arith, c .before .before .put-to-8 .ensures .0, at-most-20 (c .before .before .before .before .before .before .args .n) (c .before .before .before .before .before .before .fits .n .fits))), c .before .before .put-to-8 .ensures .1)
+
+put-to-12-requires : tie.Need-put-to-12-requires
+put-to-12-requires c κs = omega (arith, c .before .before .before .pre, decimal-long 8 (c .before .before .before .args .n) (c .before .if1 .left))
+
+put-eight-requires : tie.Need-put-eight-requires
+put-eight-requires c κs =
+    let p = c .before .before .before .put-to-12 in
+    (omega arith, omega (arith, c .before .before .before .before .before .before .before .pre, p .ensures .0, p .kept .0, decimal-long 8 (c .before .before .before .before .before .before .before .args .n) (c .before .before .before .before .before .if1 .left)))
+
+same-length-2 : tie.Need-same-length-2
+same-length-2 c = search needs
+
+returns-2 : tie.Need-returns-2
+returns-2 c =
+    let a = c .before .before .before .before .before .before .before .before .before .before .args in
+    let p = c .before .before .before .before .before .before .put-to-12 in
+    let q = c .before .before .put-eight in
+    let h = c .before .before .before .before .before .before .before .before .if1 .left in
+    let r : q .result ≡ a .at + length (decimal (a .n)) = omega (arith, p .ensures .0, q .ensures .0, decimal-long 8 (a .n) h) in
+    ((r, omega (arith, at-most-20 (a .n) (c .before .before .before .before .before .before .before .before .before .before .fits .n .fits))), q .ensures .1 ∙ ap (λ (d : List ℕ). sets d (p .result) (digits 8 (a .n % 10 ^ 8))) (p .ensures .1) ∙ decimal-stored 8 (a .n) (now (a .out)) (a .at) (p .result) h (p .ensures .0))
 
 pub put-decimal-spec : {M : Type 1} → statement M
 put-decimal-spec =
     tie.close
     (tie.spec
-    Inv-loop
-    μ-loop
-    decimal-length-requires
-    add-end
-    sub-j
-    loop-holds
-    add-out
-    cast-out
-    slice-write-out
-    sub-j-2
-    loop-less
-    loop-again
-    add-out-2
-    cast-out-2
-    slice-write-out-2
+    put-to-8-requires
     same-length
-    returns)
+    returns
+    put-to-12-requires
+    put-eight-requires
+    same-length-2
+    returns-2)

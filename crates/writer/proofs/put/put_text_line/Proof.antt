@@ -1,31 +1,26 @@
 -- `writer::put::put_text_line` meets its contract. Assumes nothing.
 use borrow.Author.Needs.{needs}
-use native.Mathlib.Omega.{arith}
+use Prim.Native.Nat.{ℕ}
 use mathlib.Core.Path.{ap, _∙_}
-use mathlib.Core.List.{_∷_, [], List}
+use mathlib.Core.List.{List, [], _∷_}
+use native.Mathlib.Omega.{arith}
 use denote.Ref.{now}
 use lib.ListN.{set}
-use mir.Syntax.{w64}
-use mir.Facts.{toZ-ofZ}
+use Rattle.format.specs.Samples.{toSigned}
 use Rattle.format.specs.Writer.{signedDecimal}
 use Rattle.writer.proofs.Runs.{sets-then}
 use Rattle.writer.proofs.Samples.{line-length}
-use Prim.Native.Nat.{ℕ}
 use Rattle.writer.proofs.put.put_text_line.Statement.{statement}
 use Rattle.writer.proofs.put.put_text_line.Tie as tie
 
 put-signed-requires : tie.Need-put-signed-requires
-put-signed-requires c κs = rw (toZ-ofZ {w = w64} (c .before .before .fits .z)) (omega (arith, line-length (c .before .before .args .z)))
+put-signed-requires c κs = omega (arith, c .before .before .pre, line-length (toSigned 8 (c .before .before .args .x)))
 
 slice-write-out : tie.Need-slice-write-out
-slice-write-out c =
-    let e = rw (toZ-ofZ {w = w64} (c .before .before .before .before .before .fits .z)) at (c .before .before .put-signed .ensures .0) in
-    omega (arith, e, c .before .before .put-signed .kept .0, line-length (c .before .before .before .before .before .args .z))
+slice-write-out c = omega (arith, c .before .before .before .before .before .pre, c .before .before .put-signed .ensures .0, c .before .before .put-signed .kept .0, line-length (toSigned 8 (c .before .before .before .before .before .args .x)))
 
 add-result : tie.Need-add-result
-add-result c =
-    let e = rw (toZ-ofZ {w = w64} (c .before .before .before .before .before .fits .z)) at (c .before .before .put-signed .ensures .0) in
-    omega (arith, e, line-length (c .before .before .before .before .before .args .z))
+add-result c = omega (arith, c .before .before .before .before .before .pre, c .before .before .put-signed .ensures .0, line-length (toSigned 8 (c .before .before .before .before .before .args .x)))
 
 same-length : tie.Need-same-length
 same-length c = search needs
@@ -34,12 +29,7 @@ returns : tie.Need-returns
 returns c =
     let a = c .before .before .before .before .before .args in
     let p = c .before .before .put-signed in
-    let q = toZ-ofZ {w = w64} (c .before .before .before .before .before .fits .z) in
-    let e = rw q at (p .ensures .0) in
-    let s = rw q at (p .ensures .1) in (
-      omega (arith, e, line-length (a .z)),
-      ap (λ (d : List ℕ). set d (p .result) 10) s ∙ sets-then (now (a .out)) (signedDecimal (a .z)) (10 ∷ []) (a .at) (p .result) e,
-    )
+    (omega (arith, p .ensures .0, line-length (toSigned 8 (a .x))), ap (λ (d : List ℕ). set d (p .result) 10) (p .ensures .1) ∙ sets-then (now (a .out)) (signedDecimal (toSigned 8 (a .x))) (10 ∷ []) (a .at) (p .result) (p .ensures .0))
 
 pub put-text-line-spec : {M : Type 1} → statement M
 put-text-line-spec =

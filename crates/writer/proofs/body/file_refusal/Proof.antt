@@ -1,0 +1,46 @@
+-- `writer::body::file_refusal` meets its contract. Assumes nothing.
+use borrow.Author.Needs.{needs}
+use Prim.Native.Nat.{ℕ, _+_, _*_}
+use mathlib.Core.Path.{ap, _∙_}
+use native.Mathlib.Omega.{arith}
+use denote.Ref.{now}
+use lib.ListN.{length}
+use Rattle.format.specs.Writer.{dataBytes}
+use Rattle.writer.specs.Stored.{lateRefusal}
+use Rattle.writer.proofs.Samples.{text-is}
+use Rattle.writer.proofs.Whole.{late-less}
+use Rattle.writer.proofs.body.file_refusal.Statement.{statement}
+use Rattle.writer.proofs.body.file_refusal.Tie as tie
+
+any-text-fits-requires : tie.Need-any-text-fits-requires
+any-text-fits-requires c κs = search needs
+
+returns : tie.Need-returns
+returns c =
+    let a = c .before .before .args in
+    let zs = now (a .samples) in
+    let p = c .before .any-text-fits .ensures (c .if1 .taken) in
+    λ n. late-less (a .start + length (dataBytes (a .encoding) (a .w) n zs)) (a .start + 22 * length zs) (a .room) (omega (arith, ap length (text-is (a .encoding) (a .w) n zs (p .0)), c .before .before .pre .1)) (p .1)
+
+data-length-requires : tie.Need-data-length-requires
+data-length-requires c κs = search needs
+
+add-late-refusal : tie.Need-add-late-refusal
+add-late-refusal c = search needs
+
+late-refusal-requires : tie.Need-late-refusal-requires
+late-refusal-requires c κs = search needs
+
+returns-2 : tie.Need-returns-2
+returns-2 c = λ n. c .late-refusal .ensures ∙ ap (λ (k : ℕ). lateRefusal (c .before .before .before .before .args .start + k) (c .before .before .before .before .args .room)) (c .before .data-length .ensures .0 n)
+
+pub file-refusal-spec : {M : Type 1} → statement M
+file-refusal-spec =
+    tie.close
+    (tie.spec
+    any-text-fits-requires
+    returns
+    data-length-requires
+    add-late-refusal
+    late-refusal-requires
+    returns-2)
