@@ -44,10 +44,8 @@ static void make_samples(bench *b)
         x ^= x << 13;
         x ^= x >> 7;
         x ^= x << 17;
-        int shift = 64 - 8 * b->w + (int)(x >> 8) % (8 * b->w);
-        b->peer[k] = b->is_signed ? (int64_t)x >> shift : (int64_t)((x >> 1) >> (shift > 0 ? shift - 1 : 0));
-        if (!b->is_signed)
-            b->peer[k] &= b->w == 8 ? INT64_MAX : (INT64_C(1) << 8 * b->w) - 1;
+        unsigned shift = 64 - 8 * (unsigned)b->w + (unsigned)((x >> 8) % (8 * (unsigned)b->w));
+        b->peer[k] = b->is_signed ? (int64_t)x >> shift : (int64_t)(x >> (shift == 0 ? 1 : shift));
     }
 }
 

@@ -36,7 +36,6 @@ use frames::parts::run_at;
 use frames::parts::run_end;
 use frames::parts::same_refusal;
 use frames::report::MALFORMED;
-use frames::report::Tally;
 
 // What the entries of a list are before the call.
 const UNTOUCHED_SAMPLE: i64 = -6510615555426900571;
@@ -318,57 +317,9 @@ fn next_fault() -> u32 {
     fault_in(&buffer, n)
 }
 
-// Runs the next cases of the input, so many.
-fn run_cases(count: u32) -> Tally {
-    let mut right: u64 = 0;
-    let mut n: u32 = 0;
-    while n < count {
-        let fault = next_fault();
-        if fault == MALFORMED {
-            return Tally {
-                fits: false,
-                right: right,
-            };
-        }
-        n += 1;
-        frames::report::tell(n, fault);
-        right += frames::report::score(fault);
-    }
-    Tally {
-        fits: true,
-        right: right,
-    }
-}
-
-// Runs the next group of the input; whether it fits the frame.
-fn run_group() -> bool {
-    let n = frames::input::next_number() as usize;
-    let mut name = [0u8; 256];
-    if !frames::input::fill(&mut name, n) {
-        return false;
-    }
-    let count = frames::input::next_number();
-    let tally = run_cases(count);
-    if tally.fits {
-        frames::report::tell_group(&name, n, tally.right, count);
-    }
-    tally.fits
-}
-
-// Runs the groups of the input; whether it fits the frame.
-fn run_groups() -> bool {
-    let mut left = frames::input::next_number();
-    while 0 < left {
-        if !run_group() {
-            return false;
-        }
-        left -= 1;
-    }
-    frames::input::ended()
-}
-
 fn main() {
-    if !run_groups() {
-        frames::report::tell_malformed();
+    let mut walk = frames::walk::start();
+    while 0 < walk.left {
+        walk = frames::walk::next(walk, next_fault());
     }
 }

@@ -1,6 +1,7 @@
 // The parts of a frame: numbers, runs and texts at a place. Past the end a number is 0 and a run is empty.
 use format::Refusal;
-ghost use Prim.Native.Nat.{_<_};
+ghost use Prim.Native.Nat.{_<_, _-_};
+ghost use mathlib.Core.Path.{_≡_};
 
 fn wide(b: u8) -> u32
     ensures { λ r. ⌜ r < 256 ⌝ }
@@ -48,17 +49,19 @@ pub fn run_end(s: &[u8], at: usize) -> usize {
     plus(plus(at, 4), number_at(s, at) as usize)
 }
 
-// One less, 0 of 0.
-fn less_one(n: u32) -> u32 {
-    if n == 0 {
+// The difference, 0 where b is the larger.
+pub fn less(a: u32, b: u32) -> u32
+    ensures { λ r. ⌜ r ≡ a - b ⌝ }
+{
+    if a < b {
         return 0;
     }
-    n - 1
+    a - b
 }
 
 // The bytes of the text at `at`, none where it is absent.
 pub fn text_at<'a>(s: &'a [u8], at: usize) -> &'a [u8] {
-    part(s, plus(at, 4), less_one(number_at(s, at)) as usize)
+    part(s, plus(at, 4), less(number_at(s, at), 1) as usize)
 }
 
 // Whether the text at `at` is there.
@@ -68,7 +71,7 @@ pub fn text_given(s: &[u8], at: usize) -> bool {
 
 // Where the text at `at` ends.
 pub fn text_end(s: &[u8], at: usize) -> usize {
-    plus(plus(at, 4), less_one(number_at(s, at)) as usize)
+    plus(plus(at, 4), less(number_at(s, at), 1) as usize)
 }
 
 // The refusal at `at`: its number and its line.

@@ -1,20 +1,11 @@
 // What is counted and printed of cases and groups.
 use libc::STDOUT_FILENO;
-ghost use Prim.Native.Nat.{_≤_};
 
 // The number of a case whose bytes do not fit the frame.
 pub const MALFORMED: u32 = 9;
 
-// Whether the cases fit the frame, and how many are right.
-pub struct Tally {
-    pub fits: bool,
-    pub right: u64,
-}
-
 // What a case adds to the count; `fault` is the part that is wrong, 0 for none.
-pub fn score(fault: u32) -> u64
-    ensures { λ r. ⌜ r ≤ 1 ⌝ }
-{
+pub fn score(fault: u32) -> usize {
     if fault == 0 {
         return 1;
     }

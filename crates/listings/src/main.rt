@@ -1,0 +1,86 @@
+// Runs the cases of standard input through the listing of a file. The frame and what is printed are those of crate `frames`.
+//
+// A case has at most 147,456 bytes:
+//   0    the room: how many bytes of the buffer are lent, at most 70,144
+//   4    the number and the line of the refusal by the call itself, both 0 where it accepts; a file that is refused is listed as such
+//   12   a run, the file; a run, its listing, empty with a refusal
+//
+// The buffer is filled before the call; every byte past the listing must still be so, those past the room as well.
+//
+// The parts of a case: 1 the answer, 2 the buffer.
+// Where the input does not fit the frame the run ends with the line `malformed`.
+use format::WriteAnswer;
+use frames::parts::number_at;
+use frames::parts::part;
+use frames::parts::refusal_at;
+use frames::parts::run_at;
+use frames::parts::run_end;
+use frames::parts::same_refusal;
+use frames::report::MALFORMED;
+
+// What the bytes of the buffer are before the call.
+const UNTOUCHED: u8 = 165;
+
+// The answer where the first `room` bytes of the buffer are lent, all where it has fewer.
+fn list_to(file: &[u8], out: &mut [u8], room: usize) -> WriteAnswer {
+    if room < out.len() {
+        return describe::listing(file, &mut out[0..room]);
+    }
+    describe::listing(file, out)
+}
+
+// The bytes from `from` on, none where that is past the end.
+fn rest(s: &[u8], from: usize) -> &[u8] {
+    if s.len() < from {
+        return &s[..0];
+    }
+    &s[from..]
+}
+
+// Whether the bytes of the buffer are the text and then as they were before the call.
+fn holds(out: &[u8; 70144], text: &[u8]) -> bool {
+    let before = [UNTOUCHED; 70144];
+    let n = text.len();
+    check::same(part(out, 0, n), text) & check::same(rest(out, n), rest(&before, n))
+}
+
+// The part of a case that is wrong, 0 for none.
+fn case_fault(s: &[u8]) -> u32 {
+    let at = run_end(s, 12);
+    let text = run_at(s, at);
+    if run_end(s, at) != s.len() {
+        return MALFORMED;
+    }
+    let mut out = [UNTOUCHED; 70144];
+    let answer = list_to(run_at(s, 12), &mut out, number_at(s, 0) as usize);
+    let told = answer.refusal;
+    if !same_refusal(told, refusal_at(s, 4)) | (answer.length != text.len() as u64) {
+        return 1;
+    }
+    if !holds(&out, text) {
+        return 2;
+    }
+    0
+}
+
+// The part that is wrong of the case in the first `n` bytes.
+fn fault_in(buffer: &[u8; 147456], n: usize) -> u32 {
+    case_fault(part(buffer, 0, n))
+}
+
+// The part that is wrong of the next case of the input.
+fn next_fault() -> u32 {
+    let n = frames::input::next_number() as usize;
+    let mut buffer = [0u8; 147456];
+    if !frames::input::fill(&mut buffer, n) {
+        return MALFORMED;
+    }
+    fault_in(&buffer, n)
+}
+
+fn main() {
+    let mut walk = frames::walk::start();
+    while 0 < walk.left {
+        walk = frames::walk::next(walk, next_fault());
+    }
+}
