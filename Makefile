@@ -36,17 +36,19 @@ list: $(LISTING)
 
 # ---- Tests from C
 
-$(BUILD)/vectors: tests/vectors.c include/craneholt.h $(ARCHIVE)
-	@mkdir -p $(BUILD)
-	$(CC) $(STRICT) $(SANITIZE) -Iinclude tests/vectors.c $(ARCHIVE) -o $@
+TESTS = include/craneholt.h tests/calls.h tests/model.h tests/generate.h tests/json.h $(ARCHIVE)
 
-$(BUILD)/random: tests/random.c tests/model.c tests/model.h include/craneholt.h $(ARCHIVE)
+$(BUILD)/vectors: tests/vectors.c tests/json.c $(TESTS)
 	@mkdir -p $(BUILD)
-	$(CC) $(STRICT) $(SANITIZE) -Iinclude -Itests tests/random.c tests/model.c $(ARCHIVE) -o $@
+	$(CC) $(STRICT) $(SANITIZE) -Iinclude tests/vectors.c tests/json.c $(ARCHIVE) -o $@
 
-$(BUILD)/tokens: tests/tokens.c include/craneholt.h $(ARCHIVE)
+$(BUILD)/random: tests/random.c tests/generate.c tests/model.c $(TESTS)
 	@mkdir -p $(BUILD)
-	$(CC) $(STRICT) $(CFLAGS) -Iinclude tests/tokens.c $(ARCHIVE) -o $@
+	$(CC) $(STRICT) $(SANITIZE) -Iinclude tests/random.c tests/generate.c tests/model.c $(ARCHIVE) -o $@
+
+$(BUILD)/tokens: tests/tokens.c $(TESTS)
+	@mkdir -p $(BUILD)
+	$(CC) $(STRICT) $(CFLAGS) -pthread -Iinclude tests/tokens.c $(ARCHIVE) -o $@
 
 $(BUILD)/%: examples/%.c examples/files.h include/craneholt.h $(ARCHIVE)
 	@mkdir -p $(BUILD)

@@ -5,7 +5,7 @@ use native.Mathlib.Nat.{suc-mul, mod-lt, mod-eq-of-lt, add-mod-right, le-trans}
 use native.Mathlib.Numerals.{add-one}
 use native.Mathlib.Omega.{arith}
 use mathlib.Core.Path.{_≡_, refl, sym, ap, _∙_}
-use mathlib.Core.Bool.{Bool, true, false, _||_, false≢true}
+use mathlib.Core.Bool.{Bool, true, false, _&&_, _||_, false≢true}
 use mathlib.Core.List.{List, reverse, reverse-append}
 use mathlib.Core.Logic.{inl, inr, ⊎-elim}
 use lib.Dec.{eqb, ltb, leb, lit≤}
@@ -252,32 +252,36 @@ module _ (k : NumberKind) (w e n : ℕ) (s : List ℕ) where
 
   -- ---- a test of each
 
-  pub record Testing (at j : ℕ) : Type 0 where
+  -- the samples before j are fine, or one of them is not
+  pub record Testing (fine : Bool) (at j : ℕ) : Type 0 where
     pub few : j ≤ n
     pub room : at + (n - j) * w ≤ length s
-    pub same : rawSamples k w e n s .number ≡ left at j .number
+    pub same : rawSamples k w e n s .number ≡ (if fine then left at j .number else 20)
 
-  pub testing-none : n * w ≤ length s → Testing 0 0
+  pub testing-none : n * w ≤ length s → Testing true 0 0
   testing-none h = record { few = omega arith; room = room-first h; same = ap (λ (d : Decoded). d .number) all-left }
 
-  module _ {at j : ℕ} (t : Testing at j) where
+  module _ {at j : ℕ} where
     module _ (h : j < n) where
-      pub testing-room : at + w ≤ length s
-      testing-room = omega (arith, stepped at j h (t .room))
+      pub testing-room : {fine : Bool} → Testing fine at j → at + w ≤ length s
+      testing-room t = omega (arith, stepped at j h (t .room))
 
-      pub testing-more : inType k w (sampleOf at) ≡ true → Testing (at + w) (j + 1)
-      testing-more b = record {
+      pub testing-more : (fine b : Bool) → Testing fine at j → inType k w (sampleOf at) ≡ b → Testing (fine && b) (at + w) (j + 1)
+      testing-more true true t q = record {
         few = omega arith;
         room = stepped at j h (t .room);
-        same = t .same ∙ ap (λ (d : Decoded). d .number) (step at j h) ∙ rw b;
+        same = t .same ∙ ap (λ (d : Decoded). d .number) (step at j h) ∙ rw q;
       }
+      testing-more true false t q = record {
+        few = omega arith;
+        room = stepped at j h (t .room);
+        same = t .same ∙ ap (λ (d : Decoded). d .number) (step at j h) ∙ rw q;
+      }
+      testing-more false b t q = record { few = omega arith; room = stepped at j h (t .room); same = t .same }
 
-      pub testing-bad : inType k w (sampleOf at) ≡ false → rawSamples k w e n s .number ≡ 20
-      testing-bad b = t .same ∙ ap (λ (d : Decoded). d .number) (step at j h) ∙ rw b
-
-    pub testing-done : n ≤ j → rawSamples k w e n s .number ≡ 0
+    pub testing-done : n ≤ j → Testing true at j → rawSamples k w e n s .number ≡ 0
     unfolding rawSamples
-    testing-done h = t .same ∙ ap (λ (d : Decoded). d .number) (none-left at j h)
+    testing-done h t = t .same ∙ ap (λ (d : Decoded). d .number) (none-left at j h)
 
   -- ---- a list that is filled
 

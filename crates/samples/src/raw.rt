@@ -161,21 +161,20 @@ pub fn raw_sample(s: &[u8], at: usize, w: usize, signed: bool, big: bool) -> i64
     sample_at(s, at, w, signed, big)
 }
 
-// The refusal of unsigned samples of 8 bytes.
+// The refusal of unsigned samples of 8 bytes. There is no early exit.
 fn check_words(s: &[u8], n: usize, big: bool) -> u32
     requires { ⌜ n * 8 ≤ length (now s) ⌝ }
     ensures { λ r. ⌜ r ≡ rawSamples unsigned 8 (endianBy big) n (now (s .entry)) .number ⌝ }
 {
+    let mut fine = true;
     let mut at: usize = 0;
     let mut k: usize = 0;
     while k < n {
-        if word(s, at, 8, big) > 9223372036854775807 {
-            return 20;
-        }
+        fine = fine & (word(s, at, 8, big) <= 9223372036854775807);
         at += 8;
         k += 1;
     }
-    0
+    if fine { 0 } else { 20 }
 }
 
 // The refusal that n samples of w bytes come to: 20 where one is above the largest sample, or 0.

@@ -1,0 +1,648 @@
+#include "generate.h"
+
+#include "model.h"
+
+#include <stdlib.h>
+#include <string.h>
+
+enum { RAW, TEXT, HEX };
+enum { DIMENSION, TYPE, ENCODING, ENDIAN, SIZES, LINE_SKIP, BYTE_SKIP, DATA_FILE, SPACE = 16, SPACE_DIMENSION };
+
+#define COUNT(list) (sizeof(list) / sizeof(list)[0])
+
+/* ---- random numbers: xorshift64*, the seed spread by splitmix64 */
+
+static uint64_t state;
+
+void random_start(uint64_t seed)
+{
+    uint64_t z = seed + 0x9e3779b97f4a7c15u;
+    z = (z ^ z >> 30) * 0xbf58476d1ce4e5b9u;
+    z = (z ^ z >> 27) * 0x94d049bb133111ebu;
+    state = (z ^ z >> 31) | 1;
+}
+
+uint64_t random_bits(void)
+{
+    state ^= state >> 12;
+    state ^= state << 25;
+    state ^= state >> 27;
+    return state * 0x2545f4914f6cdd1du;
+}
+
+uint64_t random_below(uint64_t limit)
+{
+    return (random_bits() >> 11) % limit;
+}
+
+int random_chance(unsigned percent)
+{
+    return random_below(100) < percent;
+}
+
+/* ---- bytes */
+
+void put_bytes(struct bytes *b, const void *bytes, size_t length)
+{
+    if (length > sizeof b->at - b->length)
+        abort();
+    memcpy(b->at + b->length, bytes, length);
+    b->length += length;
+}
+
+void put_byte(struct bytes *b, uint8_t byte)
+{
+    put_bytes(b, &byte, 1);
+}
+
+void put_number(struct bytes *b, uint64_t number, size_t width)
+{
+    for (size_t i = 0; i < width; i++)
+        put_byte(b, (uint8_t)(number >> 8 * i));
+}
+
+void put_random(struct bytes *b, size_t length)
+{
+    for (; length >= 8; length -= 8) {
+        uint64_t bits = random_bits();
+        put_bytes(b, &bits, 8);
+    }
+    put_number(b, random_bits(), length);
+}
+
+static void put_text(struct bytes *b, const char *text)
+{
+    put_bytes(b, text, strlen(text));
+}
+
+static void put_any(struct bytes *b, const char *alphabet, size_t length)
+{
+    size_t size = strlen(alphabet);
+    while (length-- > 0)
+        put_byte(b, (uint8_t)alphabet[random_below(size)]);
+}
+
+/* A word in small letters, capitals, or both. */
+static void put_word(struct bytes *b, const char *word)
+{
+    unsigned capitals = random_chance(70) ? 0 : random_chance(50) ? 100 : 50;
+    for (; *word != '\0'; word++)
+        put_byte(b, (uint8_t)(*word >= 'a' && *word <= 'z' && random_chance(capitals) ? *word - 32 : *word));
+}
+
+static void put_zeros(struct bytes *b)
+{
+    if (random_chance(10))
+        put_any(b, "0", random_below(30));
+}
+
+static void put_decimal(struct bytes *b, uint64_t number)
+{
+    if (number >= 10)
+        put_decimal(b, number / 10);
+    put_byte(b, (uint8_t)('0' + number % 10));
+}
+
+/* Changes length bytes at start to new_length bytes. */
+static void replace(struct bytes *b, size_t start, size_t length, const void *bytes, size_t new_length)
+{
+    size_t rest = b->length - start - length;
+    if (new_length > sizeof b->at - start - rest)
+        abort();
+    memmove(b->at + start + new_length, b->at + start + length, rest);
+    memcpy(b->at + start, bytes, new_length);
+    b->length = start + new_length + rest;
+}
+
+/* ---- keys and values */
+
+static const char *const good_keys[] = {
+    "utc offset", "rig", "a", "A", "a:", "a b", " lead", "trail\t", "type", "sizes", "x=y",
+    "two\nlines", "back\\slash", "\n", "\\", "n", "\\n", "::", ":", "k#", "a:\n", "k",
+};
+
+static const char *const bad_keys[] = {
+    "", "#", "#k", "k: v", "k:=v", ": ", ":=", "k\001", "k\177", "k\377", "k\r", "\037", "utc offset\r",
+};
+
+void make_key(struct bytes *key)
+{
+    key->length = 0;
+    if (random_chance(80))
+        put_text(key, good_keys[random_below(COUNT(good_keys))]);
+    else if (random_chance(60))
+        put_any(key, "ab:= #\\\n\t~", 1 + random_below(5));
+    else if (random_chance(70))
+        put_text(key, bad_keys[random_below(COUNT(bad_keys))]);
+    else
+        put_random(key, random_below(4));
+}
+
+void make_value(struct bytes *value, size_t near)
+{
+    value->length = 0;
+    if (near > 0 && random_chance(50))
+        put_any(value, "v", near - random_below(near < 24 ? near : 24));
+    put_any(value, "0123456789abc xyz:=#~\t\n\\n", random_below(random_chance(90) ? 12 : 60));
+    if (random_chance(4))
+        put_any(value, "\001\010\013\r\037\177\200\377", 1);
+}
+
+static void put_escaped(struct bytes *b, const struct bytes *text)
+{
+    for (size_t i = 0; i < text->length; i++) {
+        if (text->at[i] == '\n' || text->at[i] == '\\')
+            put_byte(b, '\\');
+        put_byte(b, text->at[i] == '\n' ? 'n' : text->at[i]);
+    }
+}
+
+/* ---- samples */
+
+uint64_t make_sample(uint64_t type)
+{
+    const struct model_type *t = &model_types[type];
+    uint64_t bits = random_bits() >> (64 - 8 * t->bytes);
+    switch (random_below(6)) {
+    case 0:
+        return 0;
+    case 1:
+        return (uint64_t)t->low;
+    case 2:
+        return (uint64_t)t->high;
+    case 3:
+        return t->low < 0 ? ~random_below(10) : random_below(10);
+    default:
+        bits &= (uint64_t)t->high;
+        return t->low < 0 && random_chance(50) ? ~bits : bits;
+    }
+}
+
+/* ---- lines of a header */
+
+/* What is being made: the volume, the endings its lines get, the fields that stand already. */
+struct maker {
+    struct volume *v;
+    unsigned carriage_returns; /* percent of the endings */
+    unsigned faults;           /* percent of the places between fields */
+    int wanted[MODEL_FIELDS], done[MODEL_FIELDS];
+};
+
+static void put_ending(struct maker *m)
+{
+    if (random_chance(m->carriage_returns))
+        put_byte(&m->v->file, '\r');
+    put_byte(&m->v->file, '\n');
+}
+
+static void put_blanks(struct bytes *b, unsigned percent)
+{
+    if (random_chance(percent))
+        put_any(b, " \t", 1 + random_below(3));
+}
+
+/* Lines that are refused in most headers, by 5 to 12. */
+static const char *const bad_lines[] = {
+    "foo: bar", "dimension:2", ":=x", ": x", "a\\q:=b", "key:=\\", "k\\:=v", "k:=\\N", "type : int8",
+    "content:\tx", "content:", "spaceunits: mm", "space dimensions: 3", "datafiles: x", "b\001: c",
+    "content: \177", "rig:=\200", "\r", "a", ":", "=", "dimension: 0", "dimension: 17", "dimension: 1 1",
+    "dimension: +2", "dimension: 2.", "dimension: 00000000000000000000000000000000000016",
+    "dimension: 18446744073709551617", "dimension: ", "sizes: 0", "sizes: 4294967296",
+    "sizes: 18446744073709551617", "sizes: 2x", "sizes: -2", "sizes:  ", "type: char", "type: long",
+    "type: unsigned  char", "type: block", "type: int8 ", "type: ", "encoding: gzip", "encoding: bz2",
+    "encoding: rawx", "encoding: ", "endian: none", "endian: ", "line skip: -1", "line skip: 1 1",
+    "line skip: 4294967295", "line skip: 4294967296", "line skip:  ", "byte skip: -1",
+    "byte skip: 4294967296", "byte skip: x", "data file: LIST", "data file:  LIST ", "data file: LIST 2",
+    "data file: LIST\t2", "data file: list", "data file: LISTs", "data file: a%d.raw 1 2 1",
+    "data file: %", "data file: ", "datafile:  \t", "kinds: x", "measurement frame: (1)", "thicknesses: 1",
+    "sample units: m", "space: left", "space directions: (1)", "space origin: 0", "space units: \"m\"",
+    "units: x", "space: left\nspace directions: (1)", "a:=b: c", "a: b:=c", "NRRD0004", " ", "\t", " # no comment",
+};
+
+static void put_bad_line(struct maker *m)
+{
+    put_text(&m->v->file, bad_lines[random_below(COUNT(bad_lines))]);
+    put_ending(m);
+}
+
+static void put_comment(struct maker *m)
+{
+    size_t length = random_below(12);
+    put_byte(&m->v->file, '#');
+    while (length-- > 0) {
+        uint8_t byte = (uint8_t)random_bits();
+        put_byte(&m->v->file, byte == '\n' ? '\r' : byte);
+    }
+    put_ending(m);
+}
+
+static void put_pair(struct maker *m)
+{
+    static struct bytes key, value;
+    key.length = value.length = 0;
+    if (random_chance(85))
+        put_text(&key, good_keys[random_below(COUNT(good_keys))]);
+    else
+        put_any(&key, "abcXYZ019.-_", 1 + random_below(6));
+    put_any(&value, "0123456789 abc:=#\t\\\n", random_below(10));
+    put_escaped(&m->v->file, &key);
+    put_text(&m->v->file, ":=");
+    put_escaped(&m->v->file, &value);
+    put_ending(m);
+}
+
+/* ---- fields of a header */
+
+static void put_sizes(struct volume *v)
+{
+    for (size_t i = 0; i < v->dimension; i++) {
+        if (i > 0)
+            put_any(&v->file, " \t", random_chance(80) ? 1 : 3);
+        put_zeros(&v->file);
+        put_decimal(&v->file, v->sizes[i]);
+    }
+}
+
+static void put_type(struct volume *v)
+{
+    const char *const *names = model_types[v->type].names;
+    size_t count = 0;
+    while (count < 8 && names[count] != NULL)
+        count++;
+    put_word(&v->file, names[random_below(count)]);
+}
+
+static void put_descriptor(struct volume *v, int field)
+{
+    static const char *const files[] = {"a.raw", "data file.raw", "LISTS", "list", "x: y", "a:=b", "#"};
+    uint64_t number = field == DIMENSION ? v->dimension : field == LINE_SKIP ? v->line_skip : v->byte_skip;
+    switch (field) {
+    case TYPE:
+        put_type(v);
+        return;
+    case ENCODING:
+        put_word(&v->file, model_encodings[v->encoding][v->encoding == TEXT ? random_below(3) : 0]);
+        return;
+    case ENDIAN:
+        put_word(&v->file, v->endian == 1 ? "big" : "little");
+        return;
+    case SIZES:
+        put_sizes(v);
+        return;
+    case DATA_FILE:
+        put_text(&v->file, files[random_below(COUNT(files))]);
+        return;
+    case DIMENSION:
+    case LINE_SKIP:
+    case BYTE_SKIP:
+        put_zeros(&v->file);
+        put_decimal(&v->file, number);
+        return;
+    default:
+        put_any(&v->file, "0123456789.,()\"abc :=\\%#\t", random_below(14));
+    }
+}
+
+static void put_field(struct maker *m, int field)
+{
+    const struct model_field *f = &model_fields[field];
+    put_word(&m->v->file, f->other != NULL && random_chance(50) ? f->other : f->name);
+    put_text(&m->v->file, ": ");
+    put_blanks(&m->v->file, 20);
+    put_descriptor(m->v, field);
+    put_blanks(&m->v->file, 15);
+    put_ending(m);
+    m->done[field] = 1;
+}
+
+/* Whether the field may stand here: version, order, once. */
+static int may_stand(const struct maker *m, int field)
+{
+    int order = model_fields[field].order;
+    return m->wanted[field] && !m->done[field] && m->v->version >= model_fields[field].version
+           && (!(order & MODEL_PER_AXIS) || m->done[DIMENSION])
+           && (!(order & MODEL_IN_SPACE) || m->done[SPACE] || m->done[SPACE_DIMENSION]);
+}
+
+/* Any of the fields that may stand here, or -1. */
+static int next_field(const struct maker *m)
+{
+    int start = (int)random_below(MODEL_FIELDS);
+    for (int i = 0; i < MODEL_FIELDS; i++)
+        if (may_stand(m, (start + i) % MODEL_FIELDS))
+            return (start + i) % MODEL_FIELDS;
+    return -1;
+}
+
+static void choose_fields(struct maker *m)
+{
+    struct volume *v = m->v;
+    unsigned carried = random_chance(50) ? 0 : random_chance(70) ? 20 : 80;
+    for (int field = 0; field < MODEL_FIELDS; field++)
+        m->wanted[field] = random_chance(carried);
+    m->wanted[DIMENSION] = m->wanted[SIZES] = m->wanted[TYPE] = m->wanted[ENCODING] = 1;
+    m->wanted[ENDIAN] = v->endian != 2;
+    m->wanted[LINE_SKIP] = v->line_skip > 0 || random_chance(5);
+    m->wanted[BYTE_SKIP] = v->byte_skip > 0 || random_chance(5);
+    m->wanted[DATA_FILE] = v->detached;
+    if (random_chance(3)) /* a needed field missing */
+        m->wanted[random_below(SIZES + 1)] = 0;
+}
+
+/* A field that is perhaps repeated, too new, or, in half of the cases, too early. */
+static void put_misplaced(struct maker *m)
+{
+    int field, ordered = random_chance(50);
+    do
+        field = (int)random_below(MODEL_FIELDS);
+    while (ordered && model_fields[field].order == 0);
+    put_field(m, field);
+}
+
+/* Comments, pairs and, rarely, bad lines between the fields. */
+static void put_other_lines(struct maker *m)
+{
+    if (random_chance(15))
+        put_comment(m);
+    while (m->v->version >= 2 && random_chance(25))
+        put_pair(m);
+    if (random_chance(m->faults)) {
+        if (random_chance(70))
+            put_bad_line(m);
+        else
+            put_misplaced(m);
+    }
+}
+
+static void put_magic(struct maker *m)
+{
+    static const char *const magics[] = {"NRRD0001", "NRRD0002", "NRRD0003", "NRRD0004", "NRRD0005"};
+    static const char *const bad[] = {"NRRD0000", "NRRD0006", "NRRD00.02", "nrrd0004", "NRRD0004 ", "NRRD", ""};
+    if (random_chance(1))
+        put_text(&m->v->file, bad[random_below(COUNT(bad))]);
+    else if (m->v->version == 1 && random_chance(40))
+        put_text(&m->v->file, "NRRD00.01");
+    else
+        put_text(&m->v->file, magics[m->v->version - 1]);
+    put_ending(m);
+}
+
+/* The empty line; a detached header may do without, and its last line without ending. */
+static void put_closing(struct maker *m)
+{
+    struct bytes *file = &m->v->file;
+    if (random_chance(m->v->detached ? 60 : 97))
+        put_ending(m);
+    else if (random_chance(50))
+        file->length -= file->at[file->length - 2] == '\r' ? 2 : 1;
+}
+
+static void put_header(struct volume *v)
+{
+    struct maker m = {v, 0, 0, {0}, {0}};
+    int field;
+    m.carriage_returns = random_chance(60) ? 0 : random_chance(60) ? 100 : 50;
+    m.faults = random_chance(80) ? 0 : 15;
+    put_magic(&m);
+    choose_fields(&m);
+    while ((field = next_field(&m)) >= 0) {
+        put_other_lines(&m);
+        put_field(&m, field);
+    }
+    put_other_lines(&m);
+    put_closing(&m);
+    v->header = v->file.length;
+}
+
+/* ---- data */
+
+static void put_skipped(struct volume *v, struct bytes *data)
+{
+    for (uint64_t i = 0; i < v->line_skip; i++) {
+        put_any(data, "ab \r:#", random_below(6));
+        put_byte(data, '\n');
+    }
+    put_random(data, v->byte_skip);
+}
+
+/* Blanks of data: bytes 9 to 13 and 32. */
+static void put_run(struct bytes *data, size_t most)
+{
+    put_any(data, "\t\n\v\f\r   ", random_below(most) + 1);
+}
+
+static void put_token(struct bytes *data, const struct volume *v)
+{
+    static const char *const bad[] = {"x", "+", "-", "12a", "--1", "+-1", "1.0", "0x1", "99999999999999999999999",
+                                      "-99999999999999999999999", "1\0012", "255x", "9223372036854775808",
+                                      "-9223372036854775809", "18446744073709551616"};
+    uint64_t sample = make_sample(v->type);
+    int negative = model_types[v->type].low < 0 && sample >> 63 != 0;
+    if (random_below(1000) < 5) {
+        put_text(data, bad[random_below(COUNT(bad))]);
+        return;
+    }
+    if (random_below(1000) < 5) /* one outside the type */
+        sample = negative ? (uint64_t)model_types[v->type].low - 1 : (uint64_t)model_types[v->type].high + 1;
+    if (negative || (sample == 0 && random_chance(10)))
+        put_byte(data, '-');
+    else if (random_chance(10))
+        put_byte(data, '+');
+    put_zeros(data);
+    put_decimal(data, negative ? ~sample + 1 : sample);
+}
+
+static void put_text_data(struct bytes *data, const struct volume *v)
+{
+    if (random_chance(20))
+        put_run(data, 4);
+    for (uint64_t i = 0; i < v->count; i++) {
+        if (i > 0)
+            put_run(data, random_chance(80) ? 1 : 4);
+        put_token(data, v);
+    }
+    if (random_chance(50))
+        put_run(data, 2);
+}
+
+/* The bytes of the samples; in hex two digits each, with blanks anywhere. */
+static void put_raw_or_hex(struct bytes *data, const struct volume *v)
+{
+    static const char digits[2][17] = {"0123456789abcdef", "0123456789ABCDEF"};
+    unsigned blanks = random_chance(50) ? 0 : random_chance(80) ? 15 : 1;
+    unsigned outside = random_chance(90) ? 0 : 3;
+    size_t bytes = model_types[v->type].bytes;
+    for (uint64_t i = 0; i < v->count; i++) {
+        uint64_t sample = random_chance(outside) ? random_bits() : make_sample(v->type);
+        for (size_t k = 0; k < bytes; k++) {
+            uint8_t byte = (uint8_t)(sample >> 8 * (v->endian == 1 ? bytes - 1 - k : k));
+            if (v->encoding == RAW) {
+                put_byte(data, byte);
+                continue;
+            }
+            put_blanks(data, blanks);
+            put_byte(data, (uint8_t)digits[random_below(2)][byte / 16]);
+            put_blanks(data, blanks / 2);
+            put_byte(data, (uint8_t)digits[random_below(2)][byte % 16]);
+        }
+    }
+}
+
+/* The data area; rarely too short, longer, or with a changed byte. */
+static void put_data(struct volume *v, struct bytes *data)
+{
+    size_t start = data->length;
+    put_skipped(v, data);
+    if (v->encoding == TEXT)
+        put_text_data(data, v);
+    else
+        put_raw_or_hex(data, v);
+    if (random_chance(6) && data->length > start)
+        data->length -= 1 + random_below(data->length - start);
+    if (random_chance(15))
+        put_random(data, 1 + random_below(8));
+    if (random_chance(3) && data->length > start)
+        data->at[start + random_below(data->length - start)] = (uint8_t)random_bits();
+}
+
+/* ---- damage */
+
+static const char curious[] = "\r\n\n:=# \\\t09aA%+-n\001\177\377";
+
+/* The line around a place: its start and its length with ending. */
+static size_t line_around(const struct bytes *b, size_t at, size_t *length)
+{
+    size_t start = at, end = at;
+    while (start > 0 && b->at[start - 1] != '\n')
+        start--;
+    while (end < b->length && b->at[end] != '\n')
+        end++;
+    *length = (end < b->length ? end + 1 : end) - start;
+    return start;
+}
+
+/* Puts the line around one place before the line around another, and, when
+ * it is moved, takes it from its old place. */
+static void repeat_line(struct bytes *b, size_t from, size_t to, int move)
+{
+    static struct bytes line;
+    size_t length, other, start = line_around(b, from, &length), place = line_around(b, to, &other);
+    line.length = 0;
+    put_bytes(&line, b->at + start, length);
+    replace(b, place, 0, line.at, line.length);
+    if (move)
+        replace(b, start >= place ? start + length : start, length, "", 0);
+}
+
+/* One change within the first bytes of b, which has at least one byte. */
+static void damage(struct bytes *b, size_t within)
+{
+    size_t at = random_below(within < b->length ? within : b->length), left = b->length - at;
+    uint8_t byte = (uint8_t)curious[random_below(sizeof curious - 1)];
+    switch (random_below(8)) {
+    case 0:
+        b->at[at] ^= (uint8_t)(1u << random_below(8));
+        return;
+    case 1:
+        b->at[at] = byte;
+        return;
+    case 2:
+    case 3:
+        replace(b, at, 0, &byte, 1);
+        return;
+    case 4:
+        replace(b, at, random_below(left < 4 ? left : 4) + 1, "", 0);
+        return;
+    case 5:
+        b->length = at;
+        return;
+    default:
+        repeat_line(b, at, random_below(b->length), random_chance(50));
+    }
+}
+
+/* ---- volumes */
+
+/* Sizes with a product of at most 64, sometimes 2,048, rarely a very large one. */
+static void choose_sizes(struct volume *v)
+{
+    static const uint64_t large[] = {65535, 65536, 65537, 4294967295u, 2, 16777216, 1};
+    int too_large = random_chance(3), longer = random_chance(3);
+    uint64_t left = longer ? 2048 : 64, most = longer ? 40 : 5;
+    v->dimension = random_chance(85) ? 1 + random_below(4) : 1 + random_below(16);
+    v->count = 1;
+    for (size_t i = 0; i < v->dimension; i++) {
+        v->sizes[i] = too_large ? large[random_below(COUNT(large))] : 1 + random_below(left < most ? left : most);
+        v->count *= too_large ? 1 : v->sizes[i];
+        left /= too_large ? 1 : v->sizes[i];
+    }
+}
+
+static void choose_volume(struct volume *v)
+{
+    v->file.length = v->second.length = 0;
+    v->version = random_chance(10) ? 1 : 2 + (uint32_t)random_below(4);
+    v->type = (uint32_t)random_below(random_chance(90) ? 8 : MODEL_TYPES);
+    v->encoding = (uint32_t)random_below(MODEL_ENCODINGS);
+    v->endian = (uint32_t)random_below(2);
+    if ((model_types[v->type].bytes == 1 || v->encoding == TEXT) && random_chance(70))
+        v->endian = 2;
+    v->detached = random_chance(30);
+    v->line_skip = random_chance(15) ? random_below(4) : 0;
+    v->byte_skip = random_chance(15) ? random_below(6) : 0;
+    choose_sizes(v);
+}
+
+static void make_undamaged(struct volume *v)
+{
+    choose_volume(v);
+    put_header(v);
+    put_data(v, v->detached ? &v->second : &v->file);
+    if (random_chance(30)) /* bytes that are not looked at */
+        put_random(v->detached ? &v->file : &v->second, random_below(20));
+}
+
+void make_volume(struct volume *v)
+{
+    make_undamaged(v);
+    while (random_chance(16) && v->file.length > 0)
+        damage(&v->file, random_chance(90) ? v->header : v->file.length);
+}
+
+/* Lines of length bytes in all after line 1: one long one, or many short ones. */
+static void insert_lines(struct volume *v, size_t length, size_t lines)
+{
+    static struct bytes text;
+    size_t first, end = line_around(&v->file, 0, &first), each = length / lines;
+    text.length = 0;
+    for (size_t i = 0; i < lines; i++) {
+        size_t own = i + 1 < lines ? each : length - text.length;
+        size_t start = text.length;
+        put_text(&text, v->version >= 2 && random_chance(60) ? "k:=" : "#:=");
+        while (text.length < start + own - 1)
+            put_byte(&text, (uint8_t)('a' + random_below(26)));
+        put_byte(&text, '\n');
+    }
+    replace(&v->file, end + first, 0, text.at, text.length);
+    v->header += text.length;
+}
+
+void make_large_volume(struct volume *v)
+{
+    size_t near = random_below(6), lines;
+    make_undamaged(v);
+    lines = model_read_header(v->file.at, v->file.length).reading.lines;
+    switch (random_below(4)) {
+    case 0: /* the header's length near its limit */
+        insert_lines(v, 65533 + near - v->header - 100 * random_below(4), 1);
+        return;
+    case 1: /* its number of lines near its limit */
+        insert_lines(v, 8 * (1022 + near - lines), 1022 + near - lines);
+        return;
+    case 2: /* both */
+        insert_lines(v, 65533 + near - v->header, 1024 - lines);
+        return;
+    default: /* the file's length near the longest that is listed */
+        put_random(&v->file, 65534 + near - v->file.length);
+    }
+}

@@ -1,0 +1,25 @@
+/* A reader of the JSON that the vectors use: objects, lists, strings, whole numbers. */
+#ifndef JSON_H
+#define JSON_H
+
+#include <stddef.h>
+#include <stdint.h>
+
+struct json {
+    char *name;                /* of a member of an object */
+    enum { JSON_NUMBER, JSON_STRING, JSON_LIST, JSON_OBJECT } kind;
+    uint64_t number;           /* a negative one as two's complement */
+    char *text;                /* of a string; a zero byte follows */
+    size_t length;             /* of the text, or the number of items */
+    struct json *first, *next; /* items of a list or object, in order */
+};
+
+/* Reads one value; ends the program if the text is anything else. */
+struct json *json_read(const char *text);
+
+void json_free(struct json *value);
+
+/* The member of an object, or NULL. */
+const struct json *json_member(const struct json *object, const char *name);
+
+#endif

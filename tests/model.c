@@ -1,0 +1,1220 @@
+/*
+ * A second implementation of every call of craneholt.h, written from the
+ * rules of document 01 alone, to compare the library with. It is plain and
+ * slow on purpose and allocates memory where that is the simplest way. The
+ * parts below stand in the order of the document's sections and cite them;
+ * points that it leaves open are taken as docs/DECISIONS.md says.
+ */
+#include "model.h"
+
+#include <stdlib.h>
+#include <string.h>
+
+enum {
+    AXES = 16,             /* "dimension (1 to 16)" */
+    HEADER_LIMIT = 65535,  /* refusal 3 */
+    LINE_LIMIT = 1024,     /* refusal 4 */
+    LISTING_LIMIT = 65536  /* Trials: "reads a file of up to 65,536 bytes" */
+};
+
+static const uint64_t LIMIT32 = 4294967295u; /* refusals 1 and 15, sizes, skips */
+
+/* ---- What is read, written and corrected: numbers in lent bytes */
+
+/* "four bytes, a sample, size or coordinate eight, low byte first" */
+static uint64_t load(const void *bytes, size_t index, size_t width)
+{
+    const uint8_t *b = (const uint8_t *)bytes + index * width;
+    uint64_t number = 0;
+    for (size_t i = width; i > 0; i--)
+        number = number << 8 | b[i - 1];
+    return number;
+}
+
+static void store(void *bytes, size_t index, size_t width, uint64_t number)
+{
+    uint8_t *b = (uint8_t *)bytes + index * width;
+    for (size_t i = 0; i < width; i++)
+        b[i] = (uint8_t)(number >> 8 * i);
+}
+
+/* two's complement, without relying on the compiler's conversion */
+static int64_t as_signed(uint64_t bits)
+{
+    return bits <= INT64_MAX ? (int64_t)bits : -(int64_t)(~bits) - 1;
+}
+
+/* ---- Lines and headers: lines */
+
+/* A line: its text from start to text, its ending from text to end. */
+struct line {
+    size_t start, text, end;
+};
+
+/* "A line ends at LF; one CR right before it belongs to the ending. The last
+ * line of the bytes may lack an ending." start is below length. */
+static struct line line_at(const uint8_t *file, size_t length, size_t start)
+{
+    const uint8_t *lf = memchr(file + start, '\n', length - start);
+    struct line line = {start, length, length};
+    if (lf == NULL)
+        return line;
+    line.text = (size_t)(lf - file);
+    line.end = line.text + 1;
+    if (line.text > start && file[line.text - 1] == '\r')
+        line.text--;
+    return line;
+}
+
+static int has_ending(struct line line)
+{
+    return line.text < line.end;
+}
+
+/* ---- Lines and headers: words and numbers */
+
+static uint8_t lower(uint8_t byte)
+{
+    return byte >= 'A' && byte <= 'Z' ? (uint8_t)(byte + 32) : byte;
+}
+
+/* "Field names ignore case", "Words ignore case" */
+static int is_word(const uint8_t *text, size_t length, const char *word)
+{
+    size_t i = 0;
+    while (i < length && lower(text[i]) == (uint8_t)word[i])
+        i++;
+    return i == length && word[i] == '\0';
+}
+
+static int is_digit(uint8_t byte)
+{
+    return byte >= '0' && byte <= '9';
+}
+
+static int is_space_or_tab(uint8_t byte)
+{
+    return byte == ' ' || byte == '\t';
+}
+
+/* The value of digits; whatever is above 64 bits counts as the largest. */
+static uint64_t value_of_digits(const uint8_t *digits, size_t length)
+{
+    uint64_t value = 0;
+    for (size_t i = 0; i < length; i++) {
+        uint64_t digit = (uint64_t)(digits[i] - '0');
+        if (value > (UINT64_MAX - digit) / 10)
+            return UINT64_MAX;
+        value = value * 10 + digit;
+    }
+    return value;
+}
+
+/* "Numbers are digits without sign, leading zeros allowed, parted by spaces
+ * or tabs." True if the text is exactly count numbers from low to high. */
+static int read_numbers(const uint8_t *text, size_t length, size_t count,
+                        uint64_t low, uint64_t high, uint64_t *numbers)
+{
+    size_t at = 0, found = 0;
+    while (at < length) {
+        size_t start = at;
+        while (at < length && is_digit(text[at]))
+            at++;
+        if (at == start || (at < length && !is_space_or_tab(text[at])))
+            return 0;
+        uint64_t number = value_of_digits(text + start, at - start);
+        if (found == count || number < low || number > high)
+            return 0;
+        numbers[found++] = number;
+        while (at < length && is_space_or_tab(text[at]))
+            at++;
+    }
+    return found == count;
+}
+
+/* ---- Lines and headers: the fields */
+
+enum field {
+    DIMENSION, TYPE, ENCODING, ENDIAN, SIZES, LINE_SKIP, BYTE_SKIP, DATA_FILE,
+    UNDERSTOOD, /* how many fields are understood; the carried ones start here */
+    SPACE = 16, SPACE_DIMENSION = 17
+};
+
+/* "Understood fields", "Carried fields", "Versions", "Order" */
+const struct model_field model_fields[MODEL_FIELDS] = {
+    {"dimension", NULL, 1, 0},
+    {"type", NULL, 1, 0},
+    {"encoding", NULL, 1, 0},
+    {"endian", NULL, 1, 0},
+    {"sizes", NULL, 1, MODEL_PER_AXIS},
+    {"line skip", "lineskip", 1, 0},
+    {"byte skip", "byteskip", 1, 0},
+    {"data file", "datafile", 1, 0},
+    {"block size", "blocksize", 1, 0},
+    {"content", NULL, 1, 0},
+    {"min", NULL, 1, 0},
+    {"max", NULL, 1, 0},
+    {"old min", "oldmin", 1, 0},
+    {"old max", "oldmax", 1, 0},
+    {"number", NULL, 1, 0},
+    {"sample units", "sampleunits", 4, 0},
+    {"space", NULL, 4, 0},
+    {"space dimension", NULL, 4, 0},
+    {"space units", NULL, 4, MODEL_IN_SPACE},
+    {"space origin", NULL, 4, MODEL_IN_SPACE},
+    {"space directions", NULL, 4, MODEL_PER_AXIS | MODEL_IN_SPACE},
+    {"measurement frame", NULL, 5, MODEL_IN_SPACE},
+    {"spacings", NULL, 1, MODEL_PER_AXIS},
+    {"thicknesses", NULL, 4, MODEL_PER_AXIS},
+    {"axis mins", "axismins", 1, MODEL_PER_AXIS},
+    {"axis maxs", "axismaxs", 1, MODEL_PER_AXIS},
+    {"centers", "centerings", 1, MODEL_PER_AXIS},
+    {"labels", NULL, 1, MODEL_PER_AXIS},
+    {"units", NULL, 1, MODEL_PER_AXIS},
+    {"kinds", NULL, 3, MODEL_PER_AXIS},
+};
+
+enum { FLOAT = 8 }; /* the first type without integer samples */
+
+/* "Types (bytes)", with the values of each; a uint64 sample is none above
+ * 9,223,372,036,854,775,807 (refusal 20) */
+const struct model_type model_types[MODEL_TYPES] = {
+    {{"int8", "signed char", "int8_t"}, 1, INT8_MIN, INT8_MAX},
+    {{"uint8", "uchar", "unsigned char", "uint8_t"}, 1, 0, UINT8_MAX},
+    {{"int16", "short", "short int", "signed short", "signed short int", "int16_t"},
+     2, INT16_MIN, INT16_MAX},
+    {{"uint16", "ushort", "unsigned short", "unsigned short int", "uint16_t"}, 2, 0, UINT16_MAX},
+    {{"int32", "int", "signed int", "int32_t"}, 4, INT32_MIN, INT32_MAX},
+    {{"uint32", "uint", "unsigned int", "uint32_t"}, 4, 0, UINT32_MAX},
+    {{"int64", "longlong", "long long", "long long int", "signed long long",
+      "signed long long int", "int64_t"}, 8, INT64_MIN, INT64_MAX},
+    {{"uint64", "ulonglong", "unsigned long long", "unsigned long long int", "uint64_t"},
+     8, 0, INT64_MAX},
+    {{"float"}, 4, 0, 0},
+    {{"double"}, 8, 0, 0},
+};
+
+enum { RAW, TEXT, HEX };
+enum { LITTLE, BIG, NOT_GIVEN };
+
+const char *const model_encodings[MODEL_ENCODINGS][3] = {{"raw"}, {"txt", "text", "ascii"}, {"hex"}};
+static const char *const endians[] = {"little", "big"};
+
+/* "endian too where a sample has more than one byte and the encoding is raw or hex" */
+static int needs_endian(uint64_t type, uint64_t encoding)
+{
+    return model_types[type].bytes > 1 && encoding != TEXT;
+}
+
+/* "Extent = product of the sizes times the bytes of a sample", or anything
+ * above the limit once it is above. Each size is at least 1. */
+static uint64_t extent_of(const uint64_t *sizes, size_t count, size_t bytes)
+{
+    uint64_t extent = bytes;
+    for (size_t i = 0; i < count; i++) {
+        if (sizes[i] > LIMIT32 / extent)
+            return LIMIT32 + 1;
+        extent *= sizes[i];
+    }
+    return extent;
+}
+
+/* ---- Lines and headers: keys and values */
+
+/* "In both, \n means LF and \\ a backslash; no other backslash is allowed." */
+static int escapes_are_good(const uint8_t *text, size_t length)
+{
+    for (size_t i = 0; i < length; i++)
+        if (text[i] == '\\') {
+            i++;
+            if (i == length || (text[i] != 'n' && text[i] != '\\'))
+                return 0;
+        }
+    return 1;
+}
+
+/* The bytes that an escaped text means, into out if it is given; answers how many. */
+static size_t unescape(const uint8_t *text, size_t length, uint8_t *out)
+{
+    size_t count = 0;
+    for (size_t i = 0; i < length; i++) {
+        uint8_t byte = text[i];
+        if (byte == '\\') {
+            i++;
+            byte = text[i] == 'n' ? '\n' : '\\';
+        }
+        if (out != NULL)
+            out[count] = byte;
+        count++;
+    }
+    return count;
+}
+
+/* ---- Lines and headers: reading */
+
+struct pair {
+    size_t key, mark, end; /* key text to the mark, value text from mark + 2 to end */
+};
+
+struct header {
+    craneholt_refusal refusal;
+    craneholt_reading reading;
+    size_t starts[LINE_LIMIT]; /* of reading.lines lines */
+    int present[MODEL_FIELDS];
+    size_t descriptor[MODEL_FIELDS], descriptor_length[MODEL_FIELDS];
+    struct pair pairs[LINE_LIMIT];
+    size_t pair_count;
+};
+
+/* "Line 1 is exactly NRRD0001 to NRRD0005, or NRRD00.01 (version 1)"; 0 if it is not */
+static uint32_t version_of_magic(const uint8_t *text, size_t length)
+{
+    if (length == 9 && memcmp(text, "NRRD00.01", 9) == 0)
+        return 1;
+    if (length == 8 && memcmp(text, "NRRD000", 7) == 0 && text[7] >= '1' && text[7] <= '5')
+        return (uint32_t)(text[7] - '0');
+    return 0;
+}
+
+/* refusal 5 */
+static int bytes_are_good(const uint8_t *text, size_t length)
+{
+    for (size_t i = 0; i < length; i++)
+        if (text[i] != '\t' && (text[i] < 32 || text[i] > 126))
+            return 0;
+    return 1;
+}
+
+/* "look for `: ` and `:=`; the first such place in the line decides"; end if there is none */
+static size_t find_mark(const uint8_t *file, size_t start, size_t end)
+{
+    for (size_t i = start; i + 1 < end; i++)
+        if (file[i] == ':' && (file[i + 1] == ' ' || file[i + 1] == '='))
+            return i;
+    return end;
+}
+
+static int field_named(const uint8_t *name, size_t length)
+{
+    for (int f = 0; f < MODEL_FIELDS; f++)
+        if (is_word(name, length, model_fields[f].name)
+            || (model_fields[f].other != NULL && is_word(name, length, model_fields[f].other)))
+            return f;
+    return -1;
+}
+
+/* "Order" */
+static int in_order(const struct header *h, int field)
+{
+    if ((model_fields[field].order & MODEL_PER_AXIS) && !h->present[DIMENSION])
+        return 0;
+    if ((model_fields[field].order & MODEL_IN_SPACE) && !h->present[SPACE] && !h->present[SPACE_DIMENSION])
+        return 0;
+    return 1;
+}
+
+static int understand_type(const uint8_t *text, size_t length, uint32_t *type)
+{
+    for (uint32_t t = 0; t < MODEL_TYPES; t++)
+        for (size_t i = 0; i < 8 && model_types[t].names[i] != NULL; i++)
+            if (is_word(text, length, model_types[t].names[i])) {
+                *type = t;
+                return 1;
+            }
+    return 0;
+}
+
+static int understand_encoding(const uint8_t *text, size_t length, uint32_t *encoding)
+{
+    for (uint32_t e = 0; e < MODEL_ENCODINGS; e++)
+        for (size_t i = 0; i < 3 && model_encodings[e][i] != NULL; i++)
+            if (is_word(text, length, model_encodings[e][i])) {
+                *encoding = e;
+                return 1;
+            }
+    return 0;
+}
+
+static int understand_endian(const uint8_t *text, size_t length, uint32_t *endian)
+{
+    for (uint32_t e = LITTLE; e <= BIG; e++)
+        if (is_word(text, length, endians[e])) {
+            *endian = e;
+            return 1;
+        }
+    return 0;
+}
+
+/* "A data file descriptor that is `LIST` (capitals), starts with `LIST `, or
+ * holds `%` is not a name"; a name is not empty. */
+static int is_file_name(const uint8_t *text, size_t length)
+{
+    if (length == 0 || memchr(text, '%', length) != NULL)
+        return 0;
+    if (length >= 4 && memcmp(text, "LIST", 4) == 0)
+        return length > 4 && text[4] != ' ';
+    return 1;
+}
+
+/* refusal 11: takes the meaning of an understood field from its trimmed descriptor */
+static int understand(craneholt_reading *r, int field, const uint8_t *text, size_t length)
+{
+    uint64_t number;
+    switch (field) {
+    case DIMENSION:
+        if (!read_numbers(text, length, 1, 1, AXES, &number))
+            return 0;
+        r->dimension = (uint32_t)number;
+        return 1;
+    case TYPE:
+        return understand_type(text, length, &r->sampletype);
+    case ENCODING:
+        return understand_encoding(text, length, &r->encoding);
+    case ENDIAN:
+        return understand_endian(text, length, &r->endian);
+    case SIZES:
+        return read_numbers(text, length, r->dimension, 1, LIMIT32, r->sizes);
+    case LINE_SKIP:
+        return read_numbers(text, length, 1, 0, LIMIT32, &r->lineskip);
+    case BYTE_SKIP:
+        return read_numbers(text, length, 1, 0, LIMIT32, &r->byteskip);
+    default:
+        return is_file_name(text, length);
+    }
+}
+
+/* A field line: refusals 7 to 11 in this order, or 0. */
+static uint32_t read_field(struct header *h, const uint8_t *file, struct line line, size_t mark)
+{
+    int field = field_named(file + line.start, mark - line.start);
+    size_t start = mark + 2, end = line.text;
+    if (field < 0)
+        return 7;
+    if (h->reading.version < model_fields[field].version)
+        return 8;
+    if (h->present[field])
+        return 9;
+    if (!in_order(h, field))
+        return 10;
+    /* "from after `: ` to the end of its line without trailing spaces and
+     * tabs; in understood fields leading ones drop too" */
+    while (end > start && is_space_or_tab(file[end - 1]))
+        end--;
+    while (field < UNDERSTOOD && start < end && is_space_or_tab(file[start]))
+        start++;
+    if (field < UNDERSTOOD && !understand(&h->reading, field, file + start, end - start))
+        return 11;
+    h->present[field] = 1;
+    h->descriptor[field] = start;
+    h->descriptor_length[field] = end - start;
+    return 0;
+}
+
+/* A key pair: refusals 8 ("key pairs from 2") and 12, or 0. */
+static uint32_t read_pair(struct header *h, const uint8_t *file, struct line line, size_t mark)
+{
+    struct pair pair = {line.start, mark, line.text};
+    if (h->reading.version < 2)
+        return 8;
+    if (!escapes_are_good(file + line.start, mark - line.start)
+        || !escapes_are_good(file + mark + 2, line.text - (mark + 2)))
+        return 12;
+    h->pairs[h->pair_count++] = pair;
+    return 0;
+}
+
+/* A line that is neither empty nor a comment: refusals 5 to 12, or 0. */
+static uint32_t read_line(struct header *h, const uint8_t *file, struct line line)
+{
+    size_t mark = find_mark(file, line.start, line.text);
+    if (!bytes_are_good(file + line.start, line.text - line.start))
+        return 5;
+    if (mark == line.text || (file[mark + 1] == '=' && mark == line.start))
+        return 6;
+    if (file[mark + 1] == ' ')
+        return read_field(h, file, line, mark);
+    return read_pair(h, file, line, mark);
+}
+
+/* The lines from the second on: refusals 3 to 13. */
+static craneholt_refusal read_lines(struct header *h, const uint8_t *file, size_t length)
+{
+    craneholt_refusal refusal = {0, 0};
+    craneholt_reading *r = &h->reading;
+    while (r->length < length) {
+        struct line line = line_at(file, length, r->length);
+        refusal.line = r->lines + 1;
+        refusal.number = line.end > HEADER_LIMIT ? 3 : refusal.line > LINE_LIMIT ? 4 : 0;
+        if (refusal.number != 0)
+            return refusal;
+        h->starts[r->lines++] = line.start;
+        r->length = line.end;
+        if (line.text == line.start && has_ending(line))
+            return (craneholt_refusal){0, 0};
+        if (file[line.start] != '#')
+            refusal.number = read_line(h, file, line);
+        if (refusal.number != 0)
+            return refusal;
+    }
+    /* "A header with a `data file` field is detached and may also close at the end of the bytes." */
+    return (craneholt_refusal){h->present[DATA_FILE] ? 0 : 13, 0};
+}
+
+/* "Needed" */
+static int needed_are_present(const struct header *h)
+{
+    return h->present[DIMENSION] && h->present[TYPE] && h->present[ENCODING] && h->present[SIZES]
+           && (h->present[ENDIAN] || !needs_endian(h->reading.sampletype, h->reading.encoding));
+}
+
+/* "Order for reading: 1, 2, then for each line 3, 4, then 5 to 12, then 13, 14, 15" */
+static craneholt_refusal read_refusal(struct header *h, const uint8_t *file, size_t length)
+{
+    craneholt_refusal refusal = {0, 0};
+    craneholt_reading *r = &h->reading;
+    if (length > LIMIT32)
+        return (craneholt_refusal){1, 0};
+    if (length > 0) {
+        struct line line = line_at(file, length, 0);
+        if (has_ending(line))
+            r->version = version_of_magic(file, line.text);
+        r->length = line.end;
+    }
+    if (r->version == 0)
+        return (craneholt_refusal){2, 1};
+    h->starts[r->lines++] = 0;
+    refusal = read_lines(h, file, length);
+    if (refusal.number != 0)
+        return refusal;
+    if (!needed_are_present(h))
+        return (craneholt_refusal){14, 0};
+    r->form = h->present[DATA_FILE] ? 1 : 0;
+    r->extent = extent_of(r->sizes, r->dimension, model_types[r->sampletype].bytes);
+    return (craneholt_refusal){r->extent > LIMIT32 ? 15 : 0, 0};
+}
+
+/* "Reading without the table"; true if it is not refused. */
+static int read_header(struct header *h, const uint8_t *file, size_t length)
+{
+    memset(&h->reading, 0, sizeof h->reading);
+    memset(h->present, 0, sizeof h->present);
+    h->pair_count = 0;
+    h->reading.endian = NOT_GIVEN;
+    h->refusal = read_refusal(h, file, length);
+    return h->refusal.number == 0;
+}
+
+craneholt_read_answer model_read_header(const uint8_t *file, size_t file_length)
+{
+    struct header h;
+    craneholt_read_answer answer = {0};
+    if (read_header(&h, file, file_length))
+        answer.reading = h.reading;
+    answer.refusal = h.refusal;
+    return answer;
+}
+
+/* "The line table is the lent table of 32-bit line starts, magic and closing
+ * empty line included; entries past the count stay." */
+craneholt_read_answer model_read(const uint8_t *file, size_t file_length, void *table, size_t table_length)
+{
+    struct header h;
+    craneholt_read_answer answer = {0};
+    if (read_header(&h, file, file_length) && h.reading.lines > table_length / 4)
+        h.refusal.number = 22;
+    answer.refusal = h.refusal;
+    if (h.refusal.number != 0)
+        return answer;
+    answer.reading = h.reading;
+    for (size_t i = 0; i < h.reading.lines; i++)
+        store(table, i, 4, h.starts[i]);
+    return answer;
+}
+
+craneholt_find_answer model_find_field(const uint8_t *file, size_t file_length, uint32_t field)
+{
+    struct header h;
+    craneholt_find_answer answer = {0};
+    if (read_header(&h, file, file_length) && field < MODEL_FIELDS && h.present[field]) {
+        answer.found = 1;
+        answer.start = h.descriptor[field];
+        answer.length = h.descriptor_length[field];
+    }
+    answer.refusal = h.refusal;
+    return answer;
+}
+
+static int pair_has_key(const uint8_t *file, const struct pair *pair, const uint8_t *key, size_t length)
+{
+    size_t text_length = pair->mark - pair->key;
+    uint8_t *own;
+    int same;
+    if (text_length < length || text_length > 2 * length)
+        return 0;
+    own = malloc(text_length);
+    same = unescape(file + pair->key, text_length, own) == length && memcmp(own, key, length) == 0;
+    free(own);
+    return same;
+}
+
+/* "Of several pairs with one key the last counts"; NULL if there is none. */
+static const struct pair *last_pair(const struct header *h, const uint8_t *file,
+                                    const uint8_t *key, size_t length)
+{
+    for (size_t i = h->pair_count; i > 0; i--)
+        if (pair_has_key(file, &h->pairs[i - 1], key, length))
+            return &h->pairs[i - 1];
+    return NULL;
+}
+
+craneholt_find_answer model_find_key(const uint8_t *file, size_t file_length,
+                                     const uint8_t *key, size_t key_length)
+{
+    struct header h;
+    const struct pair *pair = NULL;
+    craneholt_find_answer answer = {0};
+    if (read_header(&h, file, file_length))
+        pair = last_pair(&h, file, key, key_length);
+    answer.refusal = h.refusal;
+    if (pair != NULL) {
+        answer.found = 1;
+        answer.start = pair->mark + 2;
+        answer.length = pair->end - (pair->mark + 2);
+    }
+    return answer;
+}
+
+craneholt_value_answer model_copy_value(const uint8_t *file, size_t file_length,
+                                        const uint8_t *key, size_t key_length,
+                                        uint8_t *out, size_t out_length)
+{
+    craneholt_find_answer place = model_find_key(file, file_length, key, key_length);
+    craneholt_value_answer answer = {place.refusal, 0, 0};
+    size_t length;
+    if (!place.found)
+        return answer;
+    length = unescape(file + place.start, place.length, NULL);
+    if (length > out_length) {
+        answer.refusal.number = 22;
+        return answer;
+    }
+    answer.found = 1;
+    answer.length = unescape(file + place.start, place.length, out);
+    return answer;
+}
+
+/* ---- Data and samples: the place of the data */
+
+/* The bytes not yet used of the file that holds the data. */
+struct rest {
+    const uint8_t *file;
+    size_t at, length;
+};
+
+/* "Skip first that many LF-ended lines, then that many bytes"; false if a skip
+ * passes the end (an unended rest is no line to skip). */
+static int skip(struct rest *rest, uint64_t lines, uint64_t bytes)
+{
+    for (; lines > 0; lines--) {
+        struct line line;
+        if (rest->at == rest->length)
+            return 0;
+        line = line_at(rest->file, rest->length, rest->at);
+        if (!has_ending(line))
+            return 0;
+        rest->at = line.end;
+    }
+    if (bytes > rest->length - rest->at)
+        return 0;
+    rest->at += bytes;
+    return 1;
+}
+
+/* The data's place: "reading without the table, 1 for a second file in use,
+ * 16, 17, 18. Samples add 19 before 16". On a refusal its number is in h. */
+static int find_data(struct header *h, const uint8_t *file, size_t file_length,
+                     const uint8_t *second, size_t second_length, int samples, struct rest *data)
+{
+    const craneholt_reading *r = &h->reading;
+    if (!read_header(h, file, file_length))
+        return 0;
+    *data = (struct rest){file, r->length, file_length};
+    if (r->form == 1)
+        *data = (struct rest){second, 0, second_length};
+    if (data->length > LIMIT32)
+        h->refusal.number = 1;
+    else if (samples && r->sampletype >= FLOAT)
+        h->refusal.number = 19;
+    else if (!skip(data, r->lineskip, r->byteskip))
+        h->refusal.number = 16;
+    else if (r->encoding == RAW && data->length - data->at < r->extent)
+        h->refusal.number = 18; /* 17 cannot come: both are below 2^32 */
+    else if (r->encoding == RAW)
+        data->length = data->at + r->extent; /* "the next extent bytes in raw, else all the rest" */
+    return h->refusal.number == 0;
+}
+
+craneholt_data_answer model_data(const uint8_t *file, size_t file_length,
+                                 const uint8_t *second, size_t second_length)
+{
+    struct header h;
+    struct rest data;
+    craneholt_data_answer answer = {0};
+    if (find_data(&h, file, file_length, second, second_length, 0, &data)) {
+        answer.second = h.reading.form == 1;
+        answer.start = data.at;
+        answer.length = data.length - data.at;
+    }
+    answer.refusal = h.refusal;
+    return answer;
+}
+
+/* ---- Data and samples: the samples */
+
+/* "Blanks are bytes 9 to 13 and 32." */
+static int is_blank(uint8_t byte)
+{
+    return (byte >= 9 && byte <= 13) || byte == 32;
+}
+
+static void skip_blanks(struct rest *rest)
+{
+    while (rest->at < rest->length && is_blank(rest->file[rest->at]))
+        rest->at++;
+}
+
+static int hex_digit(uint8_t byte)
+{
+    if (is_digit(byte))
+        return byte - '0';
+    byte = lower(byte);
+    return byte >= 'a' && byte <= 'f' ? byte - 'a' + 10 : -1;
+}
+
+/* "Hex is two digits a byte, either case, blanks ignored anywhere": 0, 20 or 21 */
+static uint32_t hex_byte(struct rest *rest, uint8_t *byte)
+{
+    int value = 0;
+    for (int i = 0; i < 2; i++) {
+        skip_blanks(rest);
+        if (rest->at == rest->length)
+            return 21;
+        int digit = hex_digit(rest->file[rest->at]);
+        if (digit < 0)
+            return 20;
+        value = value * 16 + digit;
+        rest->at++;
+    }
+    *byte = (uint8_t)value;
+    return 0;
+}
+
+/* "Raw bytes follow endian; signed types are two's complement." Judged when whole. */
+static uint32_t sample_of_bytes(const craneholt_reading *r, const uint8_t *bytes, int64_t *sample)
+{
+    size_t width = model_types[r->sampletype].bytes;
+    uint64_t bits = 0;
+    for (size_t i = 0; i < width; i++)
+        bits = bits << 8 | bytes[r->endian == BIG ? i : width - 1 - i];
+    if (model_types[r->sampletype].low == 0)
+        return (*sample = as_signed(bits)) < 0 ? 20 : 0;
+    if (bits >> (8 * width - 1) != 0)
+        bits |= ~(uint64_t)0 << (8 * width - 1);
+    *sample = as_signed(bits);
+    return 0;
+}
+
+/* "an optional + or -, then digits": 0, or 20 if it is not, or outside the type */
+static uint32_t sample_of_token(const craneholt_reading *r, const uint8_t *token, size_t length, int64_t *sample)
+{
+    int negative = token[0] == '-';
+    size_t sign = negative || token[0] == '+';
+    uint64_t low = (uint64_t)model_types[r->sampletype].low, high = (uint64_t)model_types[r->sampletype].high;
+    uint64_t value, most = negative ? ~low + 1 : high; /* the type's largest without sign; -0 is 0 */
+    for (size_t i = sign; i < length; i++)
+        if (!is_digit(token[i]))
+            return 20;
+    value = value_of_digits(token + sign, length - sign);
+    if (length == sign || value > most)
+        return 20;
+    *sample = as_signed(negative ? ~value + 1 : value);
+    return 0;
+}
+
+/* The next sample of the data: 0, 20 or 21. */
+static uint32_t next_sample(const craneholt_reading *r, struct rest *rest, int64_t *sample)
+{
+    size_t width = model_types[r->sampletype].bytes, start;
+    uint8_t bytes[8];
+    if (r->encoding == TEXT) {
+        /* "runs of blanks and tokens take turns"; "A token reaches to the next blank or the end" */
+        skip_blanks(rest);
+        for (start = rest->at; rest->at < rest->length && !is_blank(rest->file[rest->at]); )
+            rest->at++;
+        if (rest->at == start)
+            return 21;
+        return sample_of_token(r, rest->file + start, rest->at - start, sample);
+    }
+    for (size_t i = 0; i < width; i++) {
+        uint32_t refused = 0;
+        if (r->encoding == HEX)
+            refused = hex_byte(rest, &bytes[i]);
+        else
+            bytes[i] = rest->file[rest->at++];
+        if (refused)
+            return refused;
+    }
+    return sample_of_bytes(r, bytes, sample);
+}
+
+/* Reads the wanted samples, and stores them if a list is given: 0, 20 or 21. */
+static uint32_t read_samples(const craneholt_reading *r, struct rest rest, uint64_t wanted, void *list)
+{
+    for (uint64_t i = 0; i < wanted; i++) {
+        int64_t sample;
+        uint32_t refused = next_sample(r, &rest, &sample);
+        if (refused)
+            return refused;
+        if (list != NULL)
+            store(list, i, 8, (uint64_t)sample);
+    }
+    return 0;
+}
+
+/* "after 18 first 22, then 20 or 21, whichever comes first in the data"; the
+ * list, if given, is written only after all samples are known to be good */
+static craneholt_count_answer take_samples(const uint8_t *file, size_t file_length,
+                                           const uint8_t *second, size_t second_length,
+                                           size_t room, void *list)
+{
+    struct header h;
+    struct rest data;
+    uint64_t wanted = 0;
+    if (find_data(&h, file, file_length, second, second_length, 1, &data)) {
+        wanted = h.reading.extent / model_types[h.reading.sampletype].bytes;
+        h.refusal.number = wanted > room ? 22 : read_samples(&h.reading, data, wanted, NULL);
+    }
+    if (h.refusal.number != 0)
+        return (craneholt_count_answer){h.refusal, 0};
+    if (list != NULL)
+        read_samples(&h.reading, data, wanted, list);
+    return (craneholt_count_answer){h.refusal, wanted};
+}
+
+craneholt_count_answer model_check_samples(const uint8_t *file, size_t file_length,
+                                           const uint8_t *second, size_t second_length, size_t room)
+{
+    return take_samples(file, file_length, second, second_length, room, NULL);
+}
+
+craneholt_count_answer model_samples(const uint8_t *file, size_t file_length,
+                                     const uint8_t *second, size_t second_length,
+                                     void *list, size_t list_length)
+{
+    return take_samples(file, file_length, second, second_length, list_length / 8, list);
+}
+
+/* ---- Data and samples: coordinates */
+
+/* "c0 + s0 × (c1 + s1 × (...))", "from the slowest down to axis 0" */
+craneholt_number_answer model_sample_number(const uint8_t *file, size_t file_length,
+                                            const void *coords, size_t coords_length)
+{
+    struct header h;
+    uint64_t number = 0;
+    if (read_header(&h, file, file_length) && coords_length / 8 != h.reading.dimension)
+        h.refusal.number = 23;
+    for (size_t axis = h.reading.dimension; axis > 0 && h.refusal.number == 0; axis--) {
+        uint64_t coord = load(coords, axis - 1, 8), size = h.reading.sizes[axis - 1];
+        if (coord >= size)
+            h.refusal.number = 23;
+        number = coord + size * number;
+    }
+    return (craneholt_number_answer){h.refusal, h.refusal.number == 0 ? number : 0};
+}
+
+/* ---- Texts that are put together */
+
+struct text {
+    uint8_t *bytes;
+    size_t length;
+};
+
+/* A text with room for as many bytes as will ever be put. */
+static struct text new_text(size_t room)
+{
+    return (struct text){malloc(room), 0};
+}
+
+static void put_bytes(struct text *text, const uint8_t *bytes, size_t length)
+{
+    memcpy(text->bytes + text->length, bytes, length);
+    text->length += length;
+}
+
+static void put_byte(struct text *text, uint8_t byte)
+{
+    put_bytes(text, &byte, 1);
+}
+
+static void put_word(struct text *text, const char *word)
+{
+    put_bytes(text, (const uint8_t *)word, strlen(word));
+}
+
+static void put_number(struct text *text, uint64_t number)
+{
+    if (number >= 10)
+        put_number(text, number / 10);
+    put_byte(text, (uint8_t)('0' + number % 10));
+}
+
+/* A line of one word. */
+static void put_line(struct text *text, const char *name, const char *word)
+{
+    put_word(text, name);
+    put_word(text, word);
+    put_byte(text, '\n');
+}
+
+/* A line of numbers, each after a blank. */
+static void put_numbers(struct text *text, const char *name, const uint64_t *numbers, size_t count)
+{
+    put_word(text, name);
+    for (size_t i = 0; i < count; i++) {
+        put_byte(text, ' ');
+        put_number(text, numbers[i]);
+    }
+    put_byte(text, '\n');
+}
+
+/* Hands a text over: 22 if out is too short, "Bytes past the written length stay". */
+static craneholt_write_answer hand_over(struct text text, uint8_t *out, size_t out_length)
+{
+    craneholt_write_answer answer = {{0, 0}, 0};
+    if (text.length > LIMIT32)
+        answer.refusal.number = 1;
+    else if (text.length > out_length)
+        answer.refusal.number = 22;
+    else {
+        memcpy(out, text.bytes, text.length);
+        answer.length = text.length;
+    }
+    free(text.bytes);
+    return answer;
+}
+
+/* ---- Writer */
+
+/* What the writer is given, numbers loaded from their bytes but for the samples. */
+struct volume {
+    uint64_t version, type, encoding, endian;
+    size_t axes;
+    uint64_t sizes[AXES];
+    const void *samples;
+    size_t sample_count;
+};
+
+/* "11 (version not 1 to 5, a number past its list, no size or more than 16, a size 0)" */
+static int volume_is_bad(const struct volume *v)
+{
+    if (v->version < 1 || v->version > 5 || v->axes < 1 || v->axes > AXES)
+        return 1;
+    if (v->type >= MODEL_TYPES || v->encoding >= MODEL_ENCODINGS || v->endian > BIG)
+        return 1;
+    for (size_t i = 0; i < v->axes; i++)
+        if (v->sizes[i] == 0)
+            return 1;
+    return 0;
+}
+
+/* "Writer: 11, 15, 19, 27, 20" */
+static uint32_t volume_refusal(const struct volume *v)
+{
+    uint64_t extent;
+    if (volume_is_bad(v))
+        return 11;
+    extent = extent_of(v->sizes, v->axes, model_types[v->type].bytes);
+    if (extent > LIMIT32)
+        return 15;
+    if (v->type >= FLOAT)
+        return 19;
+    if (v->sample_count != extent / model_types[v->type].bytes)
+        return 27;
+    for (size_t i = 0; i < v->sample_count; i++) {
+        int64_t sample = as_signed(load(v->samples, i, 8));
+        if (sample < model_types[v->type].low || sample > model_types[v->type].high)
+            return 20;
+    }
+    return 0;
+}
+
+/* "magic, then lines type, dimension, sizes, encoding, endian (only where needed), an empty line" */
+static void put_header(struct text *text, const struct volume *v)
+{
+    uint64_t dimension = v->axes;
+    put_word(text, "NRRD000");
+    put_number(text, v->version);
+    put_byte(text, '\n');
+    put_line(text, "type: ", model_types[v->type].names[0]);
+    put_numbers(text, "dimension:", &dimension, 1);
+    put_numbers(text, "sizes:", v->sizes, v->axes);
+    put_line(text, "encoding: ", model_encodings[v->encoding][0]);
+    if (needs_endian(v->type, v->encoding))
+        put_line(text, "endian: ", endians[v->endian]);
+    put_byte(text, '\n');
+}
+
+/* One sample: its bytes in raw, two digits each in hex, one line in text. */
+static void put_sample(struct text *text, const struct volume *v, uint64_t bits)
+{
+    static const char digits[] = "0123456789abcdef";
+    size_t width = model_types[v->type].bytes;
+    if (v->encoding == TEXT) {
+        if (as_signed(bits) < 0)
+            put_byte(text, '-');
+        put_number(text, as_signed(bits) < 0 ? ~bits + 1 : bits);
+        put_byte(text, '\n');
+        return;
+    }
+    for (size_t i = 0; i < width; i++) {
+        uint8_t byte = (uint8_t)(bits >> 8 * (v->endian == BIG ? width - 1 - i : i));
+        if (v->encoding == RAW) {
+            put_byte(text, byte);
+        } else {
+            put_byte(text, (uint8_t)digits[byte / 16]);
+            put_byte(text, (uint8_t)digits[byte % 16]);
+        }
+    }
+}
+
+craneholt_write_answer model_write(uint64_t version, const void *sizes, size_t sizes_length,
+                                   uint64_t sampletype, uint64_t encoding, uint64_t endian,
+                                   const void *samples, size_t samples_length,
+                                   uint8_t *out, size_t out_length)
+{
+    struct volume v = {version, sampletype, encoding, endian, sizes_length / 8, {0},
+                       samples, samples_length / 8};
+    craneholt_write_answer refused = {{0, 0}, 0};
+    struct text text;
+    for (size_t i = 0; i < v.axes && i < AXES; i++)
+        v.sizes[i] = load(sizes, i, 8);
+    refused.refusal.number = volume_refusal(&v);
+    if (refused.refusal.number != 0)
+        return refused;
+    text = new_text(1024 + v.sample_count * 21); /* a text sample has at most 21 bytes */
+    put_header(&text, &v);
+    for (size_t i = 0; i < v.sample_count; i++)
+        put_sample(&text, &v, load(samples, i, 8));
+    if (encoding == HEX)
+        put_byte(&text, '\n'); /* "closed by LF" */
+    return hand_over(text, out, out_length);
+}
+
+/* ---- Setting a key */
+
+/* "a byte other than 9, 10, 32 to 126" in a key or value */
+static int is_settable(const uint8_t *bytes, size_t length)
+{
+    for (size_t i = 0; i < length; i++)
+        if (bytes[i] != '\n' && !bytes_are_good(&bytes[i], 1))
+            return 0;
+    return 1;
+}
+
+/* "each with LF and backslash escaped" */
+static void put_escaped(struct text *text, const uint8_t *bytes, size_t length)
+{
+    for (size_t i = 0; i < length; i++) {
+        if (bytes[i] == '\n' || bytes[i] == '\\')
+            put_byte(text, '\\');
+        put_byte(text, bytes[i] == '\n' ? 'n' : bytes[i]);
+    }
+}
+
+/* refusal 24 */
+static int key_is_bad(const uint8_t *key, size_t length)
+{
+    struct text text;
+    int bad;
+    if (length == 0 || key[0] == '#' || !is_settable(key, length))
+        return 1;
+    text = new_text(2 * length);
+    put_escaped(&text, key, length);
+    bad = find_mark(text.bytes, 0, text.length) < text.length;
+    free(text.bytes);
+    return bad;
+}
+
+/* "its count isn't the file's line count, passes the lent table, or an entry differs" */
+static int table_is_bad(const struct header *h, const void *table, size_t table_length, size_t count)
+{
+    if (count != h->reading.lines || count > table_length / 4)
+        return 1;
+    for (size_t i = 0; i < count; i++)
+        if (load(table, i, 4) != h->starts[i])
+            return 1;
+    return 0;
+}
+
+/* "If the key is there, its last line's text is replaced and its ending kept.
+ * If not, a new line goes in right after line 1, with line 1's ending. Text is
+ * key, `:=`, value." */
+static struct text new_file(const struct header *h, const uint8_t *file, size_t used,
+                            const uint8_t *key, size_t key_length,
+                            const uint8_t *value, size_t value_length)
+{
+    const struct pair *pair = last_pair(h, file, key, key_length);
+    struct line first = line_at(file, used, 0);
+    struct text text = new_text(used + 2 * (key_length + value_length) + 4);
+    size_t rest = pair != NULL ? pair->end : first.end;
+    put_bytes(&text, file, pair != NULL ? pair->key : first.end);
+    put_escaped(&text, key, key_length);
+    put_word(&text, ":=");
+    put_escaped(&text, value, value_length);
+    if (pair == NULL)
+        put_bytes(&text, file + first.text, first.end - first.text);
+    put_bytes(&text, file + rest, used - rest);
+    return text;
+}
+
+/* The table of a file whose header has count lines. */
+static void store_table(const struct text *text, size_t count, void *table)
+{
+    size_t start = 0;
+    for (size_t i = 0; i < count; i++) {
+        store(table, i, 4, start);
+        start = line_at(text->bytes, text->length, start).end;
+    }
+}
+
+/* "Setting: 22 if the used length passes the buffer; reading without the
+ * table; 8 in version 1; 24; 25; 26" */
+static craneholt_refusal set_refusal(struct header *h, const uint8_t *buf, size_t buf_length, size_t used,
+                                     const void *table, size_t table_length, size_t count,
+                                     const uint8_t *key, size_t key_length,
+                                     const uint8_t *value, size_t value_length)
+{
+    craneholt_refusal refusal = {0, 0};
+    if (used > buf_length)
+        refusal.number = 22;
+    else if (!read_header(h, buf, used))
+        refusal = h->refusal;
+    else if (h->reading.version == 1)
+        refusal.number = 8;
+    else if (key_is_bad(key, key_length))
+        refusal.number = 24;
+    else if (!is_settable(value, value_length))
+        refusal.number = 25;
+    else if (table_is_bad(h, table, table_length, count))
+        refusal.number = 26;
+    return refusal;
+}
+
+/* "then for the new file 3, 4, 1, 22" */
+static uint32_t new_file_refusal(const struct header *h, size_t used, size_t buf_length, size_t table_length,
+                                 size_t new_used, size_t new_count)
+{
+    if (h->reading.length + new_used - used > HEADER_LIMIT)
+        return 3;
+    if (new_count > LINE_LIMIT)
+        return 4;
+    if (new_used > LIMIT32)
+        return 1;
+    return new_used > buf_length || new_count > table_length / 4 ? 22 : 0;
+}
+
+craneholt_set_answer model_set_key(uint8_t *buf, size_t buf_length, size_t used,
+                                   void *table, size_t table_length, size_t count,
+                                   const uint8_t *key, size_t key_length,
+                                   const uint8_t *value, size_t value_length)
+{
+    struct header h;
+    struct text text;
+    size_t new_count;
+    craneholt_set_answer answer = {{0, 0}, used, count};
+    answer.refusal = set_refusal(&h, buf, buf_length, used, table, table_length, count,
+                                 key, key_length, value, value_length);
+    if (answer.refusal.number != 0)
+        return answer;
+    text = new_file(&h, buf, used, key, key_length, value, value_length);
+    new_count = last_pair(&h, buf, key, key_length) != NULL ? count : count + 1;
+    answer.refusal.number = new_file_refusal(&h, used, buf_length, table_length, text.length, new_count);
+    if (answer.refusal.number == 0) {
+        answer.length = text.length;
+        answer.count = new_count;
+        memcpy(buf, text.bytes, text.length);
+        /* "Buffer bytes vacated by a shorter file become 0" */
+        if (text.length < used)
+            memset(buf + text.length, 0, used - text.length);
+        store_table(&text, new_count, table);
+    }
+    free(text.bytes);
+    return answer;
+}
+
+/* ---- Trials: the listing program */
+
+static void put_refused(struct text *text, craneholt_refusal refusal)
+{
+    put_word(text, "refused ");
+    put_number(text, refusal.number);
+    put_word(text, " line ");
+    put_number(text, refusal.line);
+    put_byte(text, '\n');
+}
+
+/* "Keys stand escaped, in order of their last lines." Both texts stand in the
+ * file escaped; equal keys have equal texts. */
+static void put_keys(struct text *text, const struct header *h, const uint8_t *file)
+{
+    for (size_t i = 0; i < h->pair_count; i++) {
+        const struct pair *p = &h->pairs[i];
+        size_t length = p->mark - p->key, later = i + 1;
+        while (later < h->pair_count
+               && (h->pairs[later].mark - h->pairs[later].key != length
+                   || memcmp(file + h->pairs[later].key, file + p->key, length) != 0))
+            later++;
+        if (later < h->pair_count)
+            continue;
+        put_word(text, "key ");
+        put_bytes(text, file + p->key, length);
+        put_byte(text, '=');
+        put_bytes(text, file + p->mark + 2, p->end - (p->mark + 2));
+        put_byte(text, '\n');
+    }
+}
+
+static void put_reading(struct text *text, const struct header *h, uint64_t start)
+{
+    const craneholt_reading *r = &h->reading;
+    uint64_t version = r->version;
+    put_numbers(text, "version", &version, 1);
+    put_line(text, "form ", r->form == 1 ? "detached" : "attached");
+    put_line(text, "type ", model_types[r->sampletype].names[0]);
+    put_numbers(text, "sizes", r->sizes, r->dimension);
+    put_line(text, "encoding ", model_encodings[r->encoding][0]);
+    put_line(text, "endian ", r->endian == NOT_GIVEN ? "none" : endians[r->endian]);
+    put_numbers(text, "start", &start, 1);
+    put_numbers(text, "extent", &r->extent, 1);
+}
+
+/* "for attached files the data call's refusals count too"; "start is the
+ * data's place in the file, 0 for a detached header" */
+craneholt_write_answer model_listing(const uint8_t *file, size_t file_length, uint8_t *out, size_t out_length)
+{
+    struct header h;
+    struct rest data = {NULL, 0, 0};
+    struct text text = new_text(1024 + 4 * (file_length <= LISTING_LIMIT ? file_length : 0));
+    if (file_length > LISTING_LIMIT)
+        h.refusal = (craneholt_refusal){22, 0};
+    else if (read_header(&h, file, file_length) && h.reading.form == 0)
+        find_data(&h, file, file_length, NULL, 0, 0, &data);
+    if (h.refusal.number != 0) {
+        put_refused(&text, h.refusal);
+    } else {
+        put_reading(&text, &h, data.at);
+        put_keys(&text, &h, file);
+    }
+    return hand_over(text, out, out_length);
+}

@@ -1,0 +1,437 @@
+/*
+ * Runs the vectors of a folder: calls.jsonl, one call a line, and
+ * listing/NNN.in with the text NNN.out. With USE_MODEL the model is run in
+ * place of the library.
+ *
+ *     vectors [folder]
+ */
+#include "calls.h"
+#include "json.h"
+#include "model.h"
+
+#include <stdio.h>
+#include <stdlib.h>
+#include <string.h>
+
+#ifdef USE_MODEL
+static const struct calls calls = CALLS(model);
+#else
+static const struct calls calls = CALLS(craneholt);
+#endif
+
+/* ---- bytes */
+
+struct bytes {
+    uint8_t *at;
+    size_t length;
+};
+
+/* Bytes of a length, all alike, so that a change shows. */
+static struct bytes filled(size_t length)
+{
+    struct bytes b = {malloc(length + 1), length};
+    memset(b.at, 0xa5, length);
+    return b;
+}
+
+static int same(struct bytes a, struct bytes b)
+{
+    return a.length == b.length && memcmp(a.at, b.at, a.length) == 0;
+}
+
+/* True if all bytes from start on are as filled. */
+static int untouched(struct bytes b, size_t start)
+{
+    for (size_t i = start; i < b.length; i++)
+        if (b.at[i] != 0xa5)
+            return 0;
+    return 1;
+}
+
+/* The bytes of a string of hexadecimal digits. */
+static struct bytes of_hex(const struct json *text)
+{
+    struct bytes b = filled(text->length / 2);
+    for (size_t i = 0; i < b.length; i++) {
+        unsigned byte = 0;
+        sscanf(text->text + 2 * i, "%2x", &byte);
+        b.at[i] = (uint8_t)byte;
+    }
+    return b;
+}
+
+/* The bytes of a list of numbers, low byte first. */
+static struct bytes of_numbers(const struct json *list, size_t width)
+{
+    struct bytes b = filled(list->length * width);
+    size_t at = 0;
+    for (const struct json *item = list->first; item != NULL; item = item->next)
+        for (size_t i = 0; i < width; i++)
+            b.at[at++] = (uint8_t)(item->number >> 8 * i);
+    return b;
+}
+
+static struct bytes hex_member(const struct json *v, const char *name)
+{
+    return of_hex(json_member(v, name));
+}
+
+static uint64_t number_member(const struct json *v, const char *name)
+{
+    return json_member(v, name)->number;
+}
+
+/* ---- what is expected */
+
+/* The item of "expect" by its index. */
+static const struct json *expected(const struct json *v, int index)
+{
+    const struct json *item = json_member(v, "expect")->first;
+    while (index-- > 0)
+        item = item->next;
+    return item;
+}
+
+static int is_accepted(const struct json *v)
+{
+    return strcmp(expected(v, 0)->text, "ok") == 0;
+}
+
+/* True if the refusal, or that there is none, is the expected one. */
+static int same_refusal(const struct json *v, craneholt_refusal refusal)
+{
+    if (is_accepted(v))
+        return refusal.number == 0 && refusal.line == 0;
+    return refusal.number == expected(v, 1)->number && refusal.line == expected(v, 2)->number;
+}
+
+/* ---- read */
+
+static int field_is_right(struct bytes file, uint32_t field, const struct json *text)
+{
+    craneholt_find_answer place = calls.find_field(file.at, file.length, field);
+    struct bytes found = {file.at + place.start, place.length}, want;
+    int right;
+    if (place.refusal.number != 0)
+        return 0;
+    if (text == NULL)
+        return !place.found && place.start == 0 && place.length == 0;
+    want = of_hex(text);
+    right = place.found == 1 && same(found, want);
+    free(want.at);
+    return right;
+}
+
+static int fields_are_right(const struct json *v, struct bytes file)
+{
+    const struct json *texts = json_member(v, "expect_fields");
+    for (uint32_t field = 0; field < MODEL_FIELDS; field++)
+        if (!field_is_right(file, field, json_member(texts, model_fields[field].name)))
+            return 0;
+    return field_is_right(file, MODEL_FIELDS, NULL);
+}
+
+/* True if the key has this value; start is where the value of the key before it starts. */
+static int key_is_right(struct bytes file, const struct json *pair, uint64_t *start)
+{
+    struct bytes key = of_hex(pair->first), value = of_hex(pair->first->next);
+    struct bytes out = filled(value.length);
+    craneholt_find_answer place = calls.find_key(file.at, file.length, key.at, key.length);
+    craneholt_value_answer copy =
+        calls.copy_value(file.at, file.length, key.at, key.length, out.at, out.length);
+    int right = place.refusal.number == 0 && place.found == 1 && place.start > *start
+                && copy.refusal.number == 0 && copy.found == 1 && copy.length == value.length
+                && same(out, value);
+    *start = place.start;
+    free(key.at);
+    free(value.at);
+    free(out.at);
+    return right;
+}
+
+/* Keys stand in the order of their last lines. */
+static int keys_are_right(const struct json *v, struct bytes file)
+{
+    const struct json *pair = json_member(v, "expect_keys")->first;
+    uint64_t start = 0;
+    for (; pair != NULL; pair = pair->next)
+        if (!key_is_right(file, pair, &start))
+            return 0;
+    return 1;
+}
+
+static int table_is_right(const struct json *v, struct bytes table, uint32_t lines)
+{
+    struct bytes want = of_numbers(json_member(v, "expect_table"), 4);
+    int right = want.length == 4 * (size_t)lines && memcmp(table.at, want.at, want.length) == 0
+                && untouched(table, want.length);
+    free(want.at);
+    return right;
+}
+
+static int same_reading(const craneholt_reading *a, const craneholt_reading *b)
+{
+    return a->version == b->version && a->form == b->form && a->dimension == b->dimension
+           && a->sampletype == b->sampletype && a->encoding == b->encoding && a->endian == b->endian
+           && memcmp(a->sizes, b->sizes, sizeof a->sizes) == 0 && a->lineskip == b->lineskip
+           && a->byteskip == b->byteskip && a->extent == b->extent && a->length == b->length
+           && a->lines == b->lines;
+}
+
+/* What both reading calls must answer for a header that is accepted. */
+static int reading_is_right(const struct json *v, struct bytes file, const craneholt_reading *r)
+{
+    const char *form = json_member(v, "expect_form")->text;
+    craneholt_read_answer again = calls.read_header(file.at, file.length);
+    return again.refusal.number == 0 && same_reading(&again.reading, r)
+           && r->version == number_member(v, "expect_version")
+           && r->form == (strcmp(form, "detached") == 0)
+           && r->length == number_member(v, "expect_header_length")
+           && fields_are_right(v, file) && keys_are_right(v, file);
+}
+
+/* What both reading calls must answer for a refused header. */
+static int no_reading_is_right(const struct json *v, struct bytes file, const craneholt_reading *r)
+{
+    static const craneholt_reading blank;
+    craneholt_read_answer without = calls.read_header(file.at, file.length);
+    if (!same_reading(r, &blank))
+        return 0;
+    if (expected(v, 1)->number == 22)
+        return without.refusal.number == 0;
+    return same_refusal(v, without.refusal) && same_reading(&without.reading, &blank);
+}
+
+static int run_read(const struct json *v)
+{
+    struct bytes file = hex_member(v, "file"), table = filled(4 * number_member(v, "room"));
+    craneholt_read_answer answer = calls.read(file.at, file.length, table.at, table.length);
+    int right = same_refusal(v, answer.refusal);
+    if (right && is_accepted(v))
+        right = reading_is_right(v, file, &answer.reading) && table_is_right(v, table, answer.reading.lines);
+    else if (right)
+        right = no_reading_is_right(v, file, &answer.reading) && untouched(table, 0);
+    free(file.at);
+    free(table.at);
+    return right;
+}
+
+/* ---- the other calls */
+
+static int run_data(const struct json *v)
+{
+    struct bytes file = hex_member(v, "file"), second = hex_member(v, "second");
+    craneholt_data_answer answer = calls.data(file.at, file.length, second.at, second.length);
+    int right = same_refusal(v, answer.refusal);
+    if (is_accepted(v))
+        right = right && answer.second == (strcmp(expected(v, 1)->text, "second") == 0)
+                && answer.start == expected(v, 2)->number && answer.length == expected(v, 3)->number;
+    else
+        right = right && answer.second == 0 && answer.start == 0 && answer.length == 0;
+    free(file.at);
+    free(second.at);
+    return right;
+}
+
+static int run_samples(const struct json *v)
+{
+    struct bytes file = hex_member(v, "file"), second = hex_member(v, "second");
+    struct bytes list = filled(8 * number_member(v, "room")), want = filled(0);
+    craneholt_count_answer check =
+        calls.check_samples(file.at, file.length, second.at, second.length, number_member(v, "room"));
+    craneholt_count_answer answer =
+        calls.samples(file.at, file.length, second.at, second.length, list.at, list.length);
+    int right;
+    if (is_accepted(v)) {
+        free(want.at);
+        want = of_numbers(expected(v, 1), 8);
+    }
+    right = same_refusal(v, answer.refusal) && same_refusal(v, check.refusal)
+            && answer.count == want.length / 8 && check.count == answer.count
+            && memcmp(list.at, want.at, want.length) == 0 && untouched(list, want.length);
+    free(file.at);
+    free(second.at);
+    free(list.at);
+    free(want.at);
+    return right;
+}
+
+static int run_coords(const struct json *v)
+{
+    struct bytes file = hex_member(v, "file"), coords = of_numbers(json_member(v, "coords"), 8);
+    craneholt_number_answer answer = calls.sample_number(file.at, file.length, coords.at, coords.length);
+    int right = same_refusal(v, answer.refusal)
+                && answer.number == (is_accepted(v) ? expected(v, 1)->number : 0);
+    free(file.at);
+    free(coords.at);
+    return right;
+}
+
+static int run_write(const struct json *v)
+{
+    struct bytes sizes = of_numbers(json_member(v, "sizes"), 8), out = filled(number_member(v, "room"));
+    struct bytes samples = of_numbers(json_member(v, "samples"), 8);
+    struct bytes want = is_accepted(v) ? of_hex(expected(v, 1)) : filled(0);
+    craneholt_write_answer answer =
+        calls.write(number_member(v, "version"), sizes.at, sizes.length, number_member(v, "type"),
+                    number_member(v, "encoding"), number_member(v, "endian"),
+                    samples.at, samples.length, out.at, out.length);
+    int right = same_refusal(v, answer.refusal) && answer.length == want.length
+                && memcmp(out.at, want.at, want.length) == 0 && untouched(out, want.length);
+    free(sizes.at);
+    free(samples.at);
+    free(out.at);
+    free(want.at);
+    return right;
+}
+
+static int run_set(const struct json *v)
+{
+    struct bytes buffer = hex_member(v, "buffer"), want_buffer = hex_member(v, "expect_buffer");
+    struct bytes table = of_numbers(json_member(v, "table"), 4);
+    struct bytes want_table = of_numbers(json_member(v, "expect_table"), 4);
+    struct bytes key = hex_member(v, "key"), value = hex_member(v, "value");
+    uint64_t used = number_member(v, "used"), count = number_member(v, "count");
+    craneholt_set_answer answer =
+        calls.set_key(buffer.at, buffer.length, used, table.at, table.length, count,
+                      key.at, key.length, value.at, value.length);
+    int right = same_refusal(v, answer.refusal)
+                && answer.length == (is_accepted(v) ? expected(v, 1)->number : used)
+                && answer.count == (is_accepted(v) ? expected(v, 2)->number : count)
+                && same(buffer, want_buffer) && same(table, want_table);
+    free(buffer.at);
+    free(want_buffer.at);
+    free(table.at);
+    free(want_table.at);
+    free(key.at);
+    free(value.at);
+    return right;
+}
+
+/* ---- listings */
+
+/* The listing into a buffer that is long enough, exactly, and one byte too short. */
+static int listing_is_right(struct bytes file, struct bytes want)
+{
+    for (int more = -1; more <= 1; more++) {
+        struct bytes out = filled(want.length + (size_t)more);
+        craneholt_write_answer answer = calls.listing(file.at, file.length, out.at, out.length);
+        uint64_t length = more < 0 ? 0 : want.length;
+        int right = answer.refusal.number == (more < 0 ? 22 : 0) && answer.refusal.line == 0
+                    && answer.length == length && memcmp(out.at, want.at, length) == 0
+                    && untouched(out, length);
+        free(out.at);
+        if (!right)
+            return 0;
+    }
+    return 1;
+}
+
+static int run_listing(const struct json *v)
+{
+    struct bytes file = hex_member(v, "file");
+    struct bytes want = {(uint8_t *)expected(v, 1)->text, expected(v, 1)->length};
+    int right = listing_is_right(file, want);
+    free(file.at);
+    return right;
+}
+
+/* ---- files and counts */
+
+static struct {
+    const char *name;
+    int (*run)(const struct json *);
+    int passed, total;
+} ops[] = {
+    {"read", run_read, 0, 0},       {"data", run_data, 0, 0},   {"samples", run_samples, 0, 0},
+    {"coords", run_coords, 0, 0},   {"write", run_write, 0, 0}, {"set", run_set, 0, 0},
+    {"listing", run_listing, 0, 0}, {"listing files", NULL, 0, 0},
+};
+
+enum { OPS = sizeof ops / sizeof ops[0], LISTING_FILES = OPS - 1 };
+
+static void count(int op, int passed, const char *where, int number)
+{
+    ops[op].total++;
+    ops[op].passed += passed;
+    if (!passed)
+        printf("failed: %s, %s %d\n", ops[op].name, where, number);
+}
+
+static void run_line(const char *text, int number)
+{
+    struct json *v = json_read(text);
+    const char *name = json_member(v, "op")->text;
+    int op = 0;
+    while (op < LISTING_FILES && strcmp(ops[op].name, name) != 0)
+        op++;
+    count(op, op < LISTING_FILES && ops[op].run(v), "line", number);
+    json_free(v);
+}
+
+/* The bytes of a file; at is NULL if there is none. */
+static struct bytes load(const char *path)
+{
+    struct bytes b = {NULL, 0};
+    FILE *file = fopen(path, "rb");
+    long length;
+    if (file == NULL)
+        return b;
+    fseek(file, 0, SEEK_END);
+    length = ftell(file);
+    rewind(file);
+    b = filled((size_t)length);
+    if (fread(b.at, 1, b.length, file) != b.length)
+        b.length = 0;
+    fclose(file);
+    return b;
+}
+
+/* The lines of calls.jsonl. */
+static void run_calls(const char *folder)
+{
+    char path[4096];
+    struct bytes text;
+    int number = 0;
+    snprintf(path, sizeof path, "%s/calls.jsonl", folder);
+    text = load(path);
+    if (text.at == NULL)
+        return;
+    text.at[text.length] = '\0';
+    for (char *line = strtok((char *)text.at, "\n"); line != NULL; line = strtok(NULL, "\n"))
+        run_line(line, ++number);
+    free(text.at);
+}
+
+/* The listing of one file; false if there is none of this number. */
+static int run_listing_file(const char *folder, int number)
+{
+    char path[4096];
+    struct bytes in, out;
+    snprintf(path, sizeof path, "%s/listing/%03d.in", folder, number);
+    in = load(path);
+    if (in.at == NULL)
+        return 0;
+    snprintf(path, sizeof path, "%s/listing/%03d.out", folder, number);
+    out = load(path);
+    count(LISTING_FILES, out.at != NULL && listing_is_right(in, out), "file", number);
+    free(in.at);
+    free(out.at);
+    return 1;
+}
+
+int main(int arguments, char **argument)
+{
+    const char *folder = arguments > 1 ? argument[1] : "tests/vectors";
+    int passed = 0, total = 0;
+    run_calls(folder);
+    for (int number = 0; run_listing_file(folder, number); number++)
+        continue;
+    for (int op = 0; op < OPS; op++) {
+        printf("%s: %d of %d\n", ops[op].name, ops[op].passed, ops[op].total);
+        passed += ops[op].passed;
+        total += ops[op].total;
+    }
+    printf("%d passed, %d failed\n", passed, total - passed);
+    return passed == total && total > 0 ? 0 : 1;
+}
