@@ -38,24 +38,29 @@ list: $(LISTING)
 
 TESTS = include/craneholt.h tests/calls.h tests/model.h tests/generate.h tests/json.h $(ARCHIVE)
 
-$(BUILD)/vectors: tests/vectors.c tests/json.c $(TESTS)
+$(BUILD)/vectors: tests/vectors.c tests/json.c tests/model.c $(TESTS)
 	@mkdir -p $(BUILD)
-	$(CC) $(STRICT) $(SANITIZE) -Iinclude tests/vectors.c tests/json.c $(ARCHIVE) -o $@
+	$(CC) $(STRICT) $(SANITIZE) -Iinclude tests/vectors.c tests/json.c tests/model.c $(ARCHIVE) -o $@
 
 $(BUILD)/random: tests/random.c tests/generate.c tests/model.c $(TESTS)
 	@mkdir -p $(BUILD)
 	$(CC) $(STRICT) $(SANITIZE) -Iinclude tests/random.c tests/generate.c tests/model.c $(ARCHIVE) -o $@
 
-$(BUILD)/tokens: tests/tokens.c $(TESTS)
+$(BUILD)/tokens: tests/tokens.c tests/model.c $(TESTS)
 	@mkdir -p $(BUILD)
-	$(CC) $(STRICT) $(CFLAGS) -pthread -Iinclude tests/tokens.c $(ARCHIVE) -o $@
+	$(CC) $(STRICT) $(CFLAGS) -pthread -Iinclude tests/tokens.c tests/model.c $(ARCHIVE) -o $@
+
+$(BUILD)/empty: tests/empty.c $(TESTS)
+	@mkdir -p $(BUILD)
+	$(CC) $(STRICT) $(SANITIZE) -Iinclude tests/empty.c $(ARCHIVE) -o $@
 
 $(BUILD)/%: examples/%.c examples/files.h include/craneholt.h $(ARCHIVE)
 	@mkdir -p $(BUILD)
 	$(CC) $(STRICT) $(CFLAGS) -Iinclude $< $(ARCHIVE) -o $@
 
-check: $(BUILD)/vectors $(BUILD)/random $(BUILD)/tokens $(BUILD)/correct $(BUILD)/merge
+check: $(BUILD)/vectors $(BUILD)/empty $(BUILD)/random $(BUILD)/tokens $(BUILD)/correct $(BUILD)/merge
 	$(BUILD)/vectors tests/vectors
+	$(BUILD)/empty
 	$(BUILD)/random
 	$(BUILD)/tokens
 	CC="$(CC)" CXX="$(CXX)" sh tests/install.sh
