@@ -18,7 +18,7 @@ ghost use Rattle.format.specs.declared.SetAnswer.{SetAnswer};
 ghost use Rattle.format.specs.Limits.{maxLines};
 ghost use Rattle.format.specs.Boundary.{entryBytes};
 ghost use Rattle.format.specs.Calls.{readHeaderCall, findFieldCall, findKeyCall, copyValueCall, dataPlaceCall, checkSamplesCall};
-ghost use Rattle.craneholt.specs.EntryPoints.{readEntry, samplesEntry, sampleNumberEntry, setKeyEntry};
+ghost use Rattle.craneholt.specs.EntryPoints.{readEntry, samplesEntry, sampleNumberEntry, writeEntry, setKeyEntry};
 ghost use Rattle.describe.specs.Shown.{listingCall};
 
 // How many entries a table of so many bytes has, at most 1,024: no header has more lines.
@@ -108,6 +108,22 @@ pub extern "C" fn craneholt_sample_number(file: &[u8], coords: &[u8]) -> NumberA
     let mut local = [0u64; 17];
     let n = words::numbers(coords, &mut local);
     volume::axes::sample_number(file, &local[..n])
+}
+
+// Writes the samples, 8 bytes each as the sizes are, as an attached file to the front of `out`.
+#[no_mangle]
+pub extern "C" fn craneholt_write(
+    version: u64,
+    sizes: &[u8],
+    sampletype: u64,
+    encoding: u64,
+    endian: u64,
+    samples: &[u8],
+    out: &mut [u8],
+) -> WriteAnswer
+    ensures { λ r. ⌜ _≡_ {A = WriteAnswer × List ℕ} (r, now (out .exit)) (writeEntry version (now (sizes .entry)) sampletype encoding endian (now (samples .entry)) (now (out .entry))) ⌝ }
+{
+    writer::write_bytes(version, sizes, sampletype, encoding, endian, samples, out)
 }
 
 // Sets a key to a value in the file in the first `used` bytes of a buffer, whose line table has `count` entries, 4 bytes each.

@@ -76,7 +76,7 @@ pub fn signed_of(x: u64) -> i64
 }
 
 // The bits of a sample.
-fn bits_of(z: i64) -> u64
+pub fn bits_of(z: i64) -> u64
     ensures { λ r. ⌜ r ≡ fromSigned 8 z ⌝ }
 {
     let low = (z & 9223372036854775807) as u64;

@@ -132,7 +132,7 @@ module _ (k n : ℕ) (d : List ℕ) (at o : ℕ) where
       ap (sets (sets d at (digits a (n / 10 ^ k))) o) (digits-last k n) ∙ sets-then d (digits a (n / 10 ^ k)) (digits k n) at o l ∙ ap (sets d at) (sym (digits-split a k n))
 
 -- three digits, by the first one and the last two
-pub three-stored : (d : List ℕ) (at n : ℕ) → 100 ≤ n → n < 1000 → sets (set d at (48 + n / 100)) (at + 1) (digits 2 (n % 100)) ≡ sets d at (decimal n)
-three-stored d at n h l =
+pub first-digit-stored : (d : List ℕ) (at n : ℕ) → 100 ≤ n → n < 1000 → sets (set d at (48 + n / 100)) (at + 1) (digits 2 (n % 100)) ≡ sets d at (decimal n)
+first-digit-stored d at n h l =
     let e : decimal (n / 100) ≡ digit (n / 100) ∷ [] = decimal-one (n / 100) (omega arith) in
     ap (λ (s : List ℕ). sets (sets d at s) (at + 1) (digits 2 (n % 100))) (sym e) ∙ decimal-stored 2 n d at (at + 1) h (omega (arith, ap length e))

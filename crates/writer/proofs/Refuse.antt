@@ -123,13 +123,16 @@ floating-is : (t : ℕ) → t < 10 → isFloating (numberKind t) ≡ leb 8 t
 unfolding typeAt
 floating-is = below-10 (λ t. isFloating (numberKind t) ≡ leb 8 t) refl refl refl refl refl refl refl refl refl refl
 
-module _ (version : ℕ) (sizes : List ℕ) (t e endian : ℕ) (zs : List ℤ) where
-  pub early-11 : writable version sizes t e endian ≡ false → 11 ≡ earlyRefusal version sizes t e endian zs
-  unfolding earlyRefusal
-  early-11 q = rw q
+pub early-11 : (version : ℕ) (sizes : List ℕ) (t e endian : ℕ) (zs : List ℤ) (b : Bool) → b ≡ writable version sizes t e endian → b ≡ false → 11 ≡ earlyRefusal version sizes t e endian zs
+unfolding earlyRefusal
+early-11 version sizes t e endian zs b eb q = rw (sym eb, q)
 
-  module _ (ok : writable version sizes t e endian ≡ true) (known : Numbers version sizes t e endian) (n w x : ℕ)
-      (en : n ≡ min (product sizes) 4294967296) (ew : w ≡ sampleBytes t) (ex : x ≡ min (n * w) 4294967296) where
+module _ {version : ℕ} {sizes : List ℕ} {t e endian : ℕ} (zs : List ℤ) where
+  module _ {b : Bool} (eb : b ≡ writable version sizes t e endian) (yes : b ≡ true) (known : Numbers version sizes t e endian) {n m w x : ℕ}
+      (en : n ≡ min (product sizes) 4294967296) (em : m ≡ length zs) (ew : w ≡ sampleBytes t) (ex : x ≡ min (n * w) 4294967296) where
+    ok : writable version sizes t e endian ≡ true
+    ok = sym eb ∙ yes
+
     size : x ≡ min (extent sizes t) 4294967296
     size = ex ∙ ap (λ (k : ℕ). min (k * w) 4294967296) en ∙ ap (λ (k : ℕ). min (min (product sizes) 4294967296 * k) 4294967296) ew ∙ capped (product sizes) (sampleBytes t)
 
@@ -149,20 +152,20 @@ module _ (version : ℕ) (sizes : List ℕ) (t e endian : ℕ) (zs : List ℤ) w
         exact : n ≡ product sizes
         exact = omega (arith, en, within, le-mul-of-pos-right (product sizes) (sample-bytes t (known .type-in)))
 
-        pub early-27 : (length zs ≡ n → ⊥) → 27 ≡ earlyRefusal version sizes t e endian zs
+        pub early-27 : (m ≡ n → ⊥) → 27 ≡ earlyRefusal version sizes t e endian zs
         unfolding earlyRefusal
         early-27 h =
-            rw (ok, le-ltb maxExtent (extent sizes t) within, floating-is t (known .type-in), lt-leb 8 t integer, ne-eqb (length zs) (product sizes) (λ q. h (q ∙ sym exact)))
+            rw (ok, le-ltb maxExtent (extent sizes t) within, floating-is t (known .type-in), lt-leb 8 t integer, ne-eqb (length zs) (product sizes) (λ q. h (em ∙ q ∙ sym exact)))
 
-        module _ (count : length zs ≡ n) (low high : ℕ) (el : low ≡ lowest (numberKind t) (sampleBytes t)) (eh : high ≡ highest (numberKind t) (sampleBytes t))
-            (fine : Bool) (ef : fine ≡ allInRange low high zs) where
+        module _ (count : m ≡ n) {low high : ℕ} (el : low ≡ lowest (numberKind t) (sampleBytes t)) (eh : high ≡ highest (numberKind t) (sampleBytes t))
+            {fine : Bool} (ef : fine ≡ allInRange low high zs) where
           all-is : allInType (numberKind t) (sampleBytes t) zs ≡ fine
           all-is = sym (ef ∙ ap (λ (k : ℕ). allInRange k high zs) el ∙ ap (λ (k : ℕ). allInRange (lowest (numberKind t) (sampleBytes t)) k zs) eh ∙ all-in-range (numberKind t) (sampleBytes t) zs)
 
           tests : earlyRefusal version sizes t e endian zs ≡ (if not fine then 20 else 0)
           unfolding earlyRefusal
           tests =
-              rw (ok, le-ltb maxExtent (extent sizes t) within, floating-is t (known .type-in), lt-leb 8 t integer, eq-eqb (length zs) (product sizes) (count ∙ exact), all-is)
+              rw (ok, le-ltb maxExtent (extent sizes t) within, floating-is t (known .type-in), lt-leb 8 t integer, eq-eqb (length zs) (product sizes) (sym em ∙ count ∙ exact), all-is)
 
           pub early-20 : fine ≡ false → 20 ≡ earlyRefusal version sizes t e endian zs
           early-20 h = sym (tests ∙ ap (λ (b : Bool). if not b then 20 else 0) h)
@@ -173,6 +176,6 @@ module _ (version : ℕ) (sizes : List ℕ) (t e endian : ℕ) (zs : List ℤ) w
           pub ready : fine ≡ true → Ready version sizes t e endian zs
           ready h = record {
             numbers = known;
-            extent-small = omega (arith, ap (λ (k : ℕ). k * sampleBytes t) (count ∙ exact), within);
+            extent-small = omega (arith, ap (λ (k : ℕ). k * sampleBytes t) (sym em ∙ count ∙ exact), within);
             in-type = all-is ∙ h;
           }

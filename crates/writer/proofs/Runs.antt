@@ -2,9 +2,9 @@
 -- Assumes nothing.
 use mathlib.Core.Path.{_≡_, refl, sym, ap, _∙_}
 use mathlib.Core.Bool.{Bool, true, false}
-use mathlib.Core.List.{List, [], _∷_, _++_, append-assoc, flatMap, reverse, reverse-cons}
-use Prim.Native.Nat.{ℕ, suc, _+_, _*_, _-_, _/_, _%_, _≤_, _<_}
-use native.Mathlib.Nat.{add-zero, add-suc, suc-add, le-step, ne-of-gt, sub-zero, zero-mul, suc-mul}
+use mathlib.Core.List.{List, [], _∷_, _++_, flatMap, reverse, reverse-cons}
+use Prim.Native.Nat.{ℕ, suc, _+_, _-_, _/_, _%_, _≤_, _<_}
+use native.Mathlib.Nat.{add-zero, add-suc, suc-add, le-step, ne-of-gt, sub-zero}
 use native.Mathlib.Numerals.{add-one}
 use native.Mathlib.Omega.{arith}
 use lib.Dec.{eqb}
@@ -14,6 +14,8 @@ use Rattle.format.specs.Bytes.{if_then_else_}
 use Rattle.format.specs.Descriptors.{big}
 use Rattle.format.specs.Samples.{toBytes, ordered}
 use Rattle.format.proofs.Samples.{length-to-bytes}
+use Rattle.words.proofs.Stores.{flat-append}
+pub use Rattle.words.proofs.Stores.{sets-then}
 
 module _ {ℓ} {A : Type ℓ} where
   -- a store below a run
@@ -21,12 +23,6 @@ module _ {ℓ} {A : Type ℓ} where
   set-sets [] l i j a h = refl
   set-sets (v ∷ vs) l i j a h =
       set-sets vs (set l j v) i (suc j) a (le-step h) ∙ ap (λ (m : List A). sets m (suc j) vs) (set-comm l j i v a (ne-of-gt h))
-
-  -- a run and the run that follows it
-  pub sets-append : (u v l : List A) (i : ℕ) → sets l i (u ++ v) ≡ sets (sets l i u) (i + length u) v
-  sets-append [] v l i = ap (λ (k : ℕ). sets l k v) (sym (add-zero i))
-  sets-append (x ∷ u) v l i =
-      sets-append u v (set l i x) (suc i) ∙ ap (λ (k : ℕ). sets (sets (set l i x) (suc i) u) k v) (suc-add i (length u) ∙ sym (add-suc i (length u)))
 
   -- a run and the run before it, stored after it
   pub sets-before : (u v l : List A) (i : ℕ) → sets (sets l (i + length u) v) i u ≡ sets l i (u ++ v)
@@ -36,10 +32,6 @@ module _ {ℓ} {A : Type ℓ} where
       ∙ ap (λ (k : ℕ). sets (sets (set l i x) k v) (suc i) u) (add-suc i (length u) ∙ sym (suc-add i (length u)))
       ∙ sets-before u v (set l i x) (suc i)
 
-  -- a run and the run after it, where that begins at a place known by an equation
-  pub sets-then : (l u v : List A) (i k : ℕ) → k ≡ i + length u → sets (sets l i u) k v ≡ sets l i (u ++ v)
-  sets-then l u v i k e = ap (λ (j : ℕ). sets (sets l i u) j v) e ∙ sym (sets-append u v l i)
-
   -- one element, and a run after it
   pub set-then : (l v : List A) (i : ℕ) (a : A) → sets (set l i a) (i + 1) v ≡ sets l i (a ∷ v)
   set-then l v i a = ap (λ (k : ℕ). sets (set l i a) k v) (add-one i)
@@ -48,26 +40,6 @@ module _ {ℓ} {A : Type ℓ} where
   pub set-under : (l v : List A) (i : ℕ) (a : A) → 1 ≤ length v → sets (set l i a) i v ≡ sets l i v
   set-under l [] i a h = absurd (omega arith)
   set-under l (b ∷ v) i a h = ap (λ (m : List A). sets m (suc i) v) (set-set l i a b)
-
--- ---- f of each element
-
-module _ {A : Type 0} (f : A → List ℕ) where
-  flat-append : (u v : List A) → flatMap f (u ++ v) ≡ flatMap f u ++ flatMap f v
-  unfolding flatMap
-  flat-append [] v = refl
-  flat-append (a ∷ u) v = rw (flat-append u v, append-assoc)
-
-  -- f of each element has w bytes
-  pub flat-const : (w : ℕ) → ((z : A) → length (f z) ≡ w) → (zs : List A) → length (flatMap f zs) ≡ length zs * w
-  unfolding flatMap
-  flat-const w size [] = sym (zero-mul w)
-  flat-const w size (z ∷ zs) = length-append (f z) (flatMap f zs) ∙ omega (arith, size z, flat-const w size zs, suc-mul (length zs) w)
-
--- bytes one by one
-pub flat-each : (s : List ℕ) → flatMap (λ b. b ∷ []) s ≡ s
-unfolding flatMap
-flat-each [] = refl
-flat-each (b ∷ s) = rw (flat-each s)
 
 -- ---- the elements of zs from i on
 

@@ -22,7 +22,8 @@ use Rattle.format.proofs.Bytes.{and-left, and-right}
 use Rattle.format.proofs.Samples.{length-to-bytes, length-ordered, length-value-bytes}
 use Rattle.writer.specs.Stored.{lowBytes, textLine, inRange, allInRange, Width}
 use Rattle.writer.proofs.Digits.{at-most-20}
-use Rattle.writer.proofs.Runs.{flat-const, flat-parts}
+use Rattle.writer.proofs.Runs.{flat-parts}
+use Rattle.words.proofs.Stores.{flat-length}
 
 -- ---- text
 
@@ -68,7 +69,7 @@ pub low-size : (w endian : ℕ) (z : ℤ) → length (lowBytes w endian z) ≡ w
 low-size w endian z = length-ordered endian (toBytes w (fromSigned 8 z)) ∙ length-to-bytes w (fromSigned 8 z)
 
 pub part-length : (w endian from to : ℕ) (zs : List ℤ) → to ≤ length zs → length (flatMap (lowBytes w endian) (slice from to zs)) ≡ (to - from) * w
-part-length w endian from to zs h = flat-const (lowBytes w endian) w (low-size w endian) (slice from to zs) ∙ ap (λ (k : ℕ). k * w) (length-slice from to zs h)
+part-length w endian from to zs h = flat-length (lowBytes w endian) w (low-size w endian) (slice from to zs) ∙ mul-comm w (length (slice from to zs)) ∙ ap (λ (k : ℕ). k * w) (length-slice from to zs h)
 
 -- ---- bytes
 
@@ -169,7 +170,7 @@ pub twice : (n w : ℕ) → n * (2 * w) ≡ 2 * (n * w)
 twice n w = mul-left-comm n 2 w
 
 pub hex-whole : (w endian : ℕ) (zs : List ℤ) → length (hexText (flatMap (lowBytes w endian) zs)) ≡ length zs * (2 * w)
-hex-whole w endian zs = omega (arith, hex-length (flatMap (lowBytes w endian) zs), flat-const (lowBytes w endian) w (low-size w endian) zs, twice (length zs) w)
+hex-whole w endian zs = omega (arith, hex-length (flatMap (lowBytes w endian) zs), flat-length (lowBytes w endian) w (low-size w endian) zs, mul-comm w (length zs), twice (length zs) w)
 
 module _ (encoding w endian : ℕ) (zs : List ℤ) where
   pub raw-is : encoding ≡ 0 → dataBytes encoding w endian zs ≡ rawData w endian zs

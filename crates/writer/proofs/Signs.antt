@@ -1,95 +1,32 @@
--- Laws of signed samples: the magnitude and the sign give the bits, and these give the range and the text.
+-- Laws of signed samples: from their bits come the bytes, the range and the text.
 -- Assumes nothing.
 use mathlib.Core.Path.{_≡_, refl, sym, ap, _∙_}
 use mathlib.Core.Bool.{Bool, true, false}
 use mathlib.Core.List.{List}
 use lib.Dec.{ltb, leb}
-use Prim.Native.Nat.{ℕ, suc, _+_, _-_, _%_, _≤_, _<_}
+use Prim.Native.Nat.{ℕ, suc, _+_, _*_, _-_, _/_, _%_, _≤_, _<_}
 use native.Mathlib.Nat.{add-zero}
 use native.Mathlib.Omega.{arith}
 use borrow.Author.Tests.{ltb-true, ltb-false, lt-ltb, le-ltb, leb-true, leb-false, le-leb, lt-leb}
-use lib.ListN.{length, set}
-use lib.Seq.{sets}
-use lib.IntN.{ℤ, pos, negsuc, _-ℤ_}
-use lib.Signed.{mag, ltZ}
-use mir.Val.{SFits, toZ, ofZ}
+use lib.ListN.{length, getD, set, take, drop, length-drop}
+use lib.Seq.{sets, length-take-le}
+use lib.IntN.{ℤ, pos, negsuc}
+use lib.Signed.{mag}
+use mir.Val.{toZ, ofZ}
 use mir.Syntax.{w64}
 use mir.Facts.{toZ-ofZ}
 use Rattle.format.specs.Bytes.{if_then_else_}
-use Rattle.format.specs.Samples.{toBytes, ordered, toSigned, fromSigned}
+use Rattle.format.specs.Samples.{fromBytes, toBytes, ordered, toSigned, fromSigned, sampleValue}
+use Rattle.format.specs.Boundary.{samplesLent}
 use Rattle.format.specs.Writer.{decimal, signedDecimal}
 use Rattle.format.proofs.Writer.{decimal-not-empty}
+use Rattle.words.proofs.Groups.{lent-room, sample-at}
 use Rattle.writer.specs.Stored.{lowBytes, inRange, signLength, absolute}
 use Rattle.writer.proofs.Runs.{set-then, set-under}
 
 -- a sample that is read from a list is itself
 pub read-back : (z : ℤ) → mag z < 9223372036854775808 → toZ w64 (ofZ w64 z) ≡ z
 read-back z h = toZ-ofZ {w = w64} {z = z} (record { sfits = h })
-
-less : (n : ℕ) → negsuc 0 -ℤ negsuc n ≡ pos n
-less n =
-    let q : suc n - 1 ≡ n = omega arith in
-    rw (le-ltb (suc n) 1 (omega arith)) (ap pos q)
-
-module _ (z : ℤ) (h : SFits w64 z) where
-  is : toZ w64 (ofZ w64 z) ≡ z
-  is = toZ-ofZ h
-
-  module _ (t : ltZ (toZ w64 (ofZ w64 z)) (pos 0) ≡ true) where
-    below : ltZ z (pos 0) ≡ true
-    below = rw is at t
-
-    part : negsuc 0 -ℤ toZ w64 (ofZ w64 z) ≡ pos (mag z)
-    part = rw is (go z below)
-      where
-        go : (z : ℤ) → ltZ z (pos 0) ≡ true → negsuc 0 -ℤ z ≡ pos (mag z)
-        go (pos n) t = absurd (omega (arith, ltb-true n 0 t))
-        go (negsuc n) t = less n
-
-    pub neg-sfits : SFits w64 (negsuc 0 -ℤ toZ w64 (ofZ w64 z))
-    neg-sfits = rw part (record { sfits = h .sfits })
-
-    pub neg-value : toZ w64 (ofZ w64 (negsuc 0 -ℤ toZ w64 (ofZ w64 z))) ≡ pos (mag z)
-    neg-value = toZ-ofZ neg-sfits ∙ part
-
-  module _ (t : ltZ (toZ w64 (ofZ w64 z)) (pos 0) ≡ false) where
-    not-below : ltZ z (pos 0) ≡ false
-    not-below = rw is at t
-
-    pub pos-value : toZ w64 (ofZ w64 z) ≡ pos (mag z)
-    pos-value = is ∙ go z not-below
-      where
-        go : (z : ℤ) → ltZ z (pos 0) ≡ false → z ≡ pos (mag z)
-        go (pos n) t = refl
-        go (negsuc n) t = absurd (let e : _≡_ {A = ℕ} 0 1 = cc in omega arith)
-
--- ---- a sample by its magnitude m and its sign
-
-none-below : {P : Type 0} (n : ℕ) → ltZ (pos n) (pos 0) ≡ true → P
-none-below n t = absurd (omega (arith, ltb-true n 0 t))
-
-all-below : {P : Type 0} → _≡_ {A = Bool} true false → P
-all-below t = absurd (let e : _≡_ {A = ℕ} 0 1 = cc in omega arith)
-
-bits-below : (z : ℤ) → ltZ z (pos 0) ≡ true → 18446744073709551615 - mag z ≡ fromSigned 8 z
-bits-below (pos n) t = none-below n t
-bits-below (negsuc n) t = refl
-
-bits-above : (z : ℤ) → ltZ z (pos 0) ≡ false → mag z ≡ fromSigned 8 z
-bits-above (pos n) t = refl
-bits-above (negsuc n) t = all-below t
-
-module _ (z : ℤ) (h : SFits w64 z) (m : ℕ) (e : m ≡ mag (toZ w64 (ofZ w64 z))) where
-  mag-is : m ≡ mag z
-  mag-is = e ∙ ap mag (is z h)
-
-  module _ (t : ltZ (toZ w64 (ofZ w64 z)) (pos 0) ≡ true) where
-    pub bits-neg : 18446744073709551615 - m ≡ fromSigned 8 z
-    bits-neg = rw mag-is (bits-below z (below z h t))
-
-  module _ (t : ltZ (toZ w64 (ofZ w64 z)) (pos 0) ≡ false) where
-    pub bits-pos : m ≡ fromSigned 8 z
-    bits-pos = mag-is ∙ bits-above z (not-below z h t)
 
 -- ---- bits to samples and back
 
@@ -99,6 +36,13 @@ signed-back (negsuc n) h =
     let x : ℕ = 18446744073709551615 - n in
     let e : 18446744073709551615 - x ≡ n = omega arith in
     rw (le-ltb x 9223372036854775808 (omega arith)) (ap negsuc e)
+
+-- the sample at k of lent bytes, from its bits
+pub word-sample : (s : List ℕ) (k : ℕ) → k < length s / 8 → toSigned 8 (fromBytes (take 8 (drop (8 * k) s))) ≡ getD (samplesLent s) k (pos 0)
+unfolding sampleValue
+word-sample s k h =
+    let l : length (take 8 (drop (8 * k) s)) ≡ 8 = length-take-le 8 (drop (8 * k) s) (omega (arith, length-drop (8 * k) s, lent-room fromBytes 8 s k h)) in
+    sym (sample-at s k (pos 0) h ∙ ap (λ (w : ℕ). toSigned w (fromBytes (take 8 (drop (8 * k) s)))) l)
 
 pub signed-not-empty : (x : ℕ) → 1 ≤ length (signedDecimal (toSigned 8 x))
 signed-not-empty x = go (toSigned 8 x)

@@ -12,8 +12,13 @@ use Rattle.format.specs.Limits.{maxFile, maxExtent}
 use Rattle.format.specs.declared.WriteAnswer.{WriteAnswer}
 use Rattle.format.specs.Refusals.{refusal, fileTooLong, badDescriptor, extentTooLarge, floatSamples, badSample, lentTooShort, wrongCount}
 use Rattle.format.specs.Descriptors.{typeAt, typeName, encodings, endians, sampleBytes, numberKind, isFloating, endianNeeded, product, extent}
+use Rattle.format.specs.Boundary.{samplesLent}
 use Rattle.format.specs.Samples.{toBytes, ordered, fromSigned}
 use Rattle.format.specs.Writer.{digit, decimal, signedDecimal, nameAt, allInType, writable}
+
+-- the samples of a call: those that lent bytes hold, or the numbers themselves
+unfoldable pub chosen : Bool → List ℤ → List ℕ → List ℤ
+chosen packed samples lent = if packed then samplesLent lent else samples
 
 -- the low w bytes of a sample's 64 bits
 abbrev pub lowBytes : ℕ → ℕ → ℤ → List ℕ
@@ -102,6 +107,6 @@ restText sizes t e endian =
     ++ (valueLine (bytes "encoding: ") (nameAt encodings e)
     ++ (endianText t e endian ++ LF ∷ []))
 
--- the answer of a refused call
-abbrev pub refusedAnswer : ℕ → WriteAnswer
-refusedAnswer n = record { refusal = refusal n; length = 0 }
+-- an answer: the number of the refusal, or 0, and the length of the file
+abbrev pub answerOf : ℕ → ℕ → WriteAnswer
+answerOf n m = record { refusal = refusal n; length = m }

@@ -6,34 +6,37 @@ ghost use mathlib.Core.Bool.{true};
 ghost use lib.ListN.{length};
 ghost use lib.Seq.{sets, slice};
 ghost use Rattle.format.specs.Writer.{hexText, textData, rawData, dataBytes};
-ghost use Rattle.writer.specs.Stored.{lowBytes, lateRefusal, Width};
+ghost use Rattle.writer.specs.Stored.{chosen, lowBytes, lateRefusal, Width};
 use crate::check;
 use crate::put;
+use crate::source;
 
 // How many bytes the samples take as text.
-fn text_length(samples: &[i64]) -> usize
-    requires { ⌜ length (now samples) ≤ 4294967295 ⌝ }
-    ensures { λ r. ⌜ (r ≡ length (textData (now (samples .entry)))) × (r ≤ 22 * length (now (samples .entry))) ⌝ }
+fn text_length(samples: &[i64], lent: &[u8], packed: bool) -> usize
+    requires { ⌜ length (chosen packed (now samples) (now lent)) ≤ 4294967295 ⌝ }
+    ensures { λ r. ⌜ (r ≡ length (textData (chosen packed (now (samples .entry)) (now (lent .entry))))) × (r ≤ 22 * length (chosen packed (now (samples .entry)) (now (lent .entry)))) ⌝ }
 {
-    let mut n: usize = 0;
+    let n = source::count(samples, lent, packed);
+    let mut total: usize = 0;
     let mut i: usize = 0;
-    while i < samples.len() {
-        n += put::signed_length(put::bits_at(samples, i)) + 1;
+    while i < n {
+        total += put::signed_length(source::bits_at(samples, lent, packed, i)) + 1;
         i += 1;
     }
-    n
+    total
 }
 
 // The samples as text, one on a line.
-fn put_text(out: &mut [u8], at: usize, samples: &[i64]) -> usize
-    requires { ⌜ at + length (textData (now samples)) ≤ length (now out) ⌝ }
-    ensures place { λ r. ⌜ r ≡ at + length (textData (now (samples .entry))) ⌝ }
-    ensures stored { λ _. ⌜ now (out .exit) ≡ sets (now (out .entry)) at (textData (now (samples .entry))) ⌝ }
+fn put_text(out: &mut [u8], at: usize, samples: &[i64], lent: &[u8], packed: bool) -> usize
+    requires { ⌜ at + length (textData (chosen packed (now samples) (now lent))) ≤ length (now out) ⌝ }
+    ensures place { λ r. ⌜ r ≡ at + length (textData (chosen packed (now (samples .entry)) (now (lent .entry)))) ⌝ }
+    ensures stored { λ _. ⌜ now (out .exit) ≡ sets (now (out .entry)) at (textData (chosen packed (now (samples .entry)) (now (lent .entry)))) ⌝ }
 {
+    let n = source::count(samples, lent, packed);
     let mut o = at;
     let mut i: usize = 0;
-    while i < samples.len() {
-        o = put::put_text_line(out, o, put::bits_at(samples, i));
+    while i < n {
+        o = put::put_text_line(out, o, source::bits_at(samples, lent, packed, i));
         i += 1;
     }
     o
@@ -44,19 +47,21 @@ fn put_raw(
     out: &mut [u8],
     at: usize,
     samples: &[i64],
+    lent: &[u8],
+    packed: bool,
     from: usize,
     to: usize,
     w: usize,
     endian: u64,
 ) -> usize
-    requires { ⌜ (from ≤ to) × (to ≤ length (now samples)) × (at + (to - from) * w ≤ length (now out)) ⌝ }
+    requires { ⌜ (from ≤ to) × (to ≤ length (chosen packed (now samples) (now lent))) × (at + (to - from) * w ≤ length (now out)) ⌝ }
     ensures place { λ r. ⌜ r ≡ at + (to - from) * w ⌝ }
-    ensures stored { λ _. ⌜ now (out .exit) ≡ sets (now (out .entry)) at (flatMap (lowBytes w endian) (slice from to (now (samples .entry)))) ⌝ }
+    ensures stored { λ _. ⌜ now (out .exit) ≡ sets (now (out .entry)) at (flatMap (lowBytes w endian) (slice from to (chosen packed (now (samples .entry)) (now (lent .entry))))) ⌝ }
 {
     let mut o = at;
     let mut i = from;
     while i < to {
-        o = put::put_word(out, o, put::bits_at(samples, i), w, endian);
+        o = put::put_word(out, o, source::bits_at(samples, lent, packed, i), w, endian);
         i += 1;
     }
     o
@@ -67,25 +72,27 @@ fn put_by_width(
     out: &mut [u8],
     at: usize,
     samples: &[i64],
+    lent: &[u8],
+    packed: bool,
     from: usize,
     to: usize,
     w: usize,
     endian: u64,
 ) -> usize
-    requires { ⌜ Width w × (from ≤ to) × (to ≤ length (now samples)) × (at + (to - from) * w ≤ length (now out)) ⌝ }
+    requires { ⌜ Width w × (from ≤ to) × (to ≤ length (chosen packed (now samples) (now lent))) × (at + (to - from) * w ≤ length (now out)) ⌝ }
     ensures place { λ r. ⌜ r ≡ at + (to - from) * w ⌝ }
-    ensures stored { λ _. ⌜ now (out .exit) ≡ sets (now (out .entry)) at (flatMap (lowBytes w endian) (slice from to (now (samples .entry)))) ⌝ }
+    ensures stored { λ _. ⌜ now (out .exit) ≡ sets (now (out .entry)) at (flatMap (lowBytes w endian) (slice from to (chosen packed (now (samples .entry)) (now (lent .entry))))) ⌝ }
 {
     if w == 1 {
-        return put_raw(out, at, samples, from, to, 1, endian);
+        return put_raw(out, at, samples, lent, packed, from, to, 1, endian);
     }
     if w == 2 {
-        return put_raw(out, at, samples, from, to, 2, endian);
+        return put_raw(out, at, samples, lent, packed, from, to, 2, endian);
     }
     if w == 4 {
-        return put_raw(out, at, samples, from, to, 4, endian);
+        return put_raw(out, at, samples, lent, packed, from, to, 4, endian);
     }
-    put_raw(out, at, samples, from, to, 8, endian)
+    put_raw(out, at, samples, lent, packed, from, to, 8, endian)
 }
 
 // The same by a call for each endian.
@@ -93,19 +100,21 @@ fn put_sized(
     out: &mut [u8],
     at: usize,
     samples: &[i64],
+    lent: &[u8],
+    packed: bool,
     from: usize,
     to: usize,
     w: usize,
     endian: u64,
 ) -> usize
-    requires { ⌜ Width w × (from ≤ to) × (to ≤ length (now samples)) × (at + (to - from) * w ≤ length (now out)) × (endian < 2) ⌝ }
+    requires { ⌜ Width w × (from ≤ to) × (to ≤ length (chosen packed (now samples) (now lent))) × (at + (to - from) * w ≤ length (now out)) × (endian < 2) ⌝ }
     ensures place { λ r. ⌜ r ≡ at + (to - from) * w ⌝ }
-    ensures stored { λ _. ⌜ now (out .exit) ≡ sets (now (out .entry)) at (flatMap (lowBytes w endian) (slice from to (now (samples .entry)))) ⌝ }
+    ensures stored { λ _. ⌜ now (out .exit) ≡ sets (now (out .entry)) at (flatMap (lowBytes w endian) (slice from to (chosen packed (now (samples .entry)) (now (lent .entry))))) ⌝ }
 {
     if endian == 1 {
-        return put_by_width(out, at, samples, from, to, w, 1);
+        return put_by_width(out, at, samples, lent, packed, from, to, w, 1);
     }
-    put_by_width(out, at, samples, from, to, w, 0)
+    put_by_width(out, at, samples, lent, packed, from, to, w, 0)
 }
 
 // Where the part of 256 samples that starts at i ends; the last one ends at n.
@@ -117,18 +126,26 @@ fn part_end(i: usize, n: usize) -> usize
 }
 
 // The samples in hex: their bytes are made in a buffer, a part of the samples at a time.
-fn put_hex(out: &mut [u8], at: usize, samples: &[i64], w: usize, endian: u64) -> usize
-    requires { ⌜ Width w × (at + length (now samples) * (2 * w) ≤ length (now out)) × (endian < 2) ⌝ }
-    ensures place { λ r. ⌜ r ≡ at + length (now (samples .entry)) * (2 * w) ⌝ }
-    ensures stored { λ _. ⌜ now (out .exit) ≡ sets (now (out .entry)) at (hexText (flatMap (lowBytes w endian) (now (samples .entry)))) ⌝ }
+fn put_hex(
+    out: &mut [u8],
+    at: usize,
+    samples: &[i64],
+    lent: &[u8],
+    packed: bool,
+    w: usize,
+    endian: u64,
+) -> usize
+    requires { ⌜ Width w × (at + length (chosen packed (now samples) (now lent)) * (2 * w) ≤ length (now out)) × (endian < 2) ⌝ }
+    ensures place { λ r. ⌜ r ≡ at + length (chosen packed (now (samples .entry)) (now (lent .entry))) * (2 * w) ⌝ }
+    ensures stored { λ _. ⌜ now (out .exit) ≡ sets (now (out .entry)) at (hexText (flatMap (lowBytes w endian) (chosen packed (now (samples .entry)) (now (lent .entry))))) ⌝ }
 {
+    let n = source::count(samples, lent, packed);
     let mut part = [0u8; 2048];
     let mut o = at;
     let mut i: usize = 0;
-    let n = samples.len();
     while i < n {
         let to = part_end(i, n);
-        let used = put_sized(&mut part, 0, samples, i, to, w, endian);
+        let used = put_sized(&mut part, 0, samples, lent, packed, i, to, w, endian);
         o = put::put_hex_bytes(out, o, &part[..used]);
         i = to;
     }
@@ -136,18 +153,19 @@ fn put_hex(out: &mut [u8], at: usize, samples: &[i64], w: usize, endian: u64) ->
 }
 
 // How many bytes the data takes.
-fn data_length(samples: &[i64], encoding: u64, w: usize) -> usize
-    requires { ⌜ (length (now samples) ≤ 4294967295) × (length (now samples) * w ≤ 4294967295) ⌝ }
-    ensures { λ r. ⌜ ((endian : ℕ) → r ≡ length (dataBytes encoding w endian (now (samples .entry)))) ⌝ }
+fn data_length(samples: &[i64], lent: &[u8], packed: bool, encoding: u64, w: usize) -> usize
+    requires { ⌜ (length (chosen packed (now samples) (now lent)) ≤ 4294967295) × (length (chosen packed (now samples) (now lent)) * w ≤ 4294967295) ⌝ }
+    ensures { λ r. ⌜ ((endian : ℕ) → r ≡ length (dataBytes encoding w endian (chosen packed (now (samples .entry)) (now (lent .entry))))) ⌝ }
     ensures long { λ r. ⌜ r ≤ 94489280490 ⌝ }
 {
-    if encoding == 0 {
-        return samples.len() * w;
-    }
     if encoding == 1 {
-        return text_length(samples);
+        return text_length(samples, lent, packed);
     }
-    2 * (samples.len() * w) + 1
+    let size = source::count(samples, lent, packed) * w;
+    if encoding == 0 {
+        return size;
+    }
+    2 * size + 1
 }
 
 // Whether text fits, however long its n lines are.
@@ -162,15 +180,26 @@ fn any_text_fits(start: usize, n: usize, encoding: u64, room: usize) -> bool
 }
 
 // The refusal of a file whose data starts at `start`. The length of text is worked out only where its lines might not fit.
-pub fn file_refusal(start: usize, samples: &[i64], encoding: u64, w: usize, room: usize) -> u32
-    requires { ⌜ (start ≤ 512) × (length (now samples) ≤ 4294967295) × (length (now samples) * w ≤ 4294967295) ⌝ }
-    requires { ⌜ length (textData (now samples)) ≤ 22 * length (now samples) ⌝ }
-    ensures { λ r. ⌜ ((endian : ℕ) → r ≡ lateRefusal (start + length (dataBytes encoding w endian (now (samples .entry)))) room) ⌝ }
+pub fn file_refusal(
+    start: usize,
+    samples: &[i64],
+    lent: &[u8],
+    packed: bool,
+    encoding: u64,
+    w: usize,
+    room: usize,
+) -> u32
+    requires { ⌜ (start ≤ 512) × (length (chosen packed (now samples) (now lent)) ≤ 4294967295) × (length (chosen packed (now samples) (now lent)) * w ≤ 4294967295) ⌝ }
+    requires { ⌜ length (textData (chosen packed (now samples) (now lent))) ≤ 22 * length (chosen packed (now samples) (now lent)) ⌝ }
+    ensures { λ r. ⌜ ((endian : ℕ) → r ≡ lateRefusal (start + length (dataBytes encoding w endian (chosen packed (now (samples .entry)) (now (lent .entry))))) room) ⌝ }
 {
-    if any_text_fits(start, samples.len(), encoding, room) {
+    if any_text_fits(start, source::count(samples, lent, packed), encoding, room) {
         return 0;
     }
-    check::late_refusal(start + data_length(samples, encoding, w), room)
+    check::late_refusal(
+        start + data_length(samples, lent, packed, encoding, w),
+        room,
+    )
 }
 
 // The data. The samples are those of a type of w bytes: the low bytes of each are its bytes.
@@ -178,23 +207,25 @@ pub fn put_data(
     out: &mut [u8],
     at: usize,
     samples: &[i64],
+    lent: &[u8],
+    packed: bool,
     encoding: u64,
     w: usize,
     endian: u64,
 ) -> usize
-    requires { ⌜ Width w × (endian < 2) × (flatMap (lowBytes w endian) (now samples) ≡ rawData w endian (now samples)) ⌝ }
-    requires { ⌜ at + length (dataBytes encoding w endian (now samples)) ≤ length (now out) ⌝ }
-    ensures place { λ r. ⌜ r ≡ at + length (dataBytes encoding w endian (now (samples .entry))) ⌝ }
-    ensures stored { λ _. ⌜ now (out .exit) ≡ sets (now (out .entry)) at (dataBytes encoding w endian (now (samples .entry))) ⌝ }
+    requires { ⌜ Width w × (endian < 2) × (flatMap (lowBytes w endian) (chosen packed (now samples) (now lent)) ≡ rawData w endian (chosen packed (now samples) (now lent))) ⌝ }
+    requires { ⌜ at + length (dataBytes encoding w endian (chosen packed (now samples) (now lent))) ≤ length (now out) ⌝ }
+    ensures place { λ r. ⌜ r ≡ at + length (dataBytes encoding w endian (chosen packed (now (samples .entry)) (now (lent .entry)))) ⌝ }
+    ensures stored { λ _. ⌜ now (out .exit) ≡ sets (now (out .entry)) at (dataBytes encoding w endian (chosen packed (now (samples .entry)) (now (lent .entry)))) ⌝ }
 {
     if encoding == 0 {
-        let n = samples.len();
-        return put_sized(out, at, samples, 0, n, w, endian);
+        let n = source::count(samples, lent, packed);
+        return put_sized(out, at, samples, lent, packed, 0, n, w, endian);
     }
     if encoding == 1 {
-        return put_text(out, at, samples);
+        return put_text(out, at, samples, lent, packed);
     }
-    let end = put_hex(out, at, samples, w, endian);
+    let end = put_hex(out, at, samples, lent, packed, w, endian);
     out[end] = b'\n';
     end + 1
 }

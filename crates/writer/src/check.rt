@@ -6,8 +6,8 @@ ghost use Rattle.format.specs.Bytes.{isIn};
 ghost use Rattle.format.specs.Descriptors.{product, sampleBytes, numberKind};
 ghost use Rattle.format.specs.Samples.{lowest, highest, toSigned};
 ghost use Rattle.format.specs.Writer.{writable};
-ghost use Rattle.writer.specs.Stored.{inRange, allInRange, Width, earlyRefusal, lateRefusal, Numbers, Ready};
-use crate::put;
+ghost use Rattle.writer.specs.Stored.{chosen, inRange, allInRange, Width, earlyRefusal, lateRefusal, Numbers, Ready};
+use crate::source;
 
 // Whether one of the numbers is 0.
 fn has_zero(ns: &[u64]) -> bool
@@ -95,14 +95,15 @@ fn in_range(x: u64, low: u64, high: u64) -> bool
 }
 
 // Whether all samples do. There is no early exit.
-fn all_in_range(samples: &[i64], low: u64, high: u64) -> bool
+fn all_in_range(samples: &[i64], lent: &[u8], packed: bool, low: u64, high: u64) -> bool
     requires { ⌜ (low ≤ 9223372036854775808) × (high < 9223372036854775808) ⌝ }
-    ensures { λ r. ⌜ r ≡ allInRange low high (now (samples .entry)) ⌝ }
+    ensures { λ r. ⌜ r ≡ allInRange low high (chosen packed (now (samples .entry)) (now (lent .entry))) ⌝ }
 {
+    let n = source::count(samples, lent, packed);
     let mut fine = true;
     let mut i: usize = 0;
-    while i < samples.len() {
-        fine = fine & in_range(put::bits_at(samples, i), low, high);
+    while i < n {
+        fine = fine & in_range(source::bits_at(samples, lent, packed, i), low, high);
         i += 1;
     }
     fine
@@ -169,24 +170,29 @@ pub fn early_refusal(
     encoding: u64,
     endian: u64,
     samples: &[i64],
+    lent: &[u8],
+    packed: bool,
 ) -> u32
-    ensures is { λ r. ⌜ r ≡ earlyRefusal version (now (sizes .entry)) sampletype encoding endian (now (samples .entry)) ⌝ }
-    ensures known { λ r. ⌜ (r ≡ 0 → Ready version (now (sizes .entry)) sampletype encoding endian (now (samples .entry))) ⌝ }
+    ensures is { λ r. ⌜ r ≡ earlyRefusal version (now (sizes .entry)) sampletype encoding endian (chosen packed (now (samples .entry)) (now (lent .entry))) ⌝ }
+    ensures known { λ r. ⌜ (r ≡ 0 → Ready version (now (sizes .entry)) sampletype encoding endian (chosen packed (now (samples .entry)) (now (lent .entry)))) ⌝ }
 {
     if !is_writable(version, sizes, sampletype, encoding, endian) {
         return format::BAD_DESCRIPTOR;
     }
     let n = product(sizes);
+    let count = source::count(samples, lent, packed) as u64;
     if format::MAX_EXTENT < times(n, width_of(sampletype)) {
         return format::EXTENT_TOO_LARGE;
     }
     if 8 <= sampletype {
         return format::FLOAT_SAMPLES;
     }
-    if samples.len() as u64 != n {
+    if count != n {
         return format::WRONG_COUNT;
     }
-    if !all_in_range(samples, lowest_of(sampletype), highest_of(sampletype)) {
+    let low = lowest_of(sampletype);
+    let high = highest_of(sampletype);
+    if !all_in_range(samples, lent, packed, low, high) {
         return format::BAD_SAMPLE;
     }
     0

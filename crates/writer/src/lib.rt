@@ -3,29 +3,72 @@ ghost use mathlib.Core.Path.{_≡_};
 ghost use mathlib.Core.List.{List};
 ghost use Prim.Native.Nat.{ℕ};
 ghost use Rattle.format.specs.declared.WriteAnswer.{WriteAnswer};
+ghost use Rattle.format.specs.Boundary.{numbersOf, samplesLent};
 ghost use Rattle.format.specs.Calls.{writeCall};
-ghost use Rattle.format.specs.Refusals.{refusal};
-ghost use Rattle.writer.specs.Stored.{refusedAnswer};
+ghost use Rattle.writer.specs.Stored.{chosen, answerOf};
 
 mod body;
 mod check;
 mod head;
 mod put;
+mod source;
 
 use format::Refusal;
 use format::WriteAnswer;
 
-// The answer of a refused call.
-fn refused(n: u32) -> WriteAnswer
-    ensures { λ r. ⌜ r ≡ refusedAnswer n ⌝ }
+// An answer: the number of the refusal, or 0, and the length of the file.
+fn answer(number: u32, length: usize) -> WriteAnswer
+    ensures { λ r. ⌜ r ≡ answerOf number length ⌝ }
 {
     WriteAnswer {
-        refusal: Refusal { number: n, line: 0 },
-        length: 0,
+        refusal: Refusal {
+            number: number,
+            line: 0,
+        },
+        length: length as u64,
     }
 }
 
 // Writes the samples as an attached file to the front of `out`. A call that is refused leaves it as it was.
+fn write_chosen(
+    version: u64,
+    sizes: &[u64],
+    sampletype: u64,
+    encoding: u64,
+    endian: u64,
+    samples: &[i64],
+    lent: &[u8],
+    packed: bool,
+    out: &mut [u8],
+) -> WriteAnswer
+    ensures { λ r. ⌜ _≡_ {A = WriteAnswer × List ℕ} (r, now (out .exit)) (writeCall version (now (sizes .entry)) sampletype encoding endian (chosen packed (now (samples .entry)) (now (lent .entry))) (now (out .entry))) ⌝ }
+{
+    let early = check::early_refusal(
+        version,
+        sizes,
+        sampletype,
+        encoding,
+        endian,
+        samples,
+        lent,
+        packed,
+    );
+    if early != 0 {
+        return answer(early, 0);
+    }
+    let mut head = [0u8; 512];
+    let start = head::put_header(&mut head, version, sizes, sampletype, encoding, endian);
+    let w = check::width_of(sampletype) as usize;
+    let late = body::file_refusal(start, samples, lent, packed, encoding, w, out.len());
+    if late != 0 {
+        return answer(late, 0);
+    }
+    put::put_bytes(out, 0, &head[..start]);
+    let end = body::put_data(out, start, samples, lent, packed, encoding, w, endian);
+    answer(0, end)
+}
+
+// The same for samples that are numbers.
 pub fn write(
     version: u64,
     sizes: &[u64],
@@ -37,21 +80,44 @@ pub fn write(
 ) -> WriteAnswer
     ensures { λ r. ⌜ _≡_ {A = WriteAnswer × List ℕ} (r, now (out .exit)) (writeCall version (now (sizes .entry)) sampletype encoding endian (now (samples .entry)) (now (out .entry))) ⌝ }
 {
-    let early = check::early_refusal(version, sizes, sampletype, encoding, endian, samples);
-    if early != 0 {
-        return refused(early);
-    }
-    let mut head = [0u8; 512];
-    let start = head::put_header(&mut head, version, sizes, sampletype, encoding, endian);
-    let w = check::width_of(sampletype) as usize;
-    let late = body::file_refusal(start, samples, encoding, w, out.len());
-    if late != 0 {
-        return refused(late);
-    }
-    put::put_bytes(out, 0, &head[..start]);
-    let end = body::put_data(out, start, samples, encoding, w, endian);
-    WriteAnswer {
-        refusal: Refusal { number: 0, line: 0 },
-        length: end as u64,
-    }
+    let none = [0u8; 1];
+    write_chosen(
+        version,
+        sizes,
+        sampletype,
+        encoding,
+        endian,
+        samples,
+        &none,
+        false,
+        out,
+    )
+}
+
+// The same for sizes and samples that are lent as bytes, 8 each, the low byte first. One size more than a header can have is enough to refuse.
+pub fn write_bytes(
+    version: u64,
+    sizes: &[u8],
+    sampletype: u64,
+    encoding: u64,
+    endian: u64,
+    samples: &[u8],
+    out: &mut [u8],
+) -> WriteAnswer
+    ensures { λ r. ⌜ _≡_ {A = WriteAnswer × List ℕ} (r, now (out .exit)) (writeCall version (numbersOf 8 (now (sizes .entry))) sampletype encoding endian (samplesLent (now (samples .entry))) (now (out .entry))) ⌝ }
+{
+    let none = [0i64; 1];
+    let mut ns = [0u64; 17];
+    let n = words::numbers(sizes, &mut ns);
+    write_chosen(
+        version,
+        &ns[..n],
+        sampletype,
+        encoding,
+        endian,
+        &none,
+        samples,
+        true,
+        out,
+    )
 }

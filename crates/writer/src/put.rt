@@ -2,13 +2,11 @@
 ghost use mathlib.Core.Path.{_≡_};
 ghost use Prim.Native.Nat.{_+_, _*_, _-_, _≤_, _<_};
 ghost use lib.Dec.{eqb};
-ghost use lib.IntN.{pos};
-ghost use lib.ListN.{length, getD};
+ghost use lib.ListN.{length};
 ghost use lib.Seq.{sets};
-ghost use lib.Signed.{mag};
 ghost use Rattle.format.specs.Bytes.{if_then_else_};
 ghost use Rattle.format.specs.Descriptors.{big};
-ghost use Rattle.format.specs.Samples.{toBytes, ordered, toSigned, fromSigned};
+ghost use Rattle.format.specs.Samples.{toBytes, ordered, toSigned};
 ghost use Rattle.format.specs.Writer.{decimal, signedDecimal, hexLetter, hexText};
 ghost use Rattle.writer.specs.Stored.{digits, signLength, absolute, textLine};
 
@@ -37,7 +35,7 @@ fn put_two(out: &mut [u8], at: usize, n: u64) -> usize
     at + 2
 }
 
-// Four digits, and eight, by halves.
+// The same for four digits, by halves.
 fn put_four(out: &mut [u8], at: usize, n: u64) -> usize
     requires { ⌜ (n < 10000) × (at + 4 ≤ length (now out)) ⌝ }
     ensures place { λ r. ⌜ r ≡ at + 4 ⌝ }
@@ -47,6 +45,7 @@ fn put_four(out: &mut [u8], at: usize, n: u64) -> usize
     put_two(out, o, n % 100)
 }
 
+// The same for eight digits.
 fn put_eight(out: &mut [u8], at: usize, n: u64) -> usize
     requires { ⌜ (n < 100000000) × (at + 8 ≤ length (now out)) ⌝ }
     ensures place { λ r. ⌜ r ≡ at + 8 ⌝ }
@@ -115,7 +114,7 @@ pub fn put_decimal(out: &mut [u8], at: usize, n: u64) -> usize
     put_eight(out, o, n % 100000000)
 }
 
-// How many digits a number has: one of up to four, of up to eight, of up to twelve, and any number.
+// How many digits a number of up to four has.
 fn length_to_4(n: u64) -> usize
     requires { ⌜ n < 10000 ⌝ }
     ensures { λ r. ⌜ r ≡ length (decimal n) ⌝ }
@@ -133,6 +132,7 @@ fn length_to_4(n: u64) -> usize
     1
 }
 
+// The same for up to eight digits.
 fn length_to_8(n: u64) -> usize
     requires { ⌜ n < 100000000 ⌝ }
     ensures { λ r. ⌜ r ≡ length (decimal n) ⌝ }
@@ -144,6 +144,7 @@ fn length_to_8(n: u64) -> usize
     length_to_4(n / 10000) + 4
 }
 
+// The same for up to twelve digits.
 fn length_to_12(n: u64) -> usize
     requires { ⌜ n < 1000000000000 ⌝ }
     ensures { λ r. ⌜ r ≡ length (decimal n) ⌝ }
@@ -155,6 +156,7 @@ fn length_to_12(n: u64) -> usize
     length_to_4(n / 100000000) + 8
 }
 
+// The same for any number.
 fn decimal_length(n: u64) -> usize
     ensures { λ r. ⌜ r ≡ length (decimal n) ⌝ }
     ensures few { λ r. ⌜ r ≤ 20 ⌝ }
@@ -163,29 +165,6 @@ fn decimal_length(n: u64) -> usize
         return length_to_8(n);
     }
     length_to_12(n / 100000000) + 8
-}
-
-// n for a sample n, and for a sample -(n + 1).
-fn magnitude(z: i64) -> u64
-    ensures { λ r. ⌜ r ≡ mag z ⌝ }
-{
-    if z < 0 { (-1 - z) as u64 } else { z as u64 }
-}
-
-// The bits of a sample.
-fn bits(z: i64) -> u64
-    ensures { λ r. ⌜ r ≡ fromSigned 8 z ⌝ }
-{
-    let m = magnitude(z);
-    if z < 0 { 18446744073709551615 - m } else { m }
-}
-
-// The bits of sample k.
-pub fn bits_at(samples: &[i64], k: usize) -> u64
-    requires { ⌜ k < length (now samples) ⌝ }
-    ensures { λ r. ⌜ toSigned 8 r ≡ getD (now (samples .entry)) k (pos 0) ⌝ }
-{
-    bits(samples[k])
 }
 
 // How many bytes the sign of a sample takes as text: x is the sample's bits, here and below.

@@ -1,137 +1,22 @@
--- `writer::write` meets its contract: the laws of Whole.antt, from what each call ensures. Assumes nothing.
+-- `writer::write` meets its contract. Assumes nothing.
 use borrow.Author.Needs.{needs}
-use Prim.Native.Nat.{ℕ, _*_}
-use mathlib.Core.Path.{_≡_, sym, ap, _∙_}
-use mathlib.Core.Bool.{true}
-use mathlib.Core.List.{List}
-use native.Mathlib.Omega.{arith}
-use denote.Ref.{now}
-use lib.ListN.{length, take}
-use lib.Seq.{sets}
-use Rattle.format.specs.Descriptors.{numberKind}
-use Rattle.format.specs.Writer.{dataBytes, allInType}
-use Rattle.roundtrip.specs.RoundTrip.{headerBytes}
-use Rattle.writer.specs.Stored.{earlyRefusal}
-use Rattle.writer.proofs.Samples.{low-data, text-bound, width-bounds}
-use Rattle.writer.proofs.Whole.{early-call, late-call, fits, full-call, stored-front, few-samples}
+use Rattle.writer.specs.Stored.{chosen}
 use Rattle.writer.proofs.write.Statement.{statement}
 use Rattle.writer.proofs.write.Tie as tie
 
-early-refusal-requires : tie.Need-early-refusal-requires
-early-refusal-requires c κs = search needs
+slice-aggregate-write-chosen : tie.Need-slice-aggregate-write-chosen
+slice-aggregate-write-chosen c = search needs
 
-refused-requires : tie.Need-refused-requires
-refused-requires c κs = search needs
-
-returns : tie.Need-returns
-returns c =
-    let a = c .before .before .before .before .before .args in
-    let e = c .before .before .early-refusal in
-    (λ i. (c .refused .ensures i, now (a .out))) ∙ sym (early-call (a .version) (now (a .sizes)) (a .sampletype) (a .encoding) (a .endian) (now (a .samples)) (now (a .out)) (e .result) (e .ensures .0) (c .before .if1 .taken))
-
-slice-aggregate-put-header : tie.Need-slice-aggregate-put-header
-slice-aggregate-put-header c = search needs
-
-put-header-requires : tie.Need-put-header-requires
-put-header-requires c κs = (c .before .before .early-refusal .ensures .1 (c .before .if1 .left) .numbers, omega arith)
-
-width-of-requires : tie.Need-width-of-requires
-width-of-requires c κs = c .before .before .before .before .early-refusal .ensures .1 (c .before .before .before .if1 .left) .numbers .type-in
-
-file-refusal-requires : tie.Need-file-refusal-requires
-file-refusal-requires c κs =
-    let a = c .before .before .before .before .before .before .before .before .args in
-    let e = c .before .before .before .before .before .early-refusal in
-    let z = c .before .before .before .before .if1 .left in
-    let h = c .before .before .put-header in
-    let w = c .width-of in
-    let r = e .ensures .1 z in
-    let t : allInType (numberKind (a .sampletype)) (w .result) (now (a .samples)) ≡ true = rw (w .ensures .0) (r .in-type) in
-    ((h .ensures .1, few-samples (a .version) (now (a .sizes)) (a .sampletype) (a .encoding) (a .endian) (now (a .samples)) r, omega (arith, r .extent-small, ap (λ (k : ℕ). length (now (a .samples)) * k) (w .ensures .0))), text-bound (w .result) (width-bounds (w .result) (w .ensures .1) .1) (numberKind (a .sampletype)) (now (a .samples)) t)
-
-refused-requires-2 : tie.Need-refused-requires-2
-refused-requires-2 c κs = search needs
-
-returns-2 : tie.Need-returns-2
-returns-2 c =
-    let a = c .before .before .before .before .before .before .before .before .before .before .before .args in
-    let e = c .before .before .before .before .before .before .before .before .early-refusal in
-    let z = c .before .before .before .before .before .before .before .if1 .left in
-    let h = c .before .before .before .before .before .put-header in
-    let w = c .before .before .before .width-of in
-    let q : 0 ≡ earlyRefusal (a .version) (now (a .sizes)) (a .sampletype) (a .encoding) (a .endian) (now (a .samples)) = sym z ∙ e .ensures .0 in
-    let r = c .before .before .file-refusal in
-    (λ i. (c .refused2 .ensures i, now (a .out))) ∙ sym (late-call (a .version) (now (a .sizes)) (a .sampletype) (a .encoding) (a .endian) (now (a .samples)) (now (a .out)) q (h .result) (w .result) (h .ensures .0 .0) (w .ensures .0) (r .result) (r .ensures (a .endian)) (c .before .if2 .taken))
-
-array-share-prefix-head : tie.Need-array-share-prefix-head
-array-share-prefix-head c = search needs
-
-slice-aggregate-put-bytes : tie.Need-slice-aggregate-put-bytes
-slice-aggregate-put-bytes c =
-    let a = c .before .before .before .before .before .before .before .before .before .before .before .before .args in
-    let e = c .before .before .before .before .before .before .before .before .before .early-refusal in
-    let z = c .before .before .before .before .before .before .before .before .if1 .left in
-    let h = c .before .before .before .before .before .before .put-header in
-    let f : take (h .result) (h .last .0) ≡ headerBytes (a .version) (now (a .sizes)) (a .sampletype) (a .encoding) (a .endian) = stored-front (h .last .0) _ (headerBytes (a .version) (now (a .sizes)) (a .sampletype) (a .encoding) (a .endian)) (h .result) (h .ensures .0 .1) (h .ensures .0 .0) (omega (arith, h .ensures .1)) in
-    rw f (h .ensures .0 .0)
-
-put-bytes-requires : tie.Need-put-bytes-requires
-put-bytes-requires c κs =
-    let a = c .before .before .before .before .before .before .before .before .before .before .before .before .args in
-    let e = c .before .before .before .before .before .before .before .before .before .early-refusal in
-    let z = c .before .before .before .before .before .before .before .before .if1 .left in
-    let h = c .before .before .before .before .before .before .put-header in
-    let w = c .before .before .before .before .width-of in
-    let q : 0 ≡ earlyRefusal (a .version) (now (a .sizes)) (a .sampletype) (a .encoding) (a .endian) (now (a .samples)) = sym z ∙ e .ensures .0 in
-    let f : take (h .result) (h .last .0) ≡ headerBytes (a .version) (now (a .sizes)) (a .sampletype) (a .encoding) (a .endian) = stored-front (h .last .0) _ (headerBytes (a .version) (now (a .sizes)) (a .sampletype) (a .encoding) (a .endian)) (h .result) (h .ensures .0 .1) (h .ensures .0 .0) (omega (arith, h .ensures .1)) in
-    let k = fits (a .version) (now (a .sizes)) (a .sampletype) (a .encoding) (a .endian) (now (a .samples)) (now (a .out)) q (h .result) (w .result) (h .ensures .0 .0) (w .ensures .0) (sym (c .before .before .if2 .left) ∙ c .before .before .before .file-refusal .ensures (a .endian)) in
-    rw f (omega (arith, h .ensures .0 .0, k))
-
-put-data-requires : tie.Need-put-data-requires
-put-data-requires c κs =
-    let a = c .before .before .before .before .before .before .before .before .before .before .before .before .before .before .before .before .args in
-    let e = c .before .before .before .before .before .before .before .before .before .before .before .before .before .early-refusal in
-    let z = c .before .before .before .before .before .before .before .before .before .before .before .before .if1 .left in
-    let h = c .before .before .before .before .before .before .before .before .before .before .put-header in
-    let w = c .before .before .before .before .before .before .before .before .width-of in
-    let q : 0 ≡ earlyRefusal (a .version) (now (a .sizes)) (a .sampletype) (a .encoding) (a .endian) (now (a .samples)) = sym z ∙ e .ensures .0 in
-    let k = fits (a .version) (now (a .sizes)) (a .sampletype) (a .encoding) (a .endian) (now (a .samples)) (now (a .out)) q (h .result) (w .result) (h .ensures .0 .0) (w .ensures .0) (sym (c .before .before .before .before .before .before .if2 .left) ∙ c .before .before .before .before .before .before .before .file-refusal .ensures (a .endian)) in
-    let r = e .ensures .1 z in
-    let t : allInType (numberKind (a .sampletype)) (w .result) (now (a .samples)) ≡ true = rw (w .ensures .0) (r .in-type) in
-    ((w .ensures .1, r .numbers .endian-in, low-data (w .result) (width-bounds (w .result) (w .ensures .1) .1) (numberKind (a .sampletype)) (a .endian) (now (a .samples)) t), omega (arith, k, c .before .before .before .put-bytes .kept .0))
+write-chosen-requires : tie.Need-write-chosen-requires
+write-chosen-requires c κs = search needs
 
 same-length : tie.Need-same-length
 same-length c = search needs
 
-returns-3 : tie.Need-returns-3
-returns-3 c =
-    let a = c .before .before .before .before .before .before .before .before .before .before .before .before .before .before .before .before .before .before .before .args in
-    let e = c .before .before .before .before .before .before .before .before .before .before .before .before .before .before .before .before .early-refusal in
-    let z = c .before .before .before .before .before .before .before .before .before .before .before .before .before .before .before .if1 .left in
-    let h = c .before .before .before .before .before .before .before .before .before .before .before .before .before .put-header in
-    let w = c .before .before .before .before .before .before .before .before .before .before .before .width-of in
-    let q : 0 ≡ earlyRefusal (a .version) (now (a .sizes)) (a .sampletype) (a .encoding) (a .endian) (now (a .samples)) = sym z ∙ e .ensures .0 in
-    let f : take (h .result) (h .last .0) ≡ headerBytes (a .version) (now (a .sizes)) (a .sampletype) (a .encoding) (a .endian) = stored-front (h .last .0) _ (headerBytes (a .version) (now (a .sizes)) (a .sampletype) (a .encoding) (a .endian)) (h .result) (h .ensures .0 .1) (h .ensures .0 .0) (omega (arith, h .ensures .1)) in
-    let p = c .before .before .put-data in
-    full-call (a .version) (now (a .sizes)) (a .sampletype) (a .encoding) (a .endian) (now (a .samples)) (now (a .out)) q (h .result) (w .result) (h .ensures .0 .0) (w .ensures .0) (sym (c .before .before .before .before .before .before .before .before .before .if2 .left) ∙ c .before .before .before .before .before .before .before .before .before .before .file-refusal .ensures (a .endian)) (p .result) (p .last .0) (p .ensures .0)
-    (p .ensures .1 ∙ ap (λ (x : List ℕ). sets x (h .result) (dataBytes (a .encoding) (w .result) (a .endian) (now (a .samples)))) (c .before .before .before .before .before .before .put-bytes .ensures .1 ∙ ap (sets (now (a .out)) 0) f))
+returns : tie.Need-returns
+unfolding chosen
+returns c = c .before .before .write-chosen .ensures
 
 pub write-spec : {M : Type 1} → statement M
 write-spec =
-    tie.close
-    (tie.spec
-    early-refusal-requires
-    refused-requires
-    returns
-    slice-aggregate-put-header
-    put-header-requires
-    width-of-requires
-    file-refusal-requires
-    refused-requires-2
-    returns-2
-    array-share-prefix-head
-    slice-aggregate-put-bytes
-    put-bytes-requires
-    put-data-requires
-    same-length
-    returns-3)
+    tie.close (tie.spec slice-aggregate-write-chosen write-chosen-requires same-length returns)

@@ -6,21 +6,25 @@ use native.Mathlib.Omega.{arith}
 use denote.Ref.{now}
 use lib.ListN.{length}
 use Rattle.format.specs.Writer.{dataBytes}
-use Rattle.writer.specs.Stored.{lateRefusal}
+use Rattle.writer.specs.Stored.{chosen, lateRefusal}
 use Rattle.writer.proofs.Samples.{text-is}
 use Rattle.writer.proofs.Whole.{late-less}
 use Rattle.writer.proofs.body.file_refusal.Statement.{statement}
 use Rattle.writer.proofs.body.file_refusal.Tie as tie
 
+count-requires : tie.Need-count-requires
+count-requires c κs = search needs
+
 any-text-fits-requires : tie.Need-any-text-fits-requires
-any-text-fits-requires c κs = search needs
+any-text-fits-requires c κs = omega (arith, c .count .ensures, c .before .before .pre .0)
 
 returns : tie.Need-returns
 returns c =
-    let a = c .before .before .args in
-    let zs = now (a .samples) in
+    let a = c .before .before .before .before .args in
+    let zs = chosen (a .packed) (now (a .samples)) (now (a .lent)) in
     let p = c .before .any-text-fits .ensures (c .if1 .taken) in
-    λ n. late-less (a .start + length (dataBytes (a .encoding) (a .w) n zs)) (a .start + 22 * length zs) (a .room) (omega (arith, ap length (text-is (a .encoding) (a .w) n zs (p .0)), c .before .before .pre .1)) (p .1)
+    let q = p .1 ∙ ap (λ (k : ℕ). lateRefusal (a .start + 22 * k) (a .room)) (c .before .before .count .ensures) in
+    λ n. late-less (a .start + length (dataBytes (a .encoding) (a .w) n zs)) (a .start + 22 * length zs) (a .room) (omega (arith, ap length (text-is (a .encoding) (a .w) n zs (p .0)), c .before .before .before .before .pre .1)) q
 
 data-length-requires : tie.Need-data-length-requires
 data-length-requires c κs = search needs
@@ -32,12 +36,13 @@ late-refusal-requires : tie.Need-late-refusal-requires
 late-refusal-requires c κs = search needs
 
 returns-2 : tie.Need-returns-2
-returns-2 c = λ n. c .late-refusal .ensures ∙ ap (λ (k : ℕ). lateRefusal (c .before .before .before .before .args .start + k) (c .before .before .before .before .args .room)) (c .before .data-length .ensures .0 n)
+returns-2 c = λ n. c .late-refusal .ensures ∙ ap (λ (k : ℕ). lateRefusal (c .before .before .before .before .before .before .args .start + k) (c .before .before .before .before .before .before .args .room)) (c .before .data-length .ensures .0 n)
 
 pub file-refusal-spec : {M : Type 1} → statement M
 file-refusal-spec =
     tie.close
     (tie.spec
+    count-requires
     any-text-fits-requires
     returns
     data-length-requires

@@ -8,7 +8,7 @@ use denote.Ref.{now}
 use lib.IntN.{pos}
 use lib.ListN.{getD}
 use lib.Seq.{sets, slice}
-use Rattle.writer.specs.Stored.{lowBytes}
+use Rattle.writer.specs.Stored.{chosen, lowBytes}
 use Rattle.writer.proofs.Runs.{Putting, putting-none, putting-room, putting-more, putting-done, putting-end, part-next, part-over}
 use Rattle.writer.proofs.Samples.{low-size, part-length}
 use Rattle.writer.proofs.Signs.{bits-low}
@@ -16,27 +16,30 @@ use Rattle.writer.proofs.body.put_raw.Statement.{statement}
 use Rattle.writer.proofs.body.put_raw.Tie as tie
 
 abbrev Inv-loop : tie.InvT-loop
-Inv-loop out₀ at samples from to w endian o₀ i₀ out o i = Putting (flatMap (lowBytes w endian) (slice from to samples)) out₀ at out o (flatMap (lowBytes w endian) (slice i to samples)) × (i ≤ to)
+Inv-loop out₀ at samples lent packed from to w endian o₀ i₀ out o i = Putting (flatMap (lowBytes w endian) (slice from to (chosen packed samples lent))) out₀ at out o (flatMap (lowBytes w endian) (slice i to (chosen packed samples lent))) × (i ≤ to)
 
 abbrev μ-loop : tie.MeasureT-loop
-μ-loop out₀ at samples from to w endian o₀ i₀ out o i = to - i
+μ-loop out₀ at samples lent packed from to w endian o₀ i₀ out o i = to - i
 
 loop-holds : tie.Need-loop-holds Inv-loop μ-loop
 loop-holds c =
-    let a = c .before .args in
-    let run = flatMap (lowBytes (a .w) (a .endian)) (slice (a .from) (a .to) (now (a .samples))) in
-    (putting-none run (now (a .out)) (a .at) run refl, c .before .pre .0)
+    let a = c .before .before .args in
+    let zs = chosen (a .packed) (now (a .samples)) (now (a .lent)) in
+    let run = flatMap (lowBytes (a .w) (a .endian)) (slice (a .from) (a .to) zs) in
+    (putting-none run (now (a .out)) (a .at) run refl, c .before .before .pre .0)
 
 bits-at-requires : tie.Need-bits-at-requires Inv-loop μ-loop
-bits-at-requires c κs = omega (arith, c .before .loop-test .taken, c .before .before .before .before .pre .1)
+bits-at-requires c κs = omega (arith, c .before .loop-test .taken, c .before .before .before .before .before .pre .1)
 
 put-word-requires : tie.Need-put-word-requires Inv-loop μ-loop
 put-word-requires c κs =
-    let a = c .before .before .before .before .before .args in
-    let zs = now (a .samples) in
+    let a = c .before .before .before .before .before .before .args in
+    let zs = chosen (a .packed) (now (a .samples)) (now (a .lent)) in
+    let f = lowBytes (a .w) (a .endian) in
     let l = c .before .before .before .loop in
-    let h = c .before .before .loop-test .taken in
-    omega (arith, l .inv .0 .long, c .before .before .before .before .before .pre .2, putting-room (l .inv .0) (lowBytes (a .w) (a .endian) (getD zs (l .i) (pos 0))) (flatMap (lowBytes (a .w) (a .endian)) (slice (l .i + 1) (a .to) zs)) (part-next (lowBytes (a .w) (a .endian)) zs (l .i) (a .to) (pos 0) h (c .before .before .before .before .before .pre .1)), low-size (a .w) (a .endian) (getD zs (l .i) (pos 0)), part-length (a .w) (a .endian) (a .from) (a .to) zs (c .before .before .before .before .before .pre .1))
+    let z = getD zs (l .i) (pos 0) in
+    let m = c .before .before .before .before .before .before .pre .1 in
+    omega (arith, l .inv .0 .long, c .before .before .before .before .before .before .pre .2, putting-room (l .inv .0) (f z) (flatMap f (slice (l .i + 1) (a .to) zs)) (part-next f zs (l .i) (a .to) (pos 0) (c .before .before .loop-test .taken) m), low-size (a .w) (a .endian) z, part-length (a .w) (a .endian) (a .from) (a .to) zs m)
 
 add-i : tie.Need-add-i Inv-loop μ-loop
 add-i c = search needs
@@ -46,14 +49,14 @@ loop-less c = search needs
 
 loop-again : tie.Need-loop-again Inv-loop μ-loop
 loop-again c =
-    let a = c .before .before .before .before .before .before .before .before .args in
-    let zs = now (a .samples) in
+    let a = c .before .before .before .before .before .before .before .before .before .args in
+    let zs = chosen (a .packed) (now (a .samples)) (now (a .lent)) in
     let f = lowBytes (a .w) (a .endian) in
     let l = c .before .before .before .before .before .before .loop in
     let z = getD zs (l .i) (pos 0) in
     let p = c .before .before .put-word in
     let x = c .before .before .before .bits-at in (
-      putting-more (l .inv .0) (f z) (flatMap f (slice (l .i + 1) (a .to) zs)) (part-next f zs (l .i) (a .to) (pos 0) (c .before .before .before .before .before .loop-test .taken) (c .before .before .before .before .before .before .before .before .pre .1)) _ _
+      putting-more (l .inv .0) (f z) (flatMap f (slice (l .i + 1) (a .to) zs)) (part-next f zs (l .i) (a .to) (pos 0) (c .before .before .before .before .before .loop-test .taken) (c .before .before .before .before .before .before .before .before .before .pre .1)) _ _
           (p .ensures .1 ∙ ap (sets (l .out) (l .o)) (bits-low (x .result) (x .ok) (a .w) (a .endian) z (x .ensures))) (omega (arith, p .ensures .0, low-size (a .w) (a .endian) z)),
       omega (arith, c .before .before .before .before .before .loop-test .taken),
     )
@@ -63,11 +66,11 @@ same-length c = c .before .loop .inv .0 .long
 
 returns : tie.Need-returns Inv-loop μ-loop
 returns c =
-    let a = c .before .before .before .args in
-    let zs = now (a .samples) in
+    let a = c .before .before .before .before .args in
+    let zs = chosen (a .packed) (now (a .samples)) (now (a .lent)) in
     let l = c .before .loop in
     let e = part-over (lowBytes (a .w) (a .endian)) zs (l .i) (a .to) (c .loop-test .left) in
-    (omega (arith, putting-end (l .inv .0) e, part-length (a .w) (a .endian) (a .from) (a .to) zs (c .before .before .before .pre .1)), putting-done (l .inv .0) e)
+    (omega (arith, putting-end (l .inv .0) e, part-length (a .w) (a .endian) (a .from) (a .to) zs (c .before .before .before .before .pre .1)), putting-done (l .inv .0) e)
 
 pub put-raw-spec : {M : Type 1} → statement M
 put-raw-spec =

@@ -22,7 +22,7 @@ same-length-2 c = search needs
 
 returns-2 : tie.Need-returns-2
 returns-2 c =
-    let z : c .before .before .before .before .before .before .args .endian ≡ 0 = omega (arith, c .before .before .before .before .before .before .pre .4, c .before .before .before .before .if1 .left) in
+    let z : c .before .before .before .before .before .before .before .args .endian ≡ 0 = omega (arith, c .before .before .before .before .before .before .before .pre .4, c .before .before .before .before .if1 .left) in
     rw z (c .before .before .put-by-width2 .ensures)
 
 pub put-sized-spec : {M : Type 1} → statement M

@@ -1,4 +1,4 @@
--- `writer::body::text_length` meets its contract. The loop's invariant: n and the text of the samples from i on are as long as all the text. Assumes nothing.
+-- `writer::body::text_length` meets its contract. The loop's invariant: what is counted and the text of the samples from i on are as long as all the text. Assumes nothing.
 use borrow.Author.Needs.{needs}
 use Prim.Native.Nat.{_+_, _*_, _-_, _≤_}
 use mathlib.Core.Path.{_≡_, ap}
@@ -7,32 +7,35 @@ use native.Mathlib.Omega.{arith}
 use denote.Ref.{now}
 use lib.IntN.{pos}
 use lib.ListN.{length, getD, drop}
-use Rattle.writer.specs.Stored.{textLine}
+use Rattle.writer.specs.Stored.{chosen, textLine}
 use Rattle.writer.proofs.Runs.{flat-next-length, flat-over}
 use Rattle.writer.proofs.Samples.{flat-text, line-length}
 use Rattle.writer.proofs.body.text_length.Statement.{statement}
 use Rattle.writer.proofs.body.text_length.Tie as tie
 
 abbrev Inv-loop : tie.InvT-loop
-Inv-loop samples n₀ i₀ n i = (i ≤ length samples) × (n + length (flatMap textLine (drop i samples)) ≡ length (flatMap textLine samples)) × (n ≤ 22 * i)
+Inv-loop samples lent packed n total₀ i₀ total i = (i ≤ length (chosen packed samples lent)) × (total + length (flatMap textLine (drop i (chosen packed samples lent))) ≡ length (flatMap textLine (chosen packed samples lent))) × (total ≤ 22 * i)
 
 abbrev μ-loop : tie.MeasureT-loop
-μ-loop samples n₀ i₀ n i = length samples - i
+μ-loop samples lent packed n total₀ i₀ total i = n - i
+
+count-requires : tie.Need-count-requires Inv-loop μ-loop
+count-requires c κs = search needs
 
 loop-holds : tie.Need-loop-holds Inv-loop μ-loop
 loop-holds c = search needs
 
 bits-at-requires : tie.Need-bits-at-requires Inv-loop μ-loop
-bits-at-requires c κs = search needs
+bits-at-requires c κs = omega (arith, c .before .before .count .ensures)
 
 signed-length-requires : tie.Need-signed-length-requires Inv-loop μ-loop
 signed-length-requires c κs = search needs
 
-add-n : tie.Need-add-n Inv-loop μ-loop
-add-n c = search needs
+add-total : tie.Need-add-total Inv-loop μ-loop
+add-total c = omega (arith, c .signed-length .ensures .1)
 
-add-n-2 : tie.Need-add-n-2 Inv-loop μ-loop
-add-n-2 c = search needs
+add-total-2 : tie.Need-add-total-2 Inv-loop μ-loop
+add-total-2 c = omega (arith, c .signed-length .ensures .1, c .before .before .before .loop .inv, c .before .before .before .before .before .before .pre)
 
 add-i : tie.Need-add-i Inv-loop μ-loop
 add-i c = search needs
@@ -42,15 +45,17 @@ loop-less c = search needs
 
 loop-again : tie.Need-loop-again Inv-loop μ-loop
 loop-again c =
-    let s = now (c .before .before .before .before .args .samples) in
+    let a = c .before .before .before .before .before .before .args in
+    let zs = chosen (a .packed) (now (a .samples)) (now (a .lent)) in
     let i = c .before .before .before .loop .i in
     let e = rw (c .before .bits-at .ensures) at (c .signed-length .ensures .0) in
-    omega (arith, e, c .signed-length .ensures .1, flat-next-length textLine s i (pos 0) (c .before .before .loop-test .taken), line-length (getD s i (pos 0)))
+    omega (arith, e, c .signed-length .ensures .1, c .before .before .before .loop .inv, c .before .before .before .before .count .ensures, flat-next-length textLine zs i (pos 0) (omega (arith, c .before .before .before .before .count .ensures)), line-length (getD zs i (pos 0)))
 
 returns : tie.Need-returns Inv-loop μ-loop
 returns c =
-    let s = now (c .before .before .args .samples) in
-    omega (arith, ap length (flat-over textLine s (c .before .loop .i) (c .loop-test .left)), ap length (flat-text s))
+    let a = c .before .before .before .before .args in
+    let zs = chosen (a .packed) (now (a .samples)) (now (a .lent)) in
+    omega (arith, c .before .loop .inv, ap length (flat-over textLine zs (c .before .loop .i) (omega (arith, c .before .before .count .ensures))), ap length (flat-text zs))
 
 pub text-length-spec : {M : Type 1} → statement M
 text-length-spec =
@@ -58,11 +63,12 @@ text-length-spec =
     (tie.spec
     Inv-loop
     μ-loop
+    count-requires
     loop-holds
     bits-at-requires
     signed-length-requires
-    add-n
-    add-n-2
+    add-total
+    add-total-2
     add-i
     loop-less
     loop-again

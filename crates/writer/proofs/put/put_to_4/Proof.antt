@@ -6,7 +6,7 @@ use native.Mathlib.Omega.{arith}
 use denote.Ref.{now}
 use lib.ListN.{length-set}
 use lib.Seq.{sets}
-use Rattle.writer.proofs.Digits.{length-one, decimal-one, length-whole, decimal-whole, three-stored}
+use Rattle.writer.proofs.Digits.{length-one, decimal-one, length-whole, decimal-whole, first-digit-stored}
 use Rattle.writer.proofs.put.put_to_4.Statement.{statement}
 use Rattle.writer.proofs.put.put_to_4.Tie as tie
 
@@ -71,7 +71,7 @@ returns-3 c =
     let p = c .before .before .put-two2 in
     let h : 100 ≤ a .n = omega (arith, c .before .before .before .before .before .if2 .left) in
     let l : a .n < 1000 = omega (arith, c .before .before .before .before .if3 .taken) in
-    (omega (arith, p .ensures .0, length-whole 2 (a .n) h l), p .ensures .1 ∙ three-stored (now (a .out)) (a .at) (a .n) h l)
+    (omega (arith, p .ensures .0, length-whole 2 (a .n) h l), p .ensures .1 ∙ first-digit-stored (now (a .out)) (a .at) (a .n) h l)
 
 put-four-requires : tie.Need-put-four-requires
 put-four-requires c κs = omega (arith, c .before .before .before .before .before .pre, length-whole 3 (c .before .before .before .before .before .args .n) (omega (arith, c .before .if3 .left)) (omega (arith, c .before .before .before .before .before .pre .0)))
