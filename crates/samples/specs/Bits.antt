@@ -1,6 +1,5 @@
 -- Numbers between bytes and samples, for the contracts of the functions below the public ones.
-use Prim.Native.Nat.{ℕ, _*_, _-_, _^_, _<_}
-use mathlib.Core.Path.{_≡_}
+use Prim.Native.Nat.{ℕ, _*_, _-_}
 use mathlib.Core.Bool.{Bool, true, false, _||_}
 use mathlib.Core.List.{List, reverse}
 use lib.Dec.{eqb, ltb}
@@ -8,12 +7,8 @@ use lib.IntN.{ℤ, pos, negsuc}
 use lib.ListN.{take, drop}
 use Rattle.format.specs.Bytes.{if_then_else_}
 use Rattle.format.specs.Samples.{fromBytes, toBytes, ordered, sampleValue}
+pub use Rattle.words.specs.Bits.{Bits}
 use Rattle.samples.specs.Widths.{kindBy, endianBy}
-
--- the number n, which w bytes hold
-pub record Bits (w n r : ℕ) : Type 0 where
-  pub is : r ≡ n
-  pub less : r < 256 ^ w
 
 -- the number that the same w bytes write in the other order
 unfoldable pub turned : ℕ → ℕ → ℕ
