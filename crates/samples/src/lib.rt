@@ -1,6 +1,4 @@
-// Integer samples: raw, hex and text data checked and decoded into a lent list or lent bytes.
+// Integer samples: raw, hex and text data checked and decoded into a lent list.
 pub mod hex;
-pub mod packed;
 pub mod raw;
-pub mod scan;
 pub mod text;

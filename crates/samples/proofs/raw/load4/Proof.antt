@@ -1,0 +1,35 @@
+-- `load4` meets its contract by two halves.
+-- Assumes nothing.
+use native.Mathlib.Omega.{arith}
+use denote.Ref.{now}
+use Rattle.samples.proofs.RawLaws.{from-halves}
+use borrow.Author.Needs.{needs}
+use Rattle.samples.proofs.raw.load4.Statement.{statement}
+use Rattle.samples.proofs.raw.load4.Tie as tie
+
+load2-requires : tie.Need-load2-requires
+load2-requires c κs = search needs
+
+add-load2 : tie.Need-add-load2
+add-load2 c = search needs
+
+load2-requires-2 : tie.Need-load2-requires-2
+load2-requires-2 c κs = search needs
+
+mul-result : tie.Need-mul-result
+mul-result c = search needs
+
+add-result : tie.Need-add-result
+add-result c = search needs
+
+returns : tie.Need-returns
+returns c =
+    let a = c .before .before .before .args in
+    record {
+      is = omega (arith, c .load22 .ensures .is, c .before .load2 .ensures .is, from-halves (now (a .s)) (a .at) 2 (c .before .before .before .pre));
+      less = omega arith;
+    }
+
+pub load4-spec : {M : Type 1} → statement M
+load4-spec =
+    tie.close (tie.spec load2-requires add-load2 load2-requires-2 mul-result add-result returns)
