@@ -1,7 +1,7 @@
-pub mod BlockLaws
 pub mod HexLaws
+pub mod PackedLaws
 pub mod RawLaws
-pub mod SampleLaws
+pub mod ScanLaws
 pub mod WidthLaws
 pub mod TokenLaws
 pub mod WalkLaws

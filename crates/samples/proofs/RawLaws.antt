@@ -1,17 +1,17 @@
 -- Laws of raw samples, each stated once, over the width.
 -- Assumes nothing.
 use Prim.Native.Nat.{ℕ, zero, suc, _+_, _*_, _-_, _^_, _/_, _%_, _≤_, _<_, min}
-use native.Mathlib.Nat.{mul-assoc, mul-comm, suc-mul, zero-add, pow-suc, one-le-pow, mod-add-div, mod-lt, mod-eq-of-lt, add-mod-right, le-trans}
+use native.Mathlib.Nat.{suc-mul, mod-lt, mod-eq-of-lt, add-mod-right, le-trans}
 use native.Mathlib.Numerals.{add-one}
 use native.Mathlib.Omega.{arith}
 use mathlib.Core.Path.{_≡_, refl, sym, ap, _∙_}
 use mathlib.Core.Bool.{Bool, true, false, _&&_, _||_, false≢true}
-use mathlib.Core.List.{List, [], _∷_, _++_, reverse, reverse-append}
+use mathlib.Core.List.{List, reverse, reverse-append}
 use mathlib.Core.Logic.{inl, inr, ⊎-elim}
-use lib.Dec.{eqb, ltb, leb, lit<, lit≤}
-use lib.IntN.{ℤ, pos, negsuc, subℕ, _-ℤ_}
-use lib.ListN.{length, take, drop, getD, set, length-drop, length-reverse, length-set, take-append-drop}
-use lib.Seq.{drop-drop, drop-cons, drop-append-le, take-add, take-append-le, length-take-le, getD-drop, sets, sets-eq}
+use lib.Dec.{eqb, ltb, leb, lit≤}
+use lib.IntN.{ℤ, pos, subℕ, _-ℤ_}
+use lib.ListN.{length, take, drop, getD, set, length-drop, length-reverse, length-set}
+use lib.Seq.{drop-drop, getD-drop, sets}
 use borrow.Author.Tests.{lt-ltb, le-ltb, ltb-true, ltb-false, leb-true, le-leb, eqb-true, ne-eqb}
 use mir.Syntax.{w64}
 use mir.Val.{SFits, toZ, ofZ}
@@ -20,50 +20,19 @@ use Rattle.format.specs.Bytes.{if_then_else_, over}
 use Rattle.format.specs.Descriptors.{NumberKind, signed, unsigned}
 use Rattle.format.specs.Limits.{maxSample}
 use Rattle.format.specs.Samples.{Decoded, rawSamples, thenSamples, withSample, stopped, sampleValue, valueOfBits, inType, fromBytes, toBytes, ordered, toSigned}
-use Rattle.format.proofs.Bytes.{and-left, and-right}
 use Rattle.format.proofs.Samples.{AllBytes, all-bytes, length-to-bytes, to-from-bytes, from-bytes-below, ordered-bytes, length-ordered}
+pub use Rattle.words.proofs.Halves.{from-append, from-one, sample-is}
+pub use Rattle.words.proofs.Stores.{sets-over}
+use Rattle.words.proofs.Halves.{to-bytes-halves, length-part}
+use Rattle.words.proofs.Groups.{bytes-take, bytes-drop}
 use Rattle.samples.specs.Bits.{Bits, turned, folded, isWidth}
 use Rattle.samples.specs.Widths.{Width}
-
--- ---- numbers by the least byte first
-
-from-append : (s t : List ℕ) → fromBytes (s ++ t) ≡ fromBytes s + 256 ^ length s * fromBytes t
-unfolding fromBytes
-from-append [] t = omega arith
-from-append (b ∷ s) t =
-    omega (arith, from-append s t, mul-assoc 256 (256 ^ length s) (fromBytes t), ap (λ (n : ℕ). n * fromBytes t) (pow-suc 256 (length s) ∙ mul-comm (256 ^ length s) 256))
-
-module _ (s : List ℕ) (at : ℕ) where
-  -- one byte
-  pub from-one : at + 1 ≤ length s → fromBytes (take 1 (drop at s)) ≡ getD s at 0
-  unfolding fromBytes
-  from-one h = rw (drop-cons s at 0 (omega arith)) (omega arith)
-
-  -- 2 * w bytes by two halves
-  pub from-halves : (w : ℕ) → at + (w + w) ≤ length s → fromBytes (take (w + w) (drop at s)) ≡ fromBytes (take w (drop at s)) + 256 ^ w * fromBytes (take w (drop (at + w) s))
-  from-halves w h =
-      let l : length (take w (drop at s)) ≡ w = length-take-le w (drop at s) (omega (arith, length-drop at s)) in
-      rw (take-add w w (drop at s), from-append, l, drop-drop w at s)
 
 -- ---- the bytes in the other order
 
 pub turned-2 : (x : ℕ) → x < 256 ^ 2 → turned 2 x ≡ x / 256 + 256 * (x % 256)
 unfolding turned fromBytes toBytes
 turned-2 x h = omega arith
-
-to-bytes-append : (a b r q : ℕ) → r < 256 ^ a → toBytes (a + b) (r + 256 ^ a * q) ≡ toBytes a r ++ toBytes b q
-unfolding toBytes
-to-bytes-append zero b r q h =
-    let z : zero + b ≡ b = omega arith in
-    let e : r + 256 ^ 0 * q ≡ q = omega arith in
-    rw (z, e)
-to-bytes-append (suc a) b r q h =
-    let p : 256 ^ suc a ≡ 256 ^ a * 256 = pow-suc 256 a in
-    let e : 256 ^ suc a * q ≡ 256 * (256 ^ a * q) = ap (λ (n : ℕ). n * q) (p ∙ mul-comm (256 ^ a) 256) ∙ mul-assoc 256 (256 ^ a) q in
-    let z : suc a + b ≡ suc (a + b) = omega arith in
-    let m : (r + 256 ^ suc a * q) % 256 ≡ r % 256 = omega arith in
-    let d : (r + 256 ^ suc a * q) / 256 ≡ r / 256 + 256 ^ a * q = omega arith in
-    rw (z, m, d, to-bytes-append a b (r / 256) q (omega arith))
 
 -- one byte
 pub turned-1 : (w x : ℕ) → w ≡ 1 → x < 256 ^ w → Bits w (turned w x) x
@@ -77,10 +46,8 @@ turned-halves w x =
     let p = 256 ^ w in
     let r = toBytes w (x % p) in
     let q = toBytes w (x / p) in
-    let e : toBytes (w + w) x ≡ r ++ q =
-    ap (toBytes (w + w)) (sym (mod-add-div x p)) ∙ to-bytes-append w w (x % p) (x / p) (mod-lt x (one-le-pow w 256 (lit< tt))) in
     let l : length (reverse q) ≡ w = length-reverse q ∙ length-to-bytes w (x / p) in
-    ap (λ (s : List ℕ). fromBytes (reverse s)) e ∙ ap fromBytes (reverse-append r q) ∙ from-append (reverse q) (reverse r)
+    ap (λ (s : List ℕ). fromBytes (reverse s)) (to-bytes-halves w x) ∙ ap fromBytes (reverse-append r q) ∙ from-append (reverse q) (reverse r)
     ∙ ap (λ (n : ℕ). fromBytes (reverse q) + 256 ^ n * fromBytes (reverse r)) l
 
 -- ---- widths
@@ -92,13 +59,6 @@ module _ {ℓ} {A : Type ℓ} (w : ℕ) (d : Width w) where
 -- the width that is left
 pub width-1 : (w : ℕ) → Width w → (w ≡ 8 → ⊥) → (w ≡ 4 → ⊥) → (w ≡ 2 → ⊥) → w ≡ 1
 width-1 w d n8 n4 n2 = by-width w d (λ e. e) (λ e. absurd (n2 e)) (λ e. absurd (n4 e)) (λ e. absurd (n8 e))
-
--- the widths above 2
-pub width-8 : (w : ℕ) → Width w → 4 < w → w ≡ 8
-width-8 w d h = by-width w d (λ e. omega arith) (λ e. omega arith) (λ e. omega arith) (λ e. e)
-
-pub width-4 : (w : ℕ) → Width w → 2 < w → w ≤ 4 → w ≡ 4
-width-4 w d h l = by-width w d (λ e. omega arith) (λ e. omega arith) (λ e. e) (λ e. omega arith)
 
 pub width-le : (w : ℕ) → Width w → w ≤ 8
 width-le w d = by-width w d (λ e. omega arith) (λ e. omega arith) (λ e. omega arith) (λ e. omega arith)
@@ -126,37 +86,19 @@ not-width w d e = false≢true (sym e ∙ width-is w d)
 
 -- ---- the number at a place
 
-bytes-take : (k : ℕ) (s : List ℕ) → AllBytes s → AllBytes (take k s)
-bytes-take zero s p = tt
-bytes-take (suc k) [] p = tt
-bytes-take (suc k) (b ∷ s) p = (p .0, bytes-take k s (p .1))
-
-bytes-drop : (k : ℕ) (s : List ℕ) → AllBytes s → AllBytes (drop k s)
-bytes-drop zero s p = p
-bytes-drop (suc k) [] p = tt
-bytes-drop (suc k) (b ∷ s) p = bytes-drop k s (p .1)
-
 module _ (s : List ℕ) (at w : ℕ) (h : at + w ≤ length s) where
-  length-part : length (take w (drop at s)) ≡ w
-  length-part = length-take-le w (drop at s) (omega (arith, length-drop at s))
-
   -- the bytes of the loaded number in the other order
   pub turned-part : ((i : ℕ) → getD s i 0 < 256) → turned w (fromBytes (take w (drop at s))) ≡ fromBytes (reverse (take w (drop at s)))
   unfolding turned
   turned-part f =
       let p : AllBytes (take w (drop at s)) = bytes-take w (drop at s) (bytes-drop at s (all-bytes s f)) in
-      ap (λ (l : List ℕ). fromBytes (reverse l)) (rw length-part at (to-from-bytes (take w (drop at s)) p))
+      ap (λ (l : List ℕ). fromBytes (reverse l)) (rw (length-part s at w h) at (to-from-bytes (take w (drop at s)) p))
 
   bits-below : (e : ℕ) → ((i : ℕ) → getD s i 0 < 256) → fromBytes (ordered e (take w (drop at s))) < 256 ^ w
   bits-below e f =
       let l = take w (drop at s) in
       let p : AllBytes l = bytes-take w (drop at s) (bytes-drop at s (all-bytes s f)) in
-      rw (length-ordered e l, length-part) at (from-bytes-below (ordered e l) (ordered-bytes e l p))
-
-  -- the sample at a place, by its number
-  pub sample-is : (k : NumberKind) (e : ℕ) → sampleValue k e (take w (drop at s)) ≡ valueOfBits k w (fromBytes (ordered e (take w (drop at s))))
-  unfolding sampleValue
-  sample-is k e = rw length-part
+      rw (length-ordered e l, length-part s at w h) at (from-bytes-below (ordered e l) (ordered-bytes e l p))
 
 -- ---- two's complement
 
@@ -207,26 +149,6 @@ module _ (x h : ℕ) (b : x < 2 * h) (l : h ≤ 2147483648) where
   pub fold-kept : toZ w64 (ofZ w64 (toZ w64 ((x + h) % (2 * h)) -ℤ toZ w64 h)) ≡ folded h x
   fold-kept = toZ-ofZ fold-fits ∙ fold-value
 
-minus-one-less : (k : ℕ) → negsuc 0 -ℤ pos k ≡ negsuc k
-minus-one-less zero = refl
-minus-one-less (suc j) = ap (λ (n : ℕ). negsuc (suc n)) (zero-add j)
-
-module _ (k : ℕ) (h : k < 2 ^ 63) where
-  below-zero : negsuc 0 -ℤ toZ w64 k ≡ negsuc k
-  below-zero = rw (toZ-pos w64 h) (minus-one-less k)
-
-  pub below-zero-fits : SFits w64 (negsuc 0 -ℤ toZ w64 k)
-  below-zero-fits = rw below-zero (record { sfits = h })
-
-  pub below-zero-kept : toZ w64 (ofZ w64 (negsuc 0 -ℤ toZ w64 k)) ≡ negsuc k
-  below-zero-kept = toZ-ofZ below-zero-fits ∙ below-zero
-
-pub folded-low : (h x : ℕ) → x < h → folded h x ≡ pos x
-folded-low h x l = rw (lt-ltb x h l)
-
-pub folded-high : (h x : ℕ) → h ≤ x → folded h x ≡ negsuc (2 * h - 1 - x)
-folded-high h x l = rw (le-ltb x h l)
-
 -- ---- the types
 
 -- an unsigned value of a type is below 2 ^ 63
@@ -235,7 +157,7 @@ unfolding inType
 unsigned-small w x e = omega (arith, leb-true x (min (256 ^ w - 1) maxSample) e)
 
 -- a signed value is in its type
-signed-in : (w n : ℕ) → Width w → n < 256 ^ w → inType signed w (toSigned w n) ≡ true
+pub signed-in : (w n : ℕ) → Width w → n < 256 ^ w → inType signed w (toSigned w n) ≡ true
 unfolding inType
 signed-in w n d h = go (ltb n (256 ^ w / 2)) refl
   where
@@ -247,7 +169,7 @@ signed-in w n d h = go (ltb n (256 ^ w / 2)) refl
     go false e = rw e (lt-ltb (256 ^ w - 1 - n) (256 ^ w / 2) (omega (arith, even, ltb-false n (256 ^ w / 2) e)))
 
 -- an unsigned value of less than 8 bytes is in its type
-unsigned-in : (w n : ℕ) → Width w → (w ≡ 8 → ⊥) → n < 256 ^ w → inType unsigned w (pos n) ≡ true
+pub unsigned-in : (w n : ℕ) → Width w → (w ≡ 8 → ⊥) → n < 256 ^ w → inType unsigned w (pos n) ≡ true
 unfolding inType
 unsigned-in w n d not-8 h = le-leb n (min (256 ^ w - 1) maxSample) (omega (arith, narrow))
   where
@@ -259,12 +181,7 @@ pub word-in : (n : ℕ) → inType unsigned 8 (pos n) ≡ leb n maxSample
 unfolding inType
 word-in n = refl
 
--- ---- a list that is written from its front on
-
-sets-over : (l d : List ℤ) → length l ≤ length d → sets d 0 l ≡ over l d
-sets-over l d h =
-    let z : 0 + length l ≡ length l = omega arith in
-    sets-eq l d 0 (omega arith) ∙ rw z
+-- ---- the samples of a list
 
 -- there are at most n samples
 raw-few : (k : NumberKind) (w e n : ℕ) (s : List ℕ) → length (rawSamples k w e n s .seen) ≤ n
@@ -335,41 +252,36 @@ module _ (k : NumberKind) (w e n : ℕ) (s : List ℕ) where
 
   -- ---- a test of each
 
-  -- j samples are tested; t: the type has them all
-  pub record Testing (t : Bool) (at j : ℕ) : Type 0 where
+  -- the samples before j are fine, or one of them is not
+  pub record Testing (fine : Bool) (at j : ℕ) : Type 0 where
     pub few : j ≤ n
     pub room : at + (n - j) * w ≤ length s
-    pub good : t ≡ true → rawSamples k w e n s .number ≡ left at j .number
-    pub bad : t ≡ false → rawSamples k w e n s .number ≡ 20
+    pub same : rawSamples k w e n s .number ≡ (if fine then left at j .number else 20)
 
   pub testing-none : n * w ≤ length s → Testing true 0 0
-  testing-none h = record { few = omega arith; room = room-first h; good = λ z. ap (λ (d : Decoded). d .number) all-left; bad = λ z. absurd (false≢true (sym z)) }
+  testing-none h = record { few = omega arith; room = room-first h; same = ap (λ (d : Decoded). d .number) all-left }
 
-  module _ {t : Bool} {at j : ℕ} (c : Testing t at j) where
+  module _ {at j : ℕ} where
     module _ (h : j < n) where
-      pub testing-room : at + w ≤ length s
-      testing-room = omega (arith, stepped at j h (c .room))
+      pub testing-room : {fine : Bool} → Testing fine at j → at + w ≤ length s
+      testing-room t = omega (arith, stepped at j h (t .room))
 
-      -- what is left, by the test of the next sample
-      one-tested : (u : Bool) → inType k w (sampleOf at) ≡ u → left at j .number ≡ (if u then left (at + w) (j + 1) .number else 20)
-      one-tested true q = ap (λ (d : Decoded). d .number) (step at j h) ∙ rw q
-      one-tested false q = ap (λ (d : Decoded). d .number) (step at j h) ∙ rw q
-
-      pub testing-more : (u : Bool) → inType k w (sampleOf at) ≡ u → Testing (t && u) (at + w) (j + 1)
-      testing-more u q = record {
+      pub testing-more : (fine b : Bool) → Testing fine at j → inType k w (sampleOf at) ≡ b → Testing (fine && b) (at + w) (j + 1)
+      testing-more true true t q = record {
         few = omega arith;
-        room = stepped at j h (c .room);
-        good = λ z. c .good (and-left t u z) ∙ one-tested true (q ∙ and-right t u z);
-        bad = λ z. go t refl z;
+        room = stepped at j h (t .room);
+        same = t .same ∙ ap (λ (d : Decoded). d .number) (step at j h) ∙ rw q;
       }
-        where
-          go : (v : Bool) → t ≡ v → (v && u) ≡ false → rawSamples k w e n s .number ≡ 20
-          go true p z = c .good p ∙ one-tested false (q ∙ z)
-          go false p z = c .bad p
+      testing-more true false t q = record {
+        few = omega arith;
+        room = stepped at j h (t .room);
+        same = t .same ∙ ap (λ (d : Decoded). d .number) (step at j h) ∙ rw q;
+      }
+      testing-more false b t q = record { few = omega arith; room = stepped at j h (t .room); same = t .same }
 
-    pub testing-done : n ≤ j → t ≡ true → 0 ≡ rawSamples k w e n s .number
+    pub testing-done : n ≤ j → Testing true at j → rawSamples k w e n s .number ≡ 0
     unfolding rawSamples
-    testing-done h z = sym (c .good z ∙ ap (λ (d : Decoded). d .number) (none-left at j h))
+    testing-done h t = t .same ∙ ap (λ (d : Decoded). d .number) (none-left at j h)
 
   -- ---- a list that is filled
 
@@ -421,58 +333,3 @@ module _ (k : NumberKind) (w e n : ℕ) (s : List ℕ) where
       filling-done h l z =
           sym (f .goes z .1 ∙ ap (λ (r : Decoded). sets d j (r .seen)) (none-left at j h))
           ∙ sets-over (rawSamples k w e n s .seen) d₀ (le-trans (raw-few k w e n s) l)
-
--- ---- samples after samples
-
--- what a comes to, and then b where nothing of a is refused
-abbrev pub joined : Decoded → Decoded → Decoded
-joined a b = if eqb (a .number) 0 then record { number = b .number; seen = a .seen ++ b .seen } else a
-
--- one sample before
-pub then-joined : (z : ℤ) (t : Bool) (a b : Decoded) → (if t then withSample z (joined a b) else stopped 20) ≡ joined (if t then withSample z a else stopped 20) b
-then-joined z false a b = refl
-then-joined z true a b = go (eqb (a .number) 0)
-  where
-    go : (t : Bool) → withSample z (if t then record { number = b .number; seen = a .seen ++ b .seen } else a) ≡ (if t then record { number = b .number; seen = z ∷ a .seen ++ b .seen } else withSample z a)
-    go true = refl
-    go false = refl
-
-module _ (k : NumberKind) (w e : ℕ) where
-  pub raw-then : (n m : ℕ) (s : List ℕ) → rawSamples k w e (n + m) s ≡ joined (rawSamples k w e n s) (rawSamples k w e m (drop (n * w) s))
-  unfolding rawSamples
-  raw-then zero m s =
-      let z : zero + m ≡ m = omega arith in
-      let y : zero * w ≡ 0 = omega arith in
-      rw (z, y)
-  raw-then (suc n) m s =
-      let z : suc n + m ≡ suc (n + m) = omega arith in
-      let y : w + n * w ≡ suc n * w = omega (arith, suc-mul n w) in
-      rw (z, raw-then n m (drop w s), drop-drop (n * w) w s, y) (then-joined (sampleValue k e (take w s)) (inType k w (sampleValue k e (take w s))) (rawSamples k w e n (drop w s)) (rawSamples k w e m (drop (suc n * w) s)))
-
-  -- only the bytes of the samples count
-  raw-append : (n : ℕ) (s t : List ℕ) → n * w ≤ length s → rawSamples k w e n (s ++ t) ≡ rawSamples k w e n s
-  unfolding rawSamples
-  raw-append zero s t h = refl
-  raw-append (suc n) s t h =
-      let l : w ≤ length s = omega (arith, suc-mul n w) in
-      rw (take-append-le w s t l, drop-append-le w s t l, raw-append n (drop w s) t (omega (arith, suc-mul n w, length-drop w s)))
-
-  pub raw-front : (n : ℕ) (s t : List ℕ) → n * w ≤ length s → n * w ≤ length t → take (n * w) s ≡ take (n * w) t → rawSamples k w e n s ≡ rawSamples k w e n t
-  raw-front n s t h g p = sym (front s h) ∙ ap (rawSamples k w e n) p ∙ front t g
-    where
-      front : (x : List ℕ) → n * w ≤ length x → rawSamples k w e n (take (n * w) x) ≡ rawSamples k w e n x
-      front x l =
-          let q : length (take (n * w) x) ≡ n * w = length-take-le (n * w) x l in
-          sym (raw-append n (take (n * w) x) (drop (n * w) x) (omega arith)) ∙ ap (rawSamples k w e n) (take-append-drop (n * w) x)
-
-  -- n samples are told, where none is refused
-  pub raw-all : (n : ℕ) (s : List ℕ) → rawSamples k w e n s .number ≡ 0 → length (rawSamples k w e n s .seen) ≡ n
-  unfolding rawSamples
-  raw-all zero s z = refl
-  raw-all (suc n) s z = go (inType k w (sampleValue k e (take w s))) z (λ q. raw-all n (drop w s) q)
-    where
-      go : (t : Bool) → (if t then withSample (sampleValue k e (take w s)) (rawSamples k w e n (drop w s)) else stopped 20) .number ≡ 0
-          → (rawSamples k w e n (drop w s) .number ≡ 0 → length (rawSamples k w e n (drop w s) .seen) ≡ n)
-          → length ((if t then withSample (sampleValue k e (take w s)) (rawSamples k w e n (drop w s)) else stopped 20) .seen) ≡ suc n
-      go true q f = ap suc (f q)
-      go false q f = absurd (omega arith)

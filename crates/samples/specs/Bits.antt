@@ -1,23 +1,23 @@
 -- Numbers between bytes and samples, for the contracts of the functions below the public ones.
-use Prim.Native.Nat.{ℕ, _*_, _-_, _^_, _<_}
-use mathlib.Core.Path.{_≡_}
-use mathlib.Core.Bool.{Bool, _||_}
+use Prim.Native.Nat.{ℕ, _*_, _-_}
+use mathlib.Core.Bool.{Bool, true, false, _||_}
 use mathlib.Core.List.{List, reverse}
 use lib.Dec.{eqb, ltb}
 use lib.IntN.{ℤ, pos, negsuc}
 use lib.ListN.{take, drop}
 use Rattle.format.specs.Bytes.{if_then_else_}
 use Rattle.format.specs.Samples.{fromBytes, toBytes, ordered, sampleValue}
+pub use Rattle.words.specs.Bits.{Bits}
 use Rattle.samples.specs.Widths.{kindBy, endianBy}
-
--- the number n, which w bytes hold
-pub record Bits (w n r : ℕ) : Type 0 where
-  pub is : r ≡ n
-  pub less : r < 256 ^ w
 
 -- the number that the same w bytes write in the other order
 unfoldable pub turned : ℕ → ℕ → ℕ
 turned w n = fromBytes (reverse (toBytes w n))
+
+-- the bits of a number whose most significant byte came first
+abbrev pub byEndian : Bool → ℕ → ℕ → ℕ
+byEndian true w n = n
+byEndian false w n = turned w n
 
 -- the number that is at a place, by its endian
 abbrev pub bitsAt : Bool → ℕ → List ℕ → ℕ → ℕ

@@ -1,88 +1,64 @@
--- Hex digits as the code reads them, for the contracts of the functions below the public ones.
-use Prim.Native.Nat.{ℕ, zero, suc, _+_, _*_, _/_, _%_, _≤_, _<_}
+-- What is read of hex digits, for the contracts of the functions below the public ones.
+use Prim.Native.Nat.{ℕ, zero, suc, _+_, _*_, _^_, _≤_, _<_}
 use mathlib.Core.Path.{_≡_}
-use mathlib.Core.Bool.{Bool, true, false}
-use mathlib.Core.List.{List, [], _∷_, _++_, map}
+use mathlib.Core.List.{List, [], _∷_}
 use mathlib.Core.Option.{Option, none, some}
-use lib.ListN.{length, take, drop, getD}
-use Rattle.format.specs.Bytes.{if_then_else_, isSome}
+use lib.ListN.{length, drop, getD}
+use Rattle.format.specs.Bytes.{if_then_else_}
 use Rattle.format.specs.Descriptors.{NumberKind}
 use Rattle.format.specs.Refusals.{badSample, dataEndsEarly}
-use Rattle.format.specs.Samples.{Decoded, rawSamples, hexDigit, withoutBlanks}
-use Rattle.samples.specs.declared.hex.Count.{Count}
-
--- the digits from a place on
-abbrev pub digitsAt : List ℕ → ℕ → List ℕ
-digitsAt s at = withoutBlanks (drop at s)
-
--- ---- whether they are digits
-
--- the refusal that m digits come to, or 0
-unfoldable pub digitsRefusal : ℕ → List ℕ → ℕ
-digitsRefusal zero s = 0
-digitsRefusal (suc m) [] = dataEndsEarly
-digitsRefusal (suc m) (b ∷ s) = if isSome (hexDigit b) then digitsRefusal m s else badSample
-
--- c digits stand between two places, and blanks
-pub record Passed (s : List ℕ) (at c next : ℕ) : Type 0 where
-  pub fine : digitsRefusal c (digitsAt s at) ≡ 0
-  pub rest : drop c (digitsAt s at) ≡ digitsAt s next
-
--- c digits of so many stand before a place
-pub record Reached (s : List ℕ) (need at c : ℕ) : Type 0 where
-  pub few : c ≤ need
-  pub within : at ≤ length s
-  pub passed : Passed s 0 c at
-
--- r is what the scan for so many digits comes to: they are there, or the one after the digits of r is refused
-pub record Scanned (s : List ℕ) (need : ℕ) (r : Count) : Type 0 where
-  pub fine : digitsRefusal (r .digits) (withoutBlanks s) ≡ 0
-  pub whole : r .code ≡ 0 → r .digits ≡ need
-  pub stops : (r .code ≡ 0 → ⊥) → (r .digits < need) × (digitsRefusal (r .digits + 1) (withoutBlanks s) ≡ r .code)
-
--- ---- the bytes that they write
-
--- 1 where a test holds
-abbrev pub oneIf : Bool → ℕ
-oneIf true = 1
-oneIf false = 0
-
--- n bytes from a place on are above the blanks
-abbrev pub Run : List ℕ → ℕ → ℕ → Type 0
-Run s at n = (i : ℕ) → i < n → 32 < getD s (at + i) 0
-
--- the list d up to e, after the list c up to o: what was added are the digits between two places
-abbrev pub Moved : List ℕ → ℕ → ℕ → List ℕ → ℕ → List ℕ → ℕ → Type 0
-Moved s at next c o d e = take e d ++ digitsAt s next ≡ take o c ++ digitsAt s at
-
--- the value of a digit
-abbrev pub digitValue : ℕ → ℕ
-digitValue b = b % 16 + 9 * (b / 64)
+use Rattle.format.specs.Samples.{HexRun, noHex, hexRun, hexDigit, withoutBlanks, inType, valueOfBits, fromBytes, ordered}
 
 -- the value of a digit, or 255
 abbrev pub digitOr : Option ℕ → ℕ
 digitOr none = 255
 digitOr (some v) = v
 
--- two values as one number
-pub record Pair (h l x : ℕ) : Type 0 where
-  pub first : x % 256 ≡ h
-  pub second : x / 256 ≡ l
+-- the digits from a place on
+abbrev pub digitsAt : List ℕ → ℕ → List ℕ
+digitsAt s at = withoutBlanks (drop at s)
 
--- the bytes of values, two for each
-unfoldable pub pairsOf : List ℕ → List ℕ
-pairsOf [] = []
-pairsOf (h ∷ []) = []
-pairsOf (h ∷ l ∷ s) = (h * 16 + l) % 256 ∷ pairsOf s
+-- r is the place of the next byte that is no blank, or the end
+pub record Skipped (s : List ℕ) (at r : ℕ) : Type 0 where
+  pub within : r ≤ length s
+  pub solid : r < length s → digitsAt s at ≡ getD s r 0 ∷ digitsAt s (r + 1)
+  pub ends : length s ≤ r → digitsAt s at ≡ []
 
-abbrev pub bytesOf : List ℕ → List ℕ
-bytesOf s = pairsOf (map digitValue s)
+-- a number, and the digits after it; or the number of the refusal
+pub data HexRead : Type 0 where
+  failed : ℕ → HexRead
+  got : ℕ → List ℕ → HexRead
 
--- the list b has the next j bytes in front, and e is the place after their digits
-pub record Taken (s : List ℕ) (at j : ℕ) (b : List ℕ) (e : ℕ) : Type 0 where
-  pub bytes : take j b ≡ take j (bytesOf (digitsAt s at))
-  pub rest : digitsAt s e ≡ drop (2 * j) (digitsAt s at)
+-- the byte of the first two digits
+abbrev pub pairRead : Option ℕ → Option ℕ → List ℕ → HexRead
+pairRead none low s = failed badSample
+pairRead (some h) none s = failed badSample
+pairRead (some h) (some l) s = got (16 * h + l) s
 
--- n samples of the bytes from a place on
-abbrev pub samplesAt : NumberKind → ℕ → ℕ → ℕ → List ℕ → ℕ → Decoded
-samplesAt k w e n s at = rawSamples k w e n (bytesOf (digitsAt s at))
+abbrev pub aloneRead : Option ℕ → HexRead
+aloneRead none = failed badSample
+aloneRead (some h) = failed dataEndsEarly
+
+unfoldable pub firstByte : List ℕ → HexRead
+firstByte [] = failed dataEndsEarly
+firstByte (b ∷ []) = aloneRead (hexDigit b)
+firstByte (b ∷ c ∷ s) = pairRead (hexDigit b) (hexDigit c) s
+
+abbrev pub thenRead : HexRead → (ℕ → List ℕ → HexRead) → HexRead
+thenRead (failed n) next = failed n
+thenRead (got b s) next = next b s
+
+-- the number of w bytes, the most significant first, after the number x of those before them
+unfoldable pub readHex : ℕ → ℕ → List ℕ → HexRead
+readHex x zero s = got x s
+readHex x (suc w) s = thenRead (firstByte s) (λ b t. readHex (x * 256 + b) w t)
+
+-- the bits of a sample
+abbrev pub bitsRead : NumberKind → ℕ → ℕ → HexRun → HexRead
+bitsRead k w e (noHex n) = failed n
+bitsRead k w e (hexRun v s) = if inType k w (valueOfBits k w (fromBytes (ordered e v))) then got (fromBytes (ordered e v)) s else failed badSample
+
+-- a reading of w bytes, told by the number of the refusal or 0, the bits and the place after them
+abbrev pub Told : ℕ → List ℕ → HexRead → ℕ → ℕ → ℕ → Type 0
+Told w s (failed n) code bits next = (code ≡ n) × (0 < n)
+Told w s (got b t) code bits next = (code ≡ 0) × ((bits ≡ b) × ((bits < 256 ^ w) × ((next ≤ length s) × (digitsAt s next ≡ t))))

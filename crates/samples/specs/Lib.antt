@@ -1,4 +1,6 @@
 pub mod Bits
 pub mod HexForms
+pub mod HexScan
+pub mod Packed
 pub mod Tokens
 pub mod Widths

@@ -15,43 +15,20 @@ fn wide(b: u8) -> u64
     b as u64
 }
 
-// Numbers by the least byte first. The compiler makes one load of each.
-fn load2(s: &[u8], at: usize) -> u64
-    requires { ⌜ at + 2 ≤ length (now s) ⌝ }
-    ensures { λ r. ⌜ Bits 2 (fromBytes (take 2 (drop at (now (s .entry))))) r ⌝ }
-{
-    let a = wide(s[at]);
-    let b = wide(s[at + 1]);
-    a + 256 * b
-}
-
-fn load4(s: &[u8], at: usize) -> u64
-    requires { ⌜ at + 4 ≤ length (now s) ⌝ }
-    ensures { λ r. ⌜ Bits 4 (fromBytes (take 4 (drop at (now (s .entry))))) r ⌝ }
-{
-    load2(s, at) + 65536 * load2(s, at + 2)
-}
-
-fn load8(s: &[u8], at: usize) -> u64
-    requires { ⌜ at + 8 ≤ length (now s) ⌝ }
-    ensures { λ r. ⌜ Bits 8 (fromBytes (take 8 (drop at (now (s .entry))))) r ⌝ }
-{
-    load4(s, at) + 4294967296 * load4(s, at + 4)
-}
-
+// The number at a place, the least byte first.
 fn load(s: &[u8], at: usize, w: usize) -> u64
     requires { ⌜ Width w ⌝ }
     requires { ⌜ at + w ≤ length (now s) ⌝ }
     ensures { λ r. ⌜ Bits w (fromBytes (take w (drop at (now (s .entry))))) r ⌝ }
 {
     if w == 8 {
-        return load8(s, at);
+        return words::load8(s, at);
     }
     if w == 4 {
-        return load4(s, at);
+        return words::load4(s, at);
     }
     if w == 2 {
-        return load2(s, at);
+        return words::load2(s, at);
     }
     wide(s[at])
 }
@@ -77,7 +54,7 @@ fn turn8(x: u64) -> u64
     turn4(x / 4294967296) + 4294967296 * turn4(x % 4294967296)
 }
 
-fn turn(x: u64, w: usize) -> u64
+pub(crate) fn turn(x: u64, w: usize) -> u64
     requires { ⌜ Width w ⌝ }
     requires { ⌜ x < 256 ^ w ⌝ }
     ensures { λ r. ⌜ Bits w (turned w x) r ⌝ }
@@ -113,24 +90,13 @@ fn fold(x: u64, half: u64) -> i64
     (((x + half) % (2 * half)) as i64) - (half as i64)
 }
 
-// Two's complement in 8 bytes.
-fn fold8(x: u64) -> i64
-    ensures { λ r. ⌜ r ≡ folded 9223372036854775808 x ⌝ }
-{
-    if x < 9223372036854775808 {
-        x as i64
-    } else {
-        -1 - ((18446744073709551615 - x) as i64)
-    }
-}
-
 fn signed_value(x: u64, w: usize) -> i64
     requires { ⌜ Width w ⌝ }
     requires { ⌜ x < 256 ^ w ⌝ }
     ensures { λ r. ⌜ r ≡ toSigned w x ⌝ }
 {
     if w == 8 {
-        return fold8(x);
+        return words::signed_of(x);
     }
     if w == 4 {
         return fold(x, 2147483648);
@@ -142,7 +108,7 @@ fn signed_value(x: u64, w: usize) -> i64
 }
 
 // The value of a sample's bits, where the type has it.
-fn value(x: u64, w: usize, signed: bool) -> i64
+pub(crate) fn value(x: u64, w: usize, signed: bool) -> i64
     requires { ⌜ Width w ⌝ }
     requires { ⌜ x < 256 ^ w ⌝ }
     ensures { λ r. ⌜ (inType (kindBy signed) w (valueOfBits (kindBy signed) w x) ≡ true → r ≡ valueOfBits (kindBy signed) w x) ⌝ }
@@ -155,7 +121,7 @@ fn value(x: u64, w: usize, signed: bool) -> i64
 }
 
 // The sample at a place, where the type has it.
-fn sample_at(s: &[u8], at: usize, w: usize, signed: bool, big: bool) -> i64
+pub(crate) fn sample_at(s: &[u8], at: usize, w: usize, signed: bool, big: bool) -> i64
     requires { ⌜ Width w ⌝ }
     requires { ⌜ at + w ≤ length (now s) ⌝ }
     ensures { λ r. ⌜ (inType (kindBy signed) w (sampleAt signed big w (now (s .entry)) at) ≡ true → r ≡ sampleAt signed big w (now (s .entry)) at) ⌝ }
@@ -195,7 +161,7 @@ pub fn raw_sample(s: &[u8], at: usize, w: usize, signed: bool, big: bool) -> i64
     sample_at(s, at, w, signed, big)
 }
 
-// The refusal of unsigned samples of 8 bytes. All are tested, without branches: the compiler makes vector code of the loop.
+// The refusal of unsigned samples of 8 bytes. There is no early exit.
 fn check_words(s: &[u8], n: usize, big: bool) -> u32
     requires { ⌜ n * 8 ≤ length (now s) ⌝ }
     ensures { λ r. ⌜ r ≡ rawSamples unsigned 8 (endianBy big) n (now (s .entry)) .number ⌝ }
@@ -228,9 +194,8 @@ pub fn check_raw(s: &[u8], n: usize, w: usize, signed: bool, big: bool) -> u32
 }
 
 // The samples to the front of dst, with no place tested.
-fn fill(s: &[u8], n: usize, w: usize, step: usize, signed: bool, big: bool, dst: &mut [i64])
+fn fill(s: &[u8], n: usize, w: usize, signed: bool, big: bool, dst: &mut [i64])
     requires { ⌜ Width w ⌝ }
-    requires { ⌜ step ≡ w ⌝ }
     requires { ⌜ n * w ≤ length (now s) ⌝ }
     requires { ⌜ n ≤ length (now dst) ⌝ }
     ensures { λ _. ⌜ (rawSamples (kindBy signed) w (endianBy big) n (now (s .entry)) .number ≡ 0 → now (dst .exit) ≡ over (rawSamples (kindBy signed) w (endianBy big) n (now (s .entry)) .seen) (now (dst .entry))) ⌝ }
@@ -239,45 +204,63 @@ fn fill(s: &[u8], n: usize, w: usize, step: usize, signed: bool, big: bool, dst:
     let mut k: usize = 0;
     while k < n {
         dst[k] = sample_at(s, at, w, signed, big);
-        at += step;
+        at += w;
         k += 1;
     }
 }
 
-// Samples of 4 or 8 bytes whose order is turned. The step is no literal: where the compiler knows it, it turns the bytes by vector code, which is slower.
-fn fill_turned(s: &[u8], n: usize, w: usize, signed: bool, dst: &mut [i64])
-    requires { ⌜ Width w ⌝ }
-    requires { ⌜ 2 < w ⌝ }
-    requires { ⌜ n * w ≤ length (now s) ⌝ }
-    requires { ⌜ n ≤ length (now dst) ⌝ }
-    ensures { λ _. ⌜ (rawSamples (kindBy signed) w (endianBy true) n (now (s .entry)) .number ≡ 0 → now (dst .exit) ≡ over (rawSamples (kindBy signed) w (endianBy true) n (now (s .entry)) .seen) (now (dst .entry))) ⌝ }
-{
-    if 4 < w {
-        return fill(s, n, 8, w, signed, true, dst);
-    }
-    fill(s, n, 4, w, signed, true, dst)
-}
-
-// A call for each width: the compiler makes a loop of its own of each.
-pub(crate) fn fill_by_width(s: &[u8], n: usize, w: usize, signed: bool, big: bool, dst: &mut [i64])
+// The same, two samples a turn: of one of 8 bytes with its bytes turned the compiler would make vector code that is slower.
+fn fill_pairs(s: &[u8], n: usize, w: usize, signed: bool, big: bool, dst: &mut [i64])
     requires { ⌜ Width w ⌝ }
     requires { ⌜ n * w ≤ length (now s) ⌝ }
     requires { ⌜ n ≤ length (now dst) ⌝ }
     ensures { λ _. ⌜ (rawSamples (kindBy signed) w (endianBy big) n (now (s .entry)) .number ≡ 0 → now (dst .exit) ≡ over (rawSamples (kindBy signed) w (endianBy big) n (now (s .entry)) .seen) (now (dst .entry))) ⌝ }
 {
-    if big & (2 < w) {
-        return fill_turned(s, n, w, signed, dst);
+    let mut at: usize = 0;
+    let mut k: usize = 0;
+    while k + 1 < n {
+        dst[k] = sample_at(s, at, w, signed, big);
+        at += w;
+        k += 1;
+        dst[k] = sample_at(s, at, w, signed, big);
+        at += w;
+        k += 1;
     }
+    if n <= k {
+        return;
+    }
+    dst[k] = sample_at(s, at, w, signed, big);
+}
+
+// Samples of 8 bytes.
+fn fill_words(s: &[u8], n: usize, signed: bool, big: bool, dst: &mut [i64])
+    requires { ⌜ n * 8 ≤ length (now s) ⌝ }
+    requires { ⌜ n ≤ length (now dst) ⌝ }
+    ensures { λ _. ⌜ (rawSamples (kindBy signed) 8 (endianBy big) n (now (s .entry)) .number ≡ 0 → now (dst .exit) ≡ over (rawSamples (kindBy signed) 8 (endianBy big) n (now (s .entry)) .seen) (now (dst .entry))) ⌝ }
+{
+    if big {
+        return fill_pairs(s, n, 8, signed, true, dst);
+    }
+    fill(s, n, 8, signed, false, dst)
+}
+
+// A call for each width: the compiler makes a loop of its own of each.
+fn fill_by_width(s: &[u8], n: usize, w: usize, signed: bool, big: bool, dst: &mut [i64])
+    requires { ⌜ Width w ⌝ }
+    requires { ⌜ n * w ≤ length (now s) ⌝ }
+    requires { ⌜ n ≤ length (now dst) ⌝ }
+    ensures { λ _. ⌜ (rawSamples (kindBy signed) w (endianBy big) n (now (s .entry)) .number ≡ 0 → now (dst .exit) ≡ over (rawSamples (kindBy signed) w (endianBy big) n (now (s .entry)) .seen) (now (dst .entry))) ⌝ }
+{
     if w == 8 {
-        return fill(s, n, 8, 8, signed, big, dst);
+        return fill_words(s, n, signed, big, dst);
     }
     if w == 4 {
-        return fill(s, n, 4, 4, signed, big, dst);
+        return fill(s, n, 4, signed, big, dst);
     }
     if w == 2 {
-        return fill(s, n, 2, 2, signed, big, dst);
+        return fill(s, n, 2, signed, big, dst);
     }
-    fill(s, n, 1, 1, signed, big, dst)
+    fill(s, n, 1, signed, big, dst)
 }
 
 // The samples to the front of dst, where none is refused.

@@ -234,7 +234,7 @@ fn at_most(at: usize, most: usize) -> usize
 }
 
 // The first sample from `at` on, from -low to high.
-fn sample_in(s: &[u8], at: usize, low: u64, high: u64) -> TextSample
+pub(crate) fn sample_in(s: &[u8], at: usize, low: u64, high: u64) -> TextSample
     requires { ⌜ (low ≤ 2 ^ 63) × (high < 2 ^ 63) ⌝ }
     ensures { λ r. ⌜ OneSample (samplesIn low high) (now (s .entry)) at r ⌝ }
 {

@@ -1,12 +1,13 @@
--- `check_hex` meets its contract: what the scan comes to, and for unsigned samples of 8 bytes the values.
+-- `check_hex` meets its contract: its test refuses only what the premise rules out.
 -- Assumes nothing.
 use native.Mathlib.Omega.{arith}
 use mathlib.Core.Path.{sym, _∙_}
 use denote.Ref.{now}
 use borrow.Author.Tests.{not-true, not-false}
-use Rattle.samples.specs.Widths.{endianBy}
-use Rattle.samples.proofs.RawLaws.{is-width, not-width}
-use Rattle.samples.proofs.SampleLaws.{signed-told, narrow-told, wide-bad, wide-good}
+use Rattle.format.specs.Samples.{withoutBlanks}
+use Rattle.samples.specs.Widths.{kindBy, endianBy}
+use Rattle.samples.proofs.RawLaws.{is-width, not-width, width-le}
+use Rattle.samples.proofs.ScanLaws.{samples-digits}
 use borrow.Author.Needs.{needs}
 use Rattle.samples.proofs.hex.check_hex.Statement.{statement}
 use Rattle.samples.proofs.hex.check_hex.Tie as tie
@@ -17,42 +18,30 @@ is-width-requires c κs = search needs
 returns : tie.Need-returns
 returns c = λ d. absurd (not-width _ d (sym (c .before .is-width .ensures) ∙ not-true _ (c .if1 .taken)))
 
-wanted-requires : tie.Need-wanted-requires
-wanted-requires c κs = (is-width _ (sym (c .before .is-width .ensures) ∙ not-false _ (c .if1 .left)), omega (arith, c .before .before .before .good))
+by-digits-requires : tie.Need-by-digits-requires
+by-digits-requires c κs = is-width _ (sym (c .before .is-width .ensures) ∙ not-false _ (c .if1 .left))
 
-scan-requires : tie.Need-scan-requires
-scan-requires c κs = search needs
+mul-check-digits : tie.Need-mul-check-digits
+mul-check-digits c =
+    let w = is-width (c .before .before .before .before .before .args .w) (sym (c .before .before .before .is-width .ensures) ∙ not-false _ (c .before .before .if1 .left)) in
+    omega (arith, width-le (c .before .before .before .before .before .args .w) w)
+
+mul-check-digits-2 : tie.Need-mul-check-digits-2
+mul-check-digits-2 c = omega (arith, c .before .by-digits .ensures (c .if2 .taken) .room)
+
+check-digits-requires : tie.Need-check-digits-requires
+check-digits-requires c κs = search needs
 
 returns-2 : tie.Need-returns-2
 returns-2 c =
     let a = c .before .before .before .before .before .before .args in
-    let n = c .before .before .wanted in
-    rw (c .if2 .taken) (λ d. signed-told (a .w) (endianBy (a .big)) (a .n) (now (a .s)) (n .result) (c .before .scan .result) (c .before .scan .ensures) d (n .ensures .0) (n .ensures .1))
+    λ d. c .check-digits .ensures ∙ sym (samples-digits (kindBy (a .signed)) (a .w) (endianBy (a .big)) (c .before .before .by-digits .ensures (c .before .if2 .taken) .all) (a .n) (withoutBlanks (now (a .s))))
+
+check-samples-requires : tie.Need-check-samples-requires
+check-samples-requires c κs = is-width _ (sym (c .before .before .before .is-width .ensures) ∙ not-false _ (c .before .before .if1 .left))
 
 returns-3 : tie.Need-returns-3
-returns-3 c =
-    let a = c .before .before .before .before .before .before .before .args in
-    let n = c .before .before .before .wanted in
-    rw (c .before .if2 .left) (λ d. narrow-told (a .w) (endianBy (a .big)) (a .n) (now (a .s)) (n .result) (c .before .before .scan .result) (c .before .before .scan .ensures) d (n .ensures .0) (n .ensures .1) (c .if3 .taken))
-
-check-values-requires : tie.Need-check-values-requires
-check-values-requires c κs = search needs
-
-returns-4 : tie.Need-returns-4
-returns-4 c =
-    let a = c .before .before .before .before .before .before .before .before .before .before .args in
-    let n = c .before .before .before .before .before .before .wanted in
-    let x = c .before .before .before .before .before .scan in
-    let e = c .before .before .before .if3 .left in
-    rw (c .before .before .before .before .if2 .left, e) (λ d. wide-bad (endianBy (a .big)) (a .n) (now (a .s)) (n .result) (x .result) (x .ensures) (rw e at (n .ensures .0)) (rw e at (n .ensures .1)) _ (c .before .check-values .ensures) (c .if4 .taken))
-
-returns-5 : tie.Need-returns-5
-returns-5 c =
-    let a = c .before .before .before .before .before .before .before .before .before .before .args in
-    let n = c .before .before .before .before .before .before .wanted in
-    let x = c .before .before .before .before .before .scan in
-    let e = c .before .before .before .if3 .left in
-    rw (c .before .before .before .before .if2 .left, e) (λ d. wide-good (endianBy (a .big)) (a .n) (now (a .s)) (n .result) (x .result) (x .ensures) (rw e at (n .ensures .0)) (rw e at (n .ensures .1)) _ (c .before .check-values .ensures) (c .if4 .left))
+returns-3 c = λ d. c .check-samples .ensures
 
 pub check-hex-spec : {M : Type 1} → statement M
 check-hex-spec =
@@ -60,10 +49,10 @@ check-hex-spec =
     (tie.spec
     is-width-requires
     returns
-    wanted-requires
-    scan-requires
+    by-digits-requires
+    mul-check-digits
+    mul-check-digits-2
+    check-digits-requires
     returns-2
-    returns-3
-    check-values-requires
-    returns-4
-    returns-5)
+    check-samples-requires
+    returns-3)

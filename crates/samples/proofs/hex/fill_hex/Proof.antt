@@ -17,16 +17,16 @@ returns c = λ d h z. absurd (not-width _ d (sym (c .before .is-width .ensures) 
 returns-2 : tie.Need-returns-2
 returns-2 c = λ d h z. absurd (omega arith)
 
-fill-blocks-requires : tie.Need-fill-blocks-requires
-fill-blocks-requires c κs = (is-width _ (sym (c .before .before .before .is-width .ensures) ∙ not-false _ (c .before .before .if1 .left)), c .before .if2 .left)
+fill-samples-requires : tie.Need-fill-samples-requires
+fill-samples-requires c κs = (is-width _ (sym (c .before .before .before .is-width .ensures) ∙ not-false _ (c .before .before .if1 .left)), c .before .if2 .left)
 
 same-length : tie.Need-same-length
 same-length c = search needs
 
 returns-3 : tie.Need-returns-3
-returns-3 c = λ d h z. c .before .fill-blocks .ensures z
+returns-3 c = λ d h z. c .before .fill-samples .ensures z
 
 pub fill-hex-spec : {M : Type 1} → statement M
 fill-hex-spec =
     tie.close
-    (tie.spec is-width-requires returns returns-2 fill-blocks-requires same-length returns-3)
+    (tie.spec is-width-requires returns returns-2 fill-samples-requires same-length returns-3)

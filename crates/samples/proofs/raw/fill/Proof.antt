@@ -13,19 +13,19 @@ use Rattle.samples.proofs.raw.fill.Statement.{statement}
 use Rattle.samples.proofs.raw.fill.Tie as tie
 
 abbrev Inv-loop : tie.InvT-loop
-Inv-loop s n w step signed big dst₀ at₀ k₀ dst at k = Filling (kindBy signed) w (endianBy big) n s dst₀ dst at k
+Inv-loop s n w signed big dst₀ at₀ k₀ dst at k = Filling (kindBy signed) w (endianBy big) n s dst₀ dst at k
 
 abbrev μ-loop : tie.MeasureT-loop
-μ-loop s n w step signed big dst₀ at₀ k₀ dst at k = n - k
+μ-loop s n w signed big dst₀ at₀ k₀ dst at k = n - k
 
 loop-holds : tie.Need-loop-holds Inv-loop μ-loop
-loop-holds c = let a = c .before .args in filling-none (kindBy (a .signed)) (a .w) (endianBy (a .big)) (a .n) (now (a .s)) (now (a .dst)) (c .before .pre .1 .1 .0)
+loop-holds c = let a = c .before .args in filling-none (kindBy (a .signed)) (a .w) (endianBy (a .big)) (a .n) (now (a .s)) (now (a .dst)) (c .before .pre .1 .0)
 
 sample-at-requires : tie.Need-sample-at-requires Inv-loop μ-loop
 sample-at-requires c κs = let a = c .before .before .before .args in (c .before .before .before .pre .0, filling-room (kindBy (a .signed)) (a .w) (endianBy (a .big)) (a .n) (now (a .s)) (now (a .dst)) (c .before .loop .inv) (c .loop-test .taken))
 
-mul-t12 : tie.Need-mul-t12 Inv-loop μ-loop
-mul-t12 c = search needs
+mul-t11 : tie.Need-mul-t11 Inv-loop μ-loop
+mul-t11 c = search needs
 
 slice-set-from-dst : tie.Need-slice-set-from-dst Inv-loop μ-loop
 slice-set-from-dst c = omega (arith, c .before .before .loop .inv .long)
@@ -42,13 +42,13 @@ loop-less c = search needs
 loop-again : tie.Need-loop-again Inv-loop μ-loop
 loop-again c =
     let a = c .before .before .before .before .args in
-    rw (c .before .before .before .before .pre .1 .0) (filling-more (kindBy (a .signed)) (a .w) (endianBy (a .big)) (a .n) (now (a .s)) (now (a .dst)) (c .before .before .loop .inv) (c .before .loop-test .taken) _ (λ i. toZ-ofZ (sfits-of (c .sample-at .ok)) ∙ c .sample-at .ensures i))
+    filling-more (kindBy (a .signed)) (a .w) (endianBy (a .big)) (a .n) (now (a .s)) (now (a .dst)) (c .before .before .loop .inv) (c .before .loop-test .taken) _ (λ i. toZ-ofZ (sfits-of (c .sample-at .ok)) ∙ c .sample-at .ensures i)
 
 same-length : tie.Need-same-length Inv-loop μ-loop
 same-length c = c .before .loop .inv .long
 
 returns : tie.Need-returns Inv-loop μ-loop
-returns c = let a = c .before .before .before .args in filling-done (kindBy (a .signed)) (a .w) (endianBy (a .big)) (a .n) (now (a .s)) (now (a .dst)) (c .before .loop .inv) (c .loop-test .left) (c .before .before .before .pre .1 .1 .1)
+returns c = let a = c .before .before .before .args in filling-done (kindBy (a .signed)) (a .w) (endianBy (a .big)) (a .n) (now (a .s)) (now (a .dst)) (c .before .loop .inv) (c .loop-test .left) (c .before .before .before .pre .1 .1)
 
 pub fill-spec : {M : Type 1} → statement M
 fill-spec =
@@ -58,7 +58,7 @@ fill-spec =
     μ-loop
     loop-holds
     sample-at-requires
-    mul-t12
+    mul-t11
     slice-set-from-dst
     add-at
     add-k

@@ -8,11 +8,11 @@ use borrow.Author.Needs.{needs}
 use Rattle.samples.proofs.raw.signed_value.Statement.{statement}
 use Rattle.samples.proofs.raw.signed_value.Tie as tie
 
-fold8-requires : tie.Need-fold8-requires
-fold8-requires c κs = search needs
+signed-of-requires : tie.Need-signed-of-requires
+signed-of-requires c κs = search needs
 
 returns : tie.Need-returns
-returns c = rw (c .before .if1 .taken) (toZ-ofZ (sfits-of (c .fold8 .ok)) ∙ c .fold8 .ensures)
+returns c = rw (c .before .if1 .taken) (toZ-ofZ (sfits-of (c .signed-of .ok)) ∙ c .signed-of .ensures)
 
 fold-requires : tie.Need-fold-requires
 fold-requires c κs = (rw (c .if2 .taken) at (c .before .before .pre .1), search needs)
@@ -36,7 +36,7 @@ pub signed-value-spec : {M : Type 1} → statement M
 signed-value-spec =
     tie.close
     (tie.spec
-    fold8-requires
+    signed-of-requires
     returns
     fold-requires
     returns-2

@@ -1,0 +1,17 @@
+-- `is_blank` meets its contract, by the tests on the way.
+-- Assumes nothing.
+use Rattle.samples.proofs.HexLaws.{blank-space, blank-low, blank-high}
+use Rattle.samples.proofs.hex.is_blank.Statement.{statement}
+use Rattle.samples.proofs.hex.is_blank.Tie as tie
+
+returns : tie.Need-returns
+returns c = blank-space _ (c .if1 .taken)
+
+returns-2 : tie.Need-returns-2
+returns-2 c = blank-low _ (c .if2 .taken)
+
+returns-3 : tie.Need-returns-3
+returns-3 c = blank-high _ (c .before .if1 .left) (c .if2 .left)
+
+pub is-blank-spec : {M : Type 1} → statement M
+is-blank-spec = tie.close (tie.spec returns returns-2 returns-3)
