@@ -215,6 +215,21 @@ static void settings(bench *b)
     compare("one byte longer, one shorter", set_twice, move_twice, b, 1);
 }
 
+/* The tables with a row for each type, and how many byte orders have a row of their own. */
+static const struct {
+    const char *what, *peer;
+    row_maker *make;
+    int orders;
+} parts[] = {
+    {"raw decoded", "C ms", decode_raw, 2},
+    {"hex decoded", "C table ms", decode_hex_row, 2},
+    {"hex decoded, lines of 70 digits", "C table ms", decode_hex_lines_row, 2},
+    {"text decoded", "strtoll ms", decode_text, 1},
+    {"raw written", "C ms", write_raw_row, 2},
+    {"hex written", "C ms", write_hex_row, 2},
+    {"text written", "C ms", write_text_row, 1},
+};
+
 int main(void)
 {
     static bench b;
@@ -226,20 +241,10 @@ int main(void)
     b.peer_bytes = (uint8_t *)memory(b.room);
     printf("%d samples, the best of %d rounds\n", SAMPLES, ROUNDS);
 
-    heading("raw decoded", "C ms");
-    each_type(&b, decode_raw, 2);
-    heading("hex decoded", "C table ms");
-    each_type(&b, decode_hex_row, 2);
-    heading("hex decoded, lines of 70 digits", "C table ms");
-    each_type(&b, decode_hex_lines_row, 2);
-    heading("text decoded", "strtoll ms");
-    each_type(&b, decode_text, 1);
-    heading("raw written", "C ms");
-    each_type(&b, write_raw_row, 2);
-    heading("hex written", "C ms");
-    each_type(&b, write_hex_row, 2);
-    heading("text written", "C ms");
-    each_type(&b, write_text_row, 1);
+    for (size_t i = 0; i < sizeof parts / sizeof parts[0]; i++) {
+        heading(parts[i].what, parts[i].peer);
+        each_type(&b, parts[i].make, parts[i].orders);
+    }
     settings(&b);
     return EXIT_SUCCESS;
 }

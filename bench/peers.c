@@ -32,8 +32,11 @@ DECODE(uint32_big, uint32_t, uint32_t, __builtin_bswap32)
 DECODE(int64_little, int64_t, uint64_t, SAME)
 DECODE(int64_big, int64_t, uint64_t, __builtin_bswap64)
 
+DECODE(uint64_little_fill, int64_t, uint64_t, SAME)
+DECODE(uint64_big_fill, int64_t, uint64_t, __builtin_bswap64)
+
 /* A uint64 above the largest int64_t is refused, and nothing may be stored then: looked at first. */
-#define DECODE_UINT64(name, turn)                                                   \
+#define DECODE_UINT64(name, fill, turn)                                             \
     static size_t name(const uint8_t *data, size_t n, int64_t *list)                \
     {                                                                               \
         uint64_t all = 0;                                                           \
@@ -42,18 +45,11 @@ DECODE(int64_big, int64_t, uint64_t, __builtin_bswap64)
             memcpy(&x, data + k * sizeof x, sizeof x);                              \
             all |= turn(x);                                                         \
         }                                                                           \
-        if (all >> 63)                                                              \
-            return 0;                                                               \
-        for (size_t k = 0; k < n; k++) {                                            \
-            uint64_t x;                                                             \
-            memcpy(&x, data + k * sizeof x, sizeof x);                              \
-            list[k] = (int64_t)turn(x);                                             \
-        }                                                                           \
-        return n;                                                                   \
+        return all >> 63 ? 0 : fill(data, n, list);                                 \
     }
 
-DECODE_UINT64(uint64_little, SAME)
-DECODE_UINT64(uint64_big, __builtin_bswap64)
+DECODE_UINT64(uint64_little, uint64_little_fill, SAME)
+DECODE_UINT64(uint64_big, uint64_big_fill, __builtin_bswap64)
 
 typedef size_t decoder(const uint8_t *, size_t, int64_t *);
 

@@ -48,6 +48,12 @@ static int untouched(struct bytes b, size_t start)
     return 1;
 }
 
+/* True if the bytes wanted are in front, and those past them are as filled. */
+static int holds(struct bytes b, struct bytes want)
+{
+    return want.length <= b.length && memcmp(b.at, want.at, want.length) == 0 && untouched(b, want.length);
+}
+
 /* The bytes of a string of hexadecimal digits. */
 static struct bytes of_hex(const struct json *text)
 {
@@ -163,8 +169,7 @@ static int keys_are_right(const struct json *v, struct bytes file)
 static int table_is_right(const struct json *v, struct bytes table, uint32_t lines)
 {
     struct bytes want = of_numbers(json_member(v, "expect_table"), 4);
-    int right = want.length == 4 * (size_t)lines && memcmp(table.at, want.at, want.length) == 0
-                && untouched(table, want.length);
+    int right = want.length == 4 * (size_t)lines && holds(table, want);
     free(want.at);
     return right;
 }
@@ -248,7 +253,7 @@ static int run_samples(const struct json *v)
     }
     right = same_refusal(v, answer.refusal) && same_refusal(v, check.refusal)
             && answer.count == want.length / 8 && check.count == answer.count
-            && memcmp(list.at, want.at, want.length) == 0 && untouched(list, want.length);
+            && holds(list, want);
     free(file.at);
     free(second.at);
     free(list.at);
@@ -277,7 +282,7 @@ static int run_write(const struct json *v)
                     number_member(v, "encoding"), number_member(v, "endian"),
                     samples.at, samples.length, out.at, out.length);
     int right = same_refusal(v, answer.refusal) && answer.length == want.length
-                && memcmp(out.at, want.at, want.length) == 0 && untouched(out, want.length);
+                && holds(out, want);
     free(sizes.at);
     free(samples.at);
     free(out.at);

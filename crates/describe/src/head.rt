@@ -112,7 +112,7 @@ fn put_endian(out: &mut [u8], at: usize, endian: u32) -> usize
 }
 
 // The lines of the version, the form and the type, at the front.
-pub fn put_top(out: &mut [u8], reading: Reading) -> usize
+pub(crate) fn put_top(out: &mut [u8], reading: Reading) -> usize
     ensures { λ r. ⌜ Printed 55 (now (out .entry)) 0 (topText reading) (now (out .exit)) r ⌝ }
 {
     let a = put::put_number(out, 0, b"version ", reading.version as u64);
@@ -121,7 +121,7 @@ pub fn put_top(out: &mut [u8], reading: Reading) -> usize
 }
 
 // The lines of the sizes, the encoding and the endian.
-pub fn put_middle(out: &mut [u8], at: usize, reading: Reading) -> usize
+pub(crate) fn put_middle(out: &mut [u8], at: usize, reading: Reading) -> usize
     requires { ⌜ (at + 370 ≤ maxPlace) × (reading .dimension ≤ length (reading .sizes)) ⌝ }
     ensures { λ r. ⌜ Printed 370 (now (out .entry)) at (middleText reading) (now (out .exit)) r ⌝ }
 {
@@ -133,7 +133,7 @@ pub fn put_middle(out: &mut [u8], at: usize, reading: Reading) -> usize
 }
 
 // The lines of the start and the extent.
-pub fn put_end(out: &mut [u8], at: usize, start: u64, extent: u64) -> usize
+pub(crate) fn put_end(out: &mut [u8], at: usize, start: u64, extent: u64) -> usize
     requires { ⌜ at + 55 ≤ maxPlace ⌝ }
     ensures { λ r. ⌜ Printed 55 (now (out .entry)) at (endText start extent) (now (out .exit)) r ⌝ }
 {

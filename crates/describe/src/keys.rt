@@ -87,7 +87,7 @@ fn put_item(file: &[u8], out: &mut [u8], at: usize, t: &[u8], next: usize, left:
 }
 
 // What the first `count` lines of the file show.
-pub fn put_keys(file: &[u8], out: &mut [u8], start: usize, count: u32) -> usize
+pub(crate) fn put_keys(file: &[u8], out: &mut [u8], start: usize, count: u32) -> usize
     requires { ⌜ Within (now file) 0 count × (count ≤ maxLines) × (start ≤ 480) ⌝ }
     ensures { λ r. ⌜ Printed 69631 (now (out .entry)) start (shownLines (linesFrom (now (file .entry)) 0 count)) (now (out .exit)) r ⌝ }
 {

@@ -20,7 +20,7 @@ fn put_byte(out: &mut [u8], at: usize, b: u8) -> usize
 }
 
 // The bytes s.
-pub fn put_bytes(out: &mut [u8], at: usize, s: &[u8]) -> usize
+pub(crate) fn put_bytes(out: &mut [u8], at: usize, s: &[u8]) -> usize
     requires { ⌜ at + length (now s) ≤ maxPlace ⌝ }
     ensures { λ r. ⌜ Printed (length (now (s .entry))) (now (out .entry)) at (now (s .entry)) (now (out .exit)) r ⌝ }
 {
@@ -34,7 +34,7 @@ pub fn put_bytes(out: &mut [u8], at: usize, s: &[u8]) -> usize
 }
 
 // The digits of a number.
-pub fn put_decimal(out: &mut [u8], at: usize, n: u64) -> usize
+pub(crate) fn put_decimal(out: &mut [u8], at: usize, n: u64) -> usize
     requires { ⌜ at + 20 ≤ maxPlace ⌝ }
     ensures { λ r. ⌜ Printed 20 (now (out .entry)) at (decimal n) (now (out .exit)) r ⌝ }
 {
@@ -46,7 +46,7 @@ pub fn put_decimal(out: &mut [u8], at: usize, n: u64) -> usize
 }
 
 // A word, a text, and LF.
-pub fn put_line(out: &mut [u8], at: usize, word: &[u8], s: &[u8]) -> usize
+pub(crate) fn put_line(out: &mut [u8], at: usize, word: &[u8], s: &[u8]) -> usize
     requires { ⌜ at + (length (now word) + (length (now s) + 1)) ≤ maxPlace ⌝ }
     ensures { λ r. ⌜ Printed (length (now (word .entry)) + (length (now (s .entry)) + 1)) (now (out .entry)) at (now (word .entry) ++ (now (s .entry) ++ LF ∷ [])) (now (out .exit)) r ⌝ }
 {
@@ -56,7 +56,7 @@ pub fn put_line(out: &mut [u8], at: usize, word: &[u8], s: &[u8]) -> usize
 }
 
 // A word, a number, and LF.
-pub fn put_number(out: &mut [u8], at: usize, word: &[u8], n: u64) -> usize
+pub(crate) fn put_number(out: &mut [u8], at: usize, word: &[u8], n: u64) -> usize
     requires { ⌜ at + (length (now word) + 21) ≤ maxPlace ⌝ }
     ensures { λ r. ⌜ Printed (length (now (word .entry)) + 21) (now (out .entry)) at (now (word .entry) ++ (decimal n ++ LF ∷ [])) (now (out .exit)) r ⌝ }
 {

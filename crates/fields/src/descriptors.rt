@@ -219,7 +219,7 @@ fn take_carried(state: State, f: u32) -> Step
 }
 
 // The field f with the descriptor t.
-pub fn take_field(state: State, f: u32, t: &[u8]) -> Step
+pub(crate) fn take_field(state: State, f: u32, t: &[u8]) -> Step
     ensures { λ r. ⌜ ((gs : List Given) → Holds state gs → f < fieldCount → r ≡ stepOf (state .version) gs (described gs f (now (t .entry)))) ⌝ }
 {
     match f {

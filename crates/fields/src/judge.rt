@@ -16,7 +16,7 @@ ghost use Rattle.format.specs.Header.{wrong, onPair, onField, onMark, judge};
 ghost use Rattle.fields.specs.States.{wrongOf, flags, fieldCount, Holds, stepOf};
 
 // The first version that has the field.
-pub fn field_since(f: u32) -> u32
+fn field_since(f: u32) -> u32
     ensures { λ r. ⌜ r ≡ fieldSince f ⌝ }
 {
     if f == 29 {
@@ -38,7 +38,7 @@ pub fn field_since(f: u32) -> u32
 }
 
 // Whether the text is a name of one data file.
-pub fn is_name(t: &[u8]) -> bool
+pub(crate) fn is_name(t: &[u8]) -> bool
     ensures { λ r. ⌜ r ≡ isName (now (t .entry)) ⌝ }
 {
     if t.len() == 0 {
@@ -54,7 +54,7 @@ pub fn is_name(t: &[u8]) -> bool
 }
 
 // A pair: the number of its refusal, or 0.
-pub fn on_pair(version: u32, key: &[u8], value: &[u8]) -> u32
+fn on_pair(version: u32, key: &[u8], value: &[u8]) -> u32
     ensures { λ r. ⌜ r ≡ wrongOf (onPair version (now (key .entry)) (now (value .entry))) ⌝ }
 {
     if key.len() == 0 {
@@ -73,7 +73,7 @@ pub fn on_pair(version: u32, key: &[u8], value: &[u8]) -> u32
 }
 
 // Whether the field is one of those with an entry for each axis.
-pub fn is_per_axis(f: u32) -> bool
+fn is_per_axis(f: u32) -> bool
     ensures { λ r. ⌜ r ≡ isIn f perAxis ⌝ }
 {
     if f == 4 {
@@ -89,7 +89,7 @@ pub fn is_per_axis(f: u32) -> bool
 }
 
 // Whether the field needs a space before it.
-pub fn is_in_space(f: u32) -> bool
+fn is_in_space(f: u32) -> bool
     ensures { λ r. ⌜ r ≡ isIn f inSpace ⌝ }
 {
     if f < 18 {
@@ -99,7 +99,7 @@ pub fn is_in_space(f: u32) -> bool
 }
 
 // Whether the field may come here, by the fields given.
-pub fn is_in_order(f: u32, given: &[bool; 30]) -> bool
+fn is_in_order(f: u32, given: &[bool; 30]) -> bool
     ensures { λ r. ⌜ ((gs : List Given) → now (given .entry) ≡ flags 0 fieldCount gs → r ≡ inOrder f gs) ⌝ }
 {
     (!is_per_axis(f) | given[0]) & (!is_in_space(f) | (given[16] | given[17]))
@@ -126,7 +126,7 @@ pub fn text_start(f: u32, rest: &[u8]) -> usize
 }
 
 // The step of a line that gives no field and does not close: the number of its refusal, 0 where it is right.
-pub fn refuse(state: State, number: u32) -> Step
+fn refuse(state: State, number: u32) -> Step
     ensures { λ r. ⌜ ((gs : List Given) → Holds state gs → r ≡ stepOf (state .version) gs (wrong number)) ⌝ }
 {
     Step {
@@ -155,7 +155,7 @@ fn on_known(state: State, f: u32, rest: &[u8]) -> Step
 }
 
 // A field: unknown 7, not in this version 8, repeated 9, out of order 10, bad descriptor 11.
-pub fn on_field(state: State, name: &[u8], rest: &[u8]) -> Step
+fn on_field(state: State, name: &[u8], rest: &[u8]) -> Step
     ensures { λ r. ⌜ ((gs : List Given) → Holds state gs → r ≡ stepOf (state .version) gs (onField (state .version) gs (fieldNamed (now (name .entry))) (now (rest .entry)))) ⌝ }
 {
     let row = text::words::field_named(name);

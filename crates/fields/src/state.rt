@@ -80,7 +80,7 @@ pub fn refuse(number: u32, line: u32) -> ReadAnswer
 }
 
 // The bytes of a sample of type t.
-pub fn sample_bytes(t: u32) -> u64
+fn sample_bytes(t: u32) -> u64
     ensures { λ r. ⌜ r ≡ sampleBytes t ⌝ }
 {
     if t < 10 { SAMPLE_BYTES[t as usize] } else { 1 }
@@ -94,7 +94,7 @@ fn endian_needed(t: u32, e: u32) -> bool
 }
 
 // Whether the fields that are needed are given.
-pub fn has_needed(state: State) -> bool
+fn has_needed(state: State) -> bool
     ensures { λ r. ⌜ ((gs : List Given) → Holds state gs → r ≡ hasNeeded gs) ⌝ }
 {
     let endian = state.given[3] | !endian_needed(state.sampletype, state.encoding);

@@ -2,4 +2,4 @@
 pub mod find;
 pub mod lines;
 pub mod read;
-pub mod table;
+mod table;

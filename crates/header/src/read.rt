@@ -14,7 +14,7 @@ ghost use Rattle.format.specs.Calls.{readHeaderCall, readCall};
 ghost use Rattle.fields.specs.States.{answerFrom};
 
 // The version of a magic, 0 for any other text.
-pub fn magic_version(t: &[u8]) -> u32
+fn magic_version(t: &[u8]) -> u32
     ensures { λ r. ⌜ r ≡ orDefault 0 (magicVersion (now (t .entry))) ⌝ }
 {
     if text::bytes::is_same(t, b"NRRD0001") {

@@ -5,7 +5,7 @@ ghost use Rattle.format.specs.Bytes.{over};
 ghost use Rattle.header.specs.Tables.{Tabled, startsOf};
 
 // Writes where each of the first `count` lines starts to the front of the table.
-pub fn fill_table(file: &[u8], table: &mut [u32], count: usize)
+pub(crate) fn fill_table(file: &[u8], table: &mut [u32], count: usize)
     requires { ⌜ Tabled (now file) (now table) count ⌝ }
     ensures { λ r. ⌜ now (table .exit) ≡ over (startsOf (now (file .entry)) count) (now (table .entry)) ⌝ }
 {

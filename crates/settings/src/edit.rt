@@ -40,7 +40,7 @@ fn after_first(file: &[u8]) -> Place
 }
 
 // The place of a key's line in a file whose header has so many lines: its last one, or a new one after line 1.
-pub fn find_place(file: &[u8], lines: u32, key: &[u8]) -> Place
+pub(crate) fn find_place(file: &[u8], lines: u32, key: &[u8]) -> Place
     requires { ⌜ Headed (now file) lines ⌝ }
     ensures { λ r. ⌜ ((es : List Entry) (gs : List Given) (ls : List Line) → header (now (file .entry)) ≡ accepted es gs ls → Placed (now (key .entry)) es r) ⌝ }
 {
@@ -60,7 +60,7 @@ pub fn find_place(file: &[u8], lines: u32, key: &[u8]) -> Place
 }
 
 // Puts the pair's text at a place of the file in the first `used` bytes, which becomes `end` bytes long. What it no longer takes becomes 0.
-pub fn splice_pair(
+pub(crate) fn splice_pair(
     buf: &mut [u8],
     used: usize,
     from: usize,

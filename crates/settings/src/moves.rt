@@ -17,7 +17,7 @@ fn write(d: &mut [u8], at: usize, s: &[u8])
 }
 
 // Writes n zeros into d from index at.
-pub fn zero(d: &mut [u8], at: usize, n: usize)
+pub(crate) fn zero(d: &mut [u8], at: usize, n: usize)
     requires { ⌜ at + n ≤ length (now d) ⌝ }
     ensures { λ _. ⌜ now (d .exit) ≡ sets (now (d .entry)) at (replicate n 0) ⌝ }
 {
@@ -90,7 +90,7 @@ fn slide_up(d: &mut [u8], to: usize, from: usize, n: usize)
 }
 
 // Moves n bytes from `from` to `to`, whichever way that is.
-pub fn slide(d: &mut [u8], to: usize, from: usize, n: usize)
+pub(crate) fn slide(d: &mut [u8], to: usize, from: usize, n: usize)
     requires { ⌜ (to + n ≤ length (now d)) × (from + n ≤ length (now d)) ⌝ }
     ensures { λ _. ⌜ now (d .exit) ≡ sets (now (d .entry)) to (take n (drop from (now (d .entry)))) ⌝ }
 {
@@ -102,7 +102,7 @@ pub fn slide(d: &mut [u8], to: usize, from: usize, n: usize)
 }
 
 // a - b, or 0 where b is the larger.
-pub fn less(a: usize, b: usize) -> usize
+pub(crate) fn less(a: usize, b: usize) -> usize
     ensures { λ r. ⌜ r ≡ a - b ⌝ }
 {
     if b < a { a - b } else { 0 }

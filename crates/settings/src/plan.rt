@@ -118,7 +118,7 @@ fn fit(
 }
 
 // The plan of a setting of a file in a buffer of `room` bytes.
-pub fn prepare(
+pub(crate) fn prepare(
     file: &[u8],
     room: usize,
     table: &[u32],

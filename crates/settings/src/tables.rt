@@ -39,7 +39,7 @@ fn starts_match(file: &[u8], table: &[u32], count: usize) -> bool
 }
 
 // Whether the table and its count are those of the file, whose header has so many lines.
-pub fn table_fine(file: &[u8], lines: usize, table: &[u32], count: usize) -> bool
+pub(crate) fn table_fine(file: &[u8], lines: usize, table: &[u32], count: usize) -> bool
     requires { ⌜ Headed (now file) lines ⌝ }
     ensures { λ r. ⌜ ((es : List Entry) (gs : List Given) (ls : List Line) → header (now (file .entry)) ≡ accepted es gs ls → r ≡ tableFine (now (table .entry)) count (tableOf es)) ⌝ }
 {
@@ -65,7 +65,7 @@ fn moved(x: u32, to: usize, front: usize) -> u32
 }
 
 // Moves the first `count` entries with their lines. With `more` a new line 2 starts at `from`, and the entries after it go one place later.
-pub fn shift_table(
+pub(crate) fn shift_table(
     table: &mut [u32],
     count: usize,
     more: usize,

@@ -20,7 +20,7 @@ fn is_settable(b: u8) -> bool
 }
 
 // Whether a line can hold the value.
-pub fn value_fine(value: &[u8]) -> bool
+pub(crate) fn value_fine(value: &[u8]) -> bool
     ensures { λ r. ⌜ r ≡ valueFine (now (value .entry)) ⌝ }
 {
     let mut fine = true;
@@ -33,7 +33,7 @@ pub fn value_fine(value: &[u8]) -> bool
 }
 
 // Whether a line can hold the key.
-pub fn key_fine(key: &[u8]) -> bool
+pub(crate) fn key_fine(key: &[u8]) -> bool
     ensures { λ r. ⌜ r ≡ keyFine (now (key .entry)) ⌝ }
 {
     if !header::find::begins(key) {
@@ -70,7 +70,7 @@ fn capped(n: usize) -> usize
 }
 
 // How many bytes a line takes for the text, capped.
-pub fn escaped_length(s: &[u8]) -> usize
+pub(crate) fn escaped_length(s: &[u8]) -> usize
     ensures { λ r. ⌜ r ≡ min (length (escape (now (s .entry)))) (maxHeader + 1) ⌝ }
 {
     let mut n: usize = 0;
@@ -83,7 +83,7 @@ pub fn escaped_length(s: &[u8]) -> usize
 }
 
 // How many bytes the text of the line has, capped.
-pub fn pair_length(key: &[u8], value: &[u8]) -> usize
+pub(crate) fn pair_length(key: &[u8], value: &[u8]) -> usize
     ensures { λ r. ⌜ r ≡ min (length (pairText (now (key .entry)) (now (value .entry)))) (maxHeader + 1) ⌝ }
 {
     capped(escaped_length(key) + 2 + escaped_length(value))
@@ -125,7 +125,7 @@ fn escape_into(buf: &mut [u8], at: usize, s: &[u8]) -> usize
 }
 
 // Writes the text of the line at `at`.
-pub fn put_pair(buf: &mut [u8], at: usize, key: &[u8], value: &[u8])
+pub(crate) fn put_pair(buf: &mut [u8], at: usize, key: &[u8], value: &[u8])
     requires { ⌜ at + length (pairText (now key) (now value)) ≤ length (now buf) ⌝ }
     ensures { λ _. ⌜ now (buf .exit) ≡ sets (now (buf .entry)) at (pairText (now (key .entry)) (now (value .entry))) ⌝ }
 {

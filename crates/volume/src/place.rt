@@ -23,7 +23,7 @@ pub enum Skip {
 }
 
 // Past n lines that end in LF.
-pub fn skip_lines(s: &[u8], n: u64) -> Skip
+fn skip_lines(s: &[u8], n: u64) -> Skip
     ensures { λ r. ⌜ SkipIs (now (s .entry)) (skipLines n (now (s .entry))) r ⌝ }
 {
     let mut at: usize = 0;

@@ -2,3 +2,5 @@ pub mod Halves
 pub mod Signs
 pub mod Stores
 pub mod Groups
+pub mod PackedLaws
+pub mod WidthLaws

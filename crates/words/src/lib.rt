@@ -8,6 +8,7 @@ ghost use Rattle.format.specs.Descriptors.{signed, little};
 ghost use Rattle.format.specs.Samples.{fromBytes, toBytes, toSigned, fromSigned, sampleValue, valueBytes};
 ghost use Rattle.format.specs.Boundary.{numbersOf, numberBytes};
 ghost use Rattle.words.specs.Bits.{Bits};
+ghost use Rattle.words.specs.Widths.{isWidth};
 
 fn wide(b: u8) -> u64
     ensures { λ r. ⌜ (r ≡ b) × (r < 256) ⌝ }
@@ -167,4 +168,20 @@ pub fn put_entries(t: &[u32], d: &mut [u8])
         put_entry(d, i, t[i]);
         i += 1;
     }
+}
+
+// Whether samples have so many bytes.
+pub fn is_width(w: usize) -> bool
+    ensures { λ r. ⌜ r ≡ isWidth w ⌝ }
+{
+    if w == 1 {
+        return true;
+    }
+    if w == 2 {
+        return true;
+    }
+    if w == 4 {
+        return true;
+    }
+    w == 8
 }

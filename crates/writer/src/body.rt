@@ -180,7 +180,7 @@ fn any_text_fits(start: usize, n: usize, encoding: u64, room: usize) -> bool
 }
 
 // The refusal of a file whose data starts at `start`. The length of text is worked out only where its lines might not fit.
-pub fn file_refusal(
+pub(crate) fn file_refusal(
     start: usize,
     samples: &[i64],
     lent: &[u8],
@@ -203,7 +203,7 @@ pub fn file_refusal(
 }
 
 // The data. The samples are those of a type of w bytes: the low bytes of each are its bytes.
-pub fn put_data(
+pub(crate) fn put_data(
     out: &mut [u8],
     at: usize,
     samples: &[i64],

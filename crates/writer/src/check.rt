@@ -141,7 +141,7 @@ const HIGHEST: [u64; 10] = [
 ];
 
 // The bytes of a sample.
-pub fn width_of(t: u64) -> u64
+pub(crate) fn width_of(t: u64) -> u64
     requires { ⌜ t < 10 ⌝ }
     ensures { λ r. ⌜ (r ≡ sampleBytes t) × Width r ⌝ }
 {
@@ -163,7 +163,7 @@ fn highest_of(t: u64) -> u64
 }
 
 // The first refusal that the samples and their numbers meet, before the file's length is known; 0 where there is none.
-pub fn early_refusal(
+pub(crate) fn early_refusal(
     version: u64,
     sizes: &[u64],
     sampletype: u64,
@@ -199,7 +199,7 @@ pub fn early_refusal(
 }
 
 // The refusal of a file of `total` bytes in a buffer of `room` bytes; 0 where there is none.
-pub fn late_refusal(total: usize, room: usize) -> u32
+pub(crate) fn late_refusal(total: usize, room: usize) -> u32
     ensures { λ r. ⌜ r ≡ lateRefusal total room ⌝ }
 {
     if format::MAX_FILE < total {

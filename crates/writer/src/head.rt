@@ -153,7 +153,7 @@ fn put_rest(
 }
 
 // The whole header.
-pub fn put_header(
+pub(crate) fn put_header(
     out: &mut [u8],
     version: u64,
     sizes: &[u64],

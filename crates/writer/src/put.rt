@@ -11,7 +11,7 @@ ghost use Rattle.format.specs.Writer.{decimal, signedDecimal, hexLetter, hexTex
 ghost use Rattle.writer.specs.Stored.{digits, signLength, absolute, textLine};
 
 // The bytes s.
-pub fn put_bytes(out: &mut [u8], at: usize, s: &[u8]) -> usize
+pub(crate) fn put_bytes(out: &mut [u8], at: usize, s: &[u8]) -> usize
     requires { ⌜ at + length (now s) ≤ length (now out) ⌝ }
     ensures place { λ r. ⌜ r ≡ at + length (now (s .entry)) ⌝ }
     ensures stored { λ _. ⌜ now (out .exit) ≡ sets (now (out .entry)) at (now (s .entry)) ⌝ }
@@ -102,7 +102,7 @@ fn put_to_12(out: &mut [u8], at: usize, n: u64) -> usize
 }
 
 // A number.
-pub fn put_decimal(out: &mut [u8], at: usize, n: u64) -> usize
+pub(crate) fn put_decimal(out: &mut [u8], at: usize, n: u64) -> usize
     requires { ⌜ at + length (decimal n) ≤ length (now out) ⌝ }
     ensures place { λ r. ⌜ (r ≡ at + length (decimal n)) × (r ≤ at + 20) ⌝ }
     ensures stored { λ _. ⌜ now (out .exit) ≡ sets (now (out .entry)) at (decimal n) ⌝ }
@@ -186,7 +186,7 @@ fn absolute(x: u64) -> u64
 }
 
 // How many bytes a sample takes as text.
-pub fn signed_length(x: u64) -> usize
+pub(crate) fn signed_length(x: u64) -> usize
     ensures { λ r. ⌜ (r ≡ length (signedDecimal (toSigned 8 x))) × (r ≤ 21) ⌝ }
 {
     sign_length(x) + decimal_length(absolute(x))
@@ -203,7 +203,7 @@ fn put_signed(out: &mut [u8], at: usize, x: u64) -> usize
 }
 
 // A sample on a line.
-pub fn put_text_line(out: &mut [u8], at: usize, x: u64) -> usize
+pub(crate) fn put_text_line(out: &mut [u8], at: usize, x: u64) -> usize
     requires { ⌜ at + length (textLine (toSigned 8 x)) ≤ length (now out) ⌝ }
     ensures place { λ r. ⌜ r ≡ at + length (textLine (toSigned 8 x)) ⌝ }
     ensures stored { λ _. ⌜ now (out .exit) ≡ sets (now (out .entry)) at (textLine (toSigned 8 x)) ⌝ }
@@ -222,7 +222,7 @@ fn spot(j: usize, w: usize, endian: u64) -> usize
 }
 
 // The low w bytes of x.
-pub fn put_word(out: &mut [u8], at: usize, x: u64, w: usize, endian: u64) -> usize
+pub(crate) fn put_word(out: &mut [u8], at: usize, x: u64, w: usize, endian: u64) -> usize
     requires { ⌜ at + w ≤ length (now out) ⌝ }
     ensures place { λ r. ⌜ r ≡ at + w ⌝ }
     ensures stored { λ _. ⌜ now (out .exit) ≡ sets (now (out .entry)) at (ordered endian (toBytes w x)) ⌝ }
@@ -247,7 +247,7 @@ fn hex_letter(n: u8) -> u8
 }
 
 // The bytes s in hex.
-pub fn put_hex_bytes(out: &mut [u8], at: usize, s: &[u8]) -> usize
+pub(crate) fn put_hex_bytes(out: &mut [u8], at: usize, s: &[u8]) -> usize
     requires { ⌜ at + 2 * length (now s) ≤ length (now out) ⌝ }
     ensures place { λ r. ⌜ r ≡ at + 2 * length (now (s .entry)) ⌝ }
     ensures stored { λ _. ⌜ now (out .exit) ≡ sets (now (out .entry)) at (hexText (now (s .entry))) ⌝ }

@@ -7,7 +7,7 @@ ghost use Rattle.format.specs.Samples.{toSigned};
 ghost use Rattle.writer.specs.Stored.{chosen};
 
 // How many samples there are.
-pub fn count(samples: &[i64], lent: &[u8], packed: bool) -> usize
+pub(crate) fn count(samples: &[i64], lent: &[u8], packed: bool) -> usize
     ensures { λ r. ⌜ r ≡ length (chosen packed (now (samples .entry)) (now (lent .entry))) ⌝ }
 {
     if packed {
@@ -17,7 +17,7 @@ pub fn count(samples: &[i64], lent: &[u8], packed: bool) -> usize
 }
 
 // The bits of sample k.
-pub fn bits_at(samples: &[i64], lent: &[u8], packed: bool, k: usize) -> u64
+pub(crate) fn bits_at(samples: &[i64], lent: &[u8], packed: bool, k: usize) -> u64
     requires { ⌜ k < length (chosen packed (now samples) (now lent)) ⌝ }
     ensures { λ r. ⌜ toSigned 8 r ≡ getD (chosen packed (now (samples .entry)) (now (lent .entry))) k (pos 0) ⌝ }
 {

@@ -1,0 +1,25 @@
+-- `turn8` meets its contract by two halves.
+-- Assumes nothing.
+use native.Mathlib.Omega.{arith}
+use Rattle.raw.proofs.RawLaws.{turned-halves}
+use borrow.Author.Needs.{needs}
+use Rattle.raw.proofs.number.turn8.Statement.{statement}
+use Rattle.raw.proofs.number.turn8.Tie as tie
+
+turn4-requires : tie.Need-turn4-requires
+turn4-requires c κs = search needs
+
+turn4-requires-2 : tie.Need-turn4-requires-2
+turn4-requires-2 c κs = search needs
+
+mul-result : tie.Need-mul-result
+mul-result c = search needs
+
+add-result : tie.Need-add-result
+add-result c = search needs
+
+returns : tie.Need-returns
+returns c = record { is = omega (arith, c .turn42 .ensures .is, c .before .turn4 .ensures .is, turned-halves 4 (c .before .before .args .x)); less = omega arith }
+
+pub turn8-spec : {M : Type 1} → statement M
+turn8-spec = tie.close (tie.spec turn4-requires turn4-requires-2 mul-result add-result returns)

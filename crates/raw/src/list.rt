@@ -1,0 +1,127 @@
+// Raw samples into a list.
+ghost use mathlib.Core.Path.{_≡_};
+ghost use Prim.Native.Nat.{_*_, _≤_};
+ghost use lib.ListN.{length};
+ghost use Rattle.format.specs.Bytes.{over};
+ghost use Rattle.format.specs.Descriptors.{unsigned};
+ghost use Rattle.format.specs.Samples.{rawSamples};
+ghost use Rattle.words.specs.Widths.{Width, kindBy, endianBy};
+use crate::number;
+
+// The refusal of unsigned samples of 8 bytes. There is no early exit.
+fn check_words(s: &[u8], n: usize, big: bool) -> u32
+    requires { ⌜ n * 8 ≤ length (now s) ⌝ }
+    ensures { λ r. ⌜ r ≡ rawSamples unsigned 8 (endianBy big) n (now (s .entry)) .number ⌝ }
+{
+    let mut fine = true;
+    let mut at: usize = 0;
+    let mut k: usize = 0;
+    while k < n {
+        fine = fine & (number::word(s, at, 8, big) <= 9223372036854775807);
+        at += 8;
+        k += 1;
+    }
+    if fine { 0 } else { 20 }
+}
+
+// The refusal that n samples of w bytes come to: 20 where one is above the largest sample, or 0.
+pub fn check(s: &[u8], n: usize, w: usize, signed: bool, big: bool) -> u32
+    ensures { λ r. ⌜ (Width w → n * w ≤ length (now (s .entry)) → r ≡ rawSamples (kindBy signed) w (endianBy big) n (now (s .entry)) .number) ⌝ }
+{
+    if signed {
+        return 0;
+    }
+    if w != 8 {
+        return 0;
+    }
+    if s.len() / 8 < n {
+        return 0;
+    }
+    check_words(s, n, big)
+}
+
+// The samples to the front of dst, with no place tested.
+fn put(s: &[u8], n: usize, w: usize, signed: bool, big: bool, dst: &mut [i64])
+    requires { ⌜ Width w ⌝ }
+    requires { ⌜ n * w ≤ length (now s) ⌝ }
+    requires { ⌜ n ≤ length (now dst) ⌝ }
+    ensures { λ _. ⌜ (rawSamples (kindBy signed) w (endianBy big) n (now (s .entry)) .number ≡ 0 → now (dst .exit) ≡ over (rawSamples (kindBy signed) w (endianBy big) n (now (s .entry)) .seen) (now (dst .entry))) ⌝ }
+{
+    let mut at: usize = 0;
+    let mut k: usize = 0;
+    while k < n {
+        dst[k] = number::sample_at(s, at, w, signed, big);
+        at += w;
+        k += 1;
+    }
+}
+
+// The same, two samples a turn: of one of 8 bytes with its bytes turned the compiler would make vector code that is slower.
+fn put_pairs(s: &[u8], n: usize, w: usize, signed: bool, big: bool, dst: &mut [i64])
+    requires { ⌜ Width w ⌝ }
+    requires { ⌜ n * w ≤ length (now s) ⌝ }
+    requires { ⌜ n ≤ length (now dst) ⌝ }
+    ensures { λ _. ⌜ (rawSamples (kindBy signed) w (endianBy big) n (now (s .entry)) .number ≡ 0 → now (dst .exit) ≡ over (rawSamples (kindBy signed) w (endianBy big) n (now (s .entry)) .seen) (now (dst .entry))) ⌝ }
+{
+    let mut at: usize = 0;
+    let mut k: usize = 0;
+    while k + 1 < n {
+        dst[k] = number::sample_at(s, at, w, signed, big);
+        at += w;
+        k += 1;
+        dst[k] = number::sample_at(s, at, w, signed, big);
+        at += w;
+        k += 1;
+    }
+    if n <= k {
+        return;
+    }
+    dst[k] = number::sample_at(s, at, w, signed, big);
+}
+
+// Samples of 8 bytes.
+fn put_words(s: &[u8], n: usize, signed: bool, big: bool, dst: &mut [i64])
+    requires { ⌜ n * 8 ≤ length (now s) ⌝ }
+    requires { ⌜ n ≤ length (now dst) ⌝ }
+    ensures { λ _. ⌜ (rawSamples (kindBy signed) 8 (endianBy big) n (now (s .entry)) .number ≡ 0 → now (dst .exit) ≡ over (rawSamples (kindBy signed) 8 (endianBy big) n (now (s .entry)) .seen) (now (dst .entry))) ⌝ }
+{
+    if big {
+        return put_pairs(s, n, 8, signed, true, dst);
+    }
+    put(s, n, 8, signed, false, dst)
+}
+
+// A call for each width: the compiler makes a loop of its own of each.
+fn put_by_width(s: &[u8], n: usize, w: usize, signed: bool, big: bool, dst: &mut [i64])
+    requires { ⌜ Width w ⌝ }
+    requires { ⌜ n * w ≤ length (now s) ⌝ }
+    requires { ⌜ n ≤ length (now dst) ⌝ }
+    ensures { λ _. ⌜ (rawSamples (kindBy signed) w (endianBy big) n (now (s .entry)) .number ≡ 0 → now (dst .exit) ≡ over (rawSamples (kindBy signed) w (endianBy big) n (now (s .entry)) .seen) (now (dst .entry))) ⌝ }
+{
+    if w == 8 {
+        return put_words(s, n, signed, big, dst);
+    }
+    if w == 4 {
+        return put(s, n, 4, signed, big, dst);
+    }
+    if w == 2 {
+        return put(s, n, 2, signed, big, dst);
+    }
+    put(s, n, 1, signed, big, dst)
+}
+
+// The samples to the front of dst, where none is refused.
+pub fn fill(s: &[u8], n: usize, w: usize, signed: bool, big: bool, dst: &mut [i64])
+    ensures { λ _. ⌜ (Width w → n * w ≤ length (now (s .entry)) → n ≤ length (now (dst .entry)) → rawSamples (kindBy signed) w (endianBy big) n (now (s .entry)) .number ≡ 0 → now (dst .exit) ≡ over (rawSamples (kindBy signed) w (endianBy big) n (now (s .entry)) .seen) (now (dst .entry))) ⌝ }
+{
+    if dst.len() < n {
+        return;
+    }
+    if !words::is_width(w) {
+        return;
+    }
+    if s.len() / w < n {
+        return;
+    }
+    put_by_width(s, n, w, signed, big, dst);
+}

@@ -1,0 +1,129 @@
+// The number that is at a place in raw data, and the sample that it is.
+ghost use mathlib.Core.Path.{_≡_};
+ghost use mathlib.Core.Bool.{true};
+ghost use Prim.Native.Nat.{_+_, _*_, _^_, _≤_, _<_};
+ghost use lib.ListN.{length, take, drop};
+ghost use Rattle.format.specs.Samples.{fromBytes, inType, valueOfBits, toSigned};
+ghost use Rattle.raw.specs.Bits.{Bits, turned, bitsAt, sampleAt, folded};
+ghost use Rattle.words.specs.Widths.{Width, kindBy};
+
+fn wide(b: u8) -> u64
+    ensures { λ r. ⌜ (r ≡ b) × (r < 256) ⌝ }
+{
+    b as u64
+}
+
+// The number at a place, the least byte first.
+fn load(s: &[u8], at: usize, w: usize) -> u64
+    requires { ⌜ Width w ⌝ }
+    requires { ⌜ at + w ≤ length (now s) ⌝ }
+    ensures { λ r. ⌜ Bits w (fromBytes (take w (drop at (now (s .entry))))) r ⌝ }
+{
+    if w == 8 {
+        return words::load8(s, at);
+    }
+    if w == 4 {
+        return words::load4(s, at);
+    }
+    if w == 2 {
+        return words::load2(s, at);
+    }
+    wide(s[at])
+}
+
+// The bytes in the other order. The compiler makes one instruction of each.
+fn turn2(x: u64) -> u64
+    requires { ⌜ x < 256 ^ 2 ⌝ }
+    ensures { λ r. ⌜ Bits 2 (turned 2 x) r ⌝ }
+{
+    x / 256 + 256 * (x % 256)
+}
+
+fn turn4(x: u64) -> u64
+    requires { ⌜ x < 256 ^ 4 ⌝ }
+    ensures { λ r. ⌜ Bits 4 (turned 4 x) r ⌝ }
+{
+    turn2(x / 65536) + 65536 * turn2(x % 65536)
+}
+
+fn turn8(x: u64) -> u64
+    ensures { λ r. ⌜ Bits 8 (turned 8 x) r ⌝ }
+{
+    turn4(x / 4294967296) + 4294967296 * turn4(x % 4294967296)
+}
+
+fn turn(x: u64, w: usize) -> u64
+    requires { ⌜ Width w ⌝ }
+    requires { ⌜ x < 256 ^ w ⌝ }
+    ensures { λ r. ⌜ Bits w (turned w x) r ⌝ }
+{
+    if w == 8 {
+        return turn8(x);
+    }
+    if w == 4 {
+        return turn4(x);
+    }
+    if w == 2 {
+        return turn2(x);
+    }
+    x
+}
+
+// The number at a place, by its endian.
+pub(crate) fn word(s: &[u8], at: usize, w: usize, big: bool) -> u64
+    requires { ⌜ Width w ⌝ }
+    requires { ⌜ at + w ≤ length (now s) ⌝ }
+    ensures { λ r. ⌜ Bits w (bitsAt big w (now (s .entry)) at) r ⌝ }
+{
+    let x = load(s, at, w);
+    if big { turn(x, w) } else { x }
+}
+
+// Two's complement below 8 bytes. With a fixed half the compiler makes one instruction of it.
+fn fold(x: u64, half: u64) -> i64
+    requires { ⌜ x < 2 * half ⌝ }
+    requires { ⌜ half ≤ 2147483648 ⌝ }
+    ensures { λ r. ⌜ r ≡ folded half x ⌝ }
+{
+    (((x + half) % (2 * half)) as i64) - (half as i64)
+}
+
+fn signed_value(x: u64, w: usize) -> i64
+    requires { ⌜ Width w ⌝ }
+    requires { ⌜ x < 256 ^ w ⌝ }
+    ensures { λ r. ⌜ r ≡ toSigned w x ⌝ }
+{
+    if w == 8 {
+        return words::signed_of(x);
+    }
+    if w == 4 {
+        return fold(x, 2147483648);
+    }
+    if w == 2 {
+        return fold(x, 32768);
+    }
+    fold(x, 128)
+}
+
+// The value of a sample's bits, where the type has it.
+fn value(x: u64, w: usize, signed: bool) -> i64
+    requires { ⌜ Width w ⌝ }
+    requires { ⌜ x < 256 ^ w ⌝ }
+    ensures { λ r. ⌜ (inType (kindBy signed) w (valueOfBits (kindBy signed) w x) ≡ true → r ≡ valueOfBits (kindBy signed) w x) ⌝ }
+{
+    if signed {
+        signed_value(x, w)
+    } else {
+        (x % 9223372036854775808) as i64
+    }
+}
+
+// The sample at a place, where the type has it.
+pub(crate) fn sample_at(s: &[u8], at: usize, w: usize, signed: bool, big: bool) -> i64
+    requires { ⌜ Width w ⌝ }
+    requires { ⌜ at + w ≤ length (now s) ⌝ }
+    ensures { λ r. ⌜ (inType (kindBy signed) w (sampleAt signed big w (now (s .entry)) at) ≡ true → r ≡ sampleAt signed big w (now (s .entry)) at) ⌝ }
+{
+    let x = word(s, at, w, big);
+    value(x, w, signed)
+}

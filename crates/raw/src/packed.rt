@@ -1,0 +1,94 @@
+// Raw samples into lent bytes, 8 for each, the low byte first.
+ghost use mathlib.Core.Path.{_≡_};
+ghost use Prim.Native.Nat.{_*_, _/_, _≤_};
+ghost use lib.ListN.{length};
+ghost use Rattle.format.specs.Samples.{rawSamples};
+ghost use Rattle.words.specs.Packed.{samplesOver};
+ghost use Rattle.words.specs.Widths.{Width, kindBy, endianBy};
+use crate::number;
+
+// Raw samples to the front of dst, with no place tested.
+fn put(s: &[u8], n: usize, w: usize, signed: bool, big: bool, dst: &mut [u8])
+    requires { ⌜ Width w ⌝ }
+    requires { ⌜ n * w ≤ length (now s) ⌝ }
+    requires { ⌜ n ≤ length (now dst) / 8 ⌝ }
+    ensures { λ _. ⌜ (rawSamples (kindBy signed) w (endianBy big) n (now (s .entry)) .number ≡ 0 → now (dst .exit) ≡ samplesOver (rawSamples (kindBy signed) w (endianBy big) n (now (s .entry)) .seen) (now (dst .entry))) ⌝ }
+{
+    let mut at: usize = 0;
+    let mut k: usize = 0;
+    while k < n {
+        words::put_sample(dst, k, number::sample_at(s, at, w, signed, big));
+        at += w;
+        k += 1;
+    }
+}
+
+// The same, two samples a turn: of one of 8 bytes with its bytes turned the compiler would make vector code that is slower.
+fn put_pairs(s: &[u8], n: usize, w: usize, signed: bool, big: bool, dst: &mut [u8])
+    requires { ⌜ Width w ⌝ }
+    requires { ⌜ n * w ≤ length (now s) ⌝ }
+    requires { ⌜ n ≤ length (now dst) / 8 ⌝ }
+    ensures { λ _. ⌜ (rawSamples (kindBy signed) w (endianBy big) n (now (s .entry)) .number ≡ 0 → now (dst .exit) ≡ samplesOver (rawSamples (kindBy signed) w (endianBy big) n (now (s .entry)) .seen) (now (dst .entry))) ⌝ }
+{
+    let mut at: usize = 0;
+    let mut k: usize = 0;
+    while k + 1 < n {
+        words::put_sample(dst, k, number::sample_at(s, at, w, signed, big));
+        at += w;
+        k += 1;
+        words::put_sample(dst, k, number::sample_at(s, at, w, signed, big));
+        at += w;
+        k += 1;
+    }
+    if n <= k {
+        return;
+    }
+    words::put_sample(dst, k, number::sample_at(s, at, w, signed, big));
+}
+
+// Raw samples of 8 bytes.
+fn put_words(s: &[u8], n: usize, signed: bool, big: bool, dst: &mut [u8])
+    requires { ⌜ n * 8 ≤ length (now s) ⌝ }
+    requires { ⌜ n ≤ length (now dst) / 8 ⌝ }
+    ensures { λ _. ⌜ (rawSamples (kindBy signed) 8 (endianBy big) n (now (s .entry)) .number ≡ 0 → now (dst .exit) ≡ samplesOver (rawSamples (kindBy signed) 8 (endianBy big) n (now (s .entry)) .seen) (now (dst .entry))) ⌝ }
+{
+    if big {
+        return put_pairs(s, n, 8, signed, true, dst);
+    }
+    put(s, n, 8, signed, false, dst)
+}
+
+// A call for each width: the compiler makes a loop of its own of each.
+fn put_by_width(s: &[u8], n: usize, w: usize, signed: bool, big: bool, dst: &mut [u8])
+    requires { ⌜ Width w ⌝ }
+    requires { ⌜ n * w ≤ length (now s) ⌝ }
+    requires { ⌜ n ≤ length (now dst) / 8 ⌝ }
+    ensures { λ _. ⌜ (rawSamples (kindBy signed) w (endianBy big) n (now (s .entry)) .number ≡ 0 → now (dst .exit) ≡ samplesOver (rawSamples (kindBy signed) w (endianBy big) n (now (s .entry)) .seen) (now (dst .entry))) ⌝ }
+{
+    if w == 8 {
+        return put_words(s, n, signed, big, dst);
+    }
+    if w == 4 {
+        return put(s, n, 4, signed, big, dst);
+    }
+    if w == 2 {
+        return put(s, n, 2, signed, big, dst);
+    }
+    put(s, n, 1, signed, big, dst)
+}
+
+// Raw samples to the front of dst, where none is refused.
+pub fn fill(s: &[u8], n: usize, w: usize, signed: bool, big: bool, dst: &mut [u8])
+    ensures { λ _. ⌜ (Width w → n * w ≤ length (now (s .entry)) → n ≤ length (now (dst .entry)) / 8 → rawSamples (kindBy signed) w (endianBy big) n (now (s .entry)) .number ≡ 0 → now (dst .exit) ≡ samplesOver (rawSamples (kindBy signed) w (endianBy big) n (now (s .entry)) .seen) (now (dst .entry))) ⌝ }
+{
+    if dst.len() / 8 < n {
+        return;
+    }
+    if !words::is_width(w) {
+        return;
+    }
+    if s.len() / w < n {
+        return;
+    }
+    put_by_width(s, n, w, signed, big, dst);
+}

@@ -1,0 +1,47 @@
+// Text samples into a list.
+ghost use mathlib.Core.Path.{_≡_};
+ghost use Prim.Native.Nat.{_≤_};
+ghost use lib.ListN.{length, set};
+ghost use Rattle.format.specs.Bytes.{over};
+ghost use Rattle.format.specs.Samples.{textSamples};
+ghost use Rattle.words.specs.Widths.{Width, kindBy};
+use crate::reader;
+
+// The refusal that n samples come to: 20 or 21, whichever comes first in the data, or 0.
+pub fn check(s: &[u8], n: usize, w: usize, signed: bool) -> u32
+    ensures { λ r. ⌜ (Width w → r ≡ textSamples (kindBy signed) w n (now (s .entry)) .number) ⌝ }
+{
+    let low = reader::lowest_of(signed, w);
+    let high = reader::highest_of(signed, w);
+    let mut at: usize = 0;
+    let mut v: i64 = 0;
+    reader::blanks(&s, &mut at, n, low, high, &mut v)
+}
+
+// Writes where there is room.
+fn put(dst: &mut [i64], k: usize, z: i64)
+    ensures { λ _. ⌜ now (dst .exit) ≡ set (now (dst .entry)) k z ⌝ }
+{
+    if k < dst.len() {
+        dst[k] = z;
+    }
+}
+
+// The samples to the front of dst, where none is refused.
+pub fn fill(s: &[u8], n: usize, w: usize, signed: bool, dst: &mut [i64])
+    ensures { λ _. ⌜ (Width w → n ≤ length (now (dst .entry)) → textSamples (kindBy signed) w n (now (s .entry)) .number ≡ 0 → now (dst .exit) ≡ over (textSamples (kindBy signed) w n (now (s .entry)) .seen) (now (dst .entry))) ⌝ }
+{
+    let low = reader::lowest_of(signed, w);
+    let high = reader::highest_of(signed, w);
+    let mut at: usize = 0;
+    let mut k: usize = 0;
+    while k < n {
+        let one = reader::sample_in(s, at, low, high);
+        if one.number != 0 {
+            return;
+        }
+        put(dst, k, one.value);
+        at = one.next;
+        k += 1;
+    }
+}
