@@ -42,7 +42,7 @@ module _ (m l n : ℕ) (h : n ≤ m) where
 
 module _ (m : ℕ) (t : List ℕ) where
   -- a list's front written over the list is the list
-  over-front : over (take m t) t ≡ t
+  pub over-front : over (take m t) t ≡ t
   over-front = go (leb m (length t)) refl
     where
       go : (b : Bool) → leb m (length t) ≡ b → over (take m t) t ≡ t
@@ -111,6 +111,12 @@ module _ (file table part : List ℕ) (room : length part ≡ min maxLines (leng
     read-whole = ap (wholeReading table) is ∙ answer-read
 
 -- ---- a setting
+
+-- a refused setting leaves the table
+pub kept-table : (buf : List ℕ) (used : ℕ) (table : List ℕ) (count : ℕ) (o : SetOutcome)
+    → (setAnswer buf used table count o .0 .refusal .number ≡ 0 → ⊥) → setAnswer buf used table count o .1 .1 ≡ table
+kept-table buf used table count (kept r) h = refl
+kept-table buf used table count (changed (lent b u t c)) h = absurd (h refl)
 
 -- what is lent whole, by what becomes of its front
 abbrev wholeOutcome : List ℕ → SetOutcome → SetOutcome

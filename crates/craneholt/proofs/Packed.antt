@@ -11,11 +11,12 @@ use Rattle.format.specs.declared.SetAnswer.{SetAnswer}
 use Rattle.format.specs.Bytes.{over}
 use Rattle.format.specs.Limits.{maxLines}
 use Rattle.format.specs.Boundary.{entryBytes, numbersOf, numberBytes, lentNumbers}
+use Rattle.format.specs.Settings.{lent, setting, setKey}
 use Rattle.format.specs.Calls.{readCall, setKeyCall}
 use Rattle.format.proofs.Samples.{AllBytes}
-use Rattle.words.proofs.Groups.{length-numbers, numbers-over}
+use Rattle.words.proofs.Groups.{length-numbers, numbers-over, numbers-back}
 use Rattle.craneholt.specs.EntryPoints.{readEntry, setKeyEntry}
-use Rattle.craneholt.proofs.CutTables.{read-lines, read-whole, set-key-whole}
+use Rattle.craneholt.proofs.CutTables.{over-front, read-lines, read-whole, kept-table, set-key-whole}
 use Rattle.craneholt.proofs.Fronts.{front-lent}
 
 module _ (table : List ℕ) (bytes : AllBytes table) where
@@ -56,14 +57,32 @@ module _ (table : List ℕ) (bytes : AllBytes table) where
 
   module _ (buf : List ℕ) (used count : ℕ) (k v : List ℕ) (n : ℕ) (local old : List ℕ) (room : n ≡ min many maxLines)
       (held : local ≡ over (take n entries) old) where
+    -- the first entries are as lent
+    same-front : take n local ≡ take maxLines entries
+    same-front = front-lent entryBytes table local old n maxLines room held
+
+    pub entry-kept : (r : SetAnswer) (buf′ front : List ℕ)
+        → _≡_ {A = SetAnswer × (List ℕ × List ℕ)} (r, (buf′, front)) (setKeyCall buf used (take n local) count k v)
+        → (r .refusal .number ≡ 0 → ⊥)
+        → _≡_ {A = SetAnswer × (List ℕ × List ℕ)} (r, (buf′, table)) (setKeyEntry buf used table count k v)
+    entry-kept r buf′ front is h =
+        let o = setKey (lent buf used (take n local) count) (setting k v) in
+        let f : front ≡ take n local =
+        ap (λ (a : SetAnswer × (List ℕ × List ℕ)). a .1 .1) is
+        ∙ kept-table buf used (take n local) count o (λ z. h (ap (λ (a : SetAnswer × (List ℕ × List ℕ)). a .0 .refusal .number) is ∙ z)) in
+        let w = set-key-whole buf used entries count k v r buf′ front (is ∙ ap (λ (t : List ℕ). setKeyCall buf used t count k v) same-front) in
+        let p : table ≡ lentNumbers entryBytes (over front entries) table =
+        sym (ap (λ (t : List ℕ). lentNumbers entryBytes (over t entries) table) (f ∙ same-front)
+        ∙ ap (λ (t : List ℕ). lentNumbers entryBytes t table) (over-front maxLines entries) ∙ numbers-back entryBytes table bytes) in
+        (λ i. (r, (buf′, p i))) ∙ ap (λ (a : SetAnswer × (List ℕ × List ℕ)). (a .0, (a .1 .0, lentNumbers entryBytes (a .1 .1) table))) w
+
     pub entry-set : (r : SetAnswer) (buf′ front rest table′ : List ℕ)
         → _≡_ {A = SetAnswer × (List ℕ × List ℕ)} (r, (buf′, front)) (setKeyCall buf used (take n local) count k v)
         → length front ≡ n
         → table′ ≡ over (numberBytes entryBytes (take many (take n (front ++ rest)))) table
         → _≡_ {A = SetAnswer × (List ℕ × List ℕ)} (r, (buf′, table′)) (setKeyEntry buf used table count k v)
     entry-set r buf′ front rest table′ is same e =
-        let q : take n local ≡ take maxLines entries = front-lent entryBytes table local old n maxLines room held in
-        let w = set-key-whole buf used entries count k v r buf′ front (is ∙ ap (λ (t : List ℕ). setKeyCall buf used t count k v) q) in
+        let w = set-key-whole buf used entries count k v r buf′ front (is ∙ ap (λ (t : List ℕ). setKeyCall buf used t count k v) same-front) in
         let p : table′ ≡ lentNumbers entryBytes (over front entries) table =
         e ∙ packed (front ++ rest) front n (take-at front rest n same) (omega (arith, same, room)) in
         (λ i. (r, (buf′, p i))) ∙ ap (λ (a : SetAnswer × (List ℕ × List ℕ)). (a .0, (a .1 .0, lentNumbers entryBytes (a .1 .1) table))) w

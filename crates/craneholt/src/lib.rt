@@ -142,6 +142,10 @@ pub extern "C" fn craneholt_set_key(
     let mut local = [0u32; 1024];
     let n = words::entries(table, &mut local);
     let answer = settings::set::set_key(buf, used, &mut local[..n], count, key, value);
+    // refused: the table is not written
+    if answer.refusal.number != 0 {
+        return answer;
+    }
     words::put_entries(&local[..n], table);
     answer
 }
