@@ -5,12 +5,13 @@
 # make bench      times the calls beside plain C, and beside libteem where it is installed
 
 PREFIX  ?= /usr/local
+LIBDIR  ?= $(PREFIX)/lib
 DESTDIR ?=
 CC      ?= cc
 CXX     ?= c++
 CFLAGS  ?= -O2
 
-VERSION = 1.0
+VERSION = $(shell sed -n 's/^.define CRANEHOLT_VERSION "\(.*\)"/\1/p' include/craneholt.h)
 ARCHIVE = target/staticlib/libcraneholt.a
 LISTING = target/bin/listing
 BUILD   = build
@@ -28,11 +29,13 @@ $(ARCHIVE): $(SOURCES)
 	@rt staticlib craneholt > $(BUILD)/staticlib.log 2>&1 || { cat $(BUILD)/staticlib.log; exit 1; }
 
 $(LISTING): $(SOURCES)
+	@echo "proving the listing program (minutes the first time)" >&2
 	@mkdir -p $(BUILD)
 	@rt check listing > $(BUILD)/listing.log 2>&1 || { cat $(BUILD)/listing.log; exit 1; }
 
 list: $(LISTING)
-	@$(LISTING) < $(FILE)
+	@test -n "$(FILE)" || { echo "usage: make list FILE=examples/sweep.nrrd" >&2; exit 2; }
+	@$(LISTING) < "$(FILE)"
 
 # ---- Tests from C
 
@@ -42,13 +45,18 @@ $(BUILD)/vectors: tests/vectors.c tests/json.c tests/model.c $(TESTS)
 	@mkdir -p $(BUILD)
 	$(CC) $(STRICT) $(SANITIZE) -Iinclude tests/vectors.c tests/json.c tests/model.c $(ARCHIVE) -o $@
 
+# the implementation that the library is compared with has to agree with the vectors too
+$(BUILD)/vectors_model: tests/vectors.c tests/json.c tests/model.c $(TESTS)
+	@mkdir -p $(BUILD)
+	$(CC) $(STRICT) $(SANITIZE) -DUSE_MODEL -Iinclude tests/vectors.c tests/json.c tests/model.c -o $@
+
 $(BUILD)/random: tests/random.c tests/generate.c tests/model.c $(TESTS)
 	@mkdir -p $(BUILD)
 	$(CC) $(STRICT) $(SANITIZE) -Iinclude tests/random.c tests/generate.c tests/model.c $(ARCHIVE) -o $@
 
-$(BUILD)/tokens: tests/tokens.c tests/model.c $(TESTS)
+$(BUILD)/tokens: tests/tokens.c $(TESTS)
 	@mkdir -p $(BUILD)
-	$(CC) $(STRICT) $(CFLAGS) -pthread -Iinclude tests/tokens.c tests/model.c $(ARCHIVE) -o $@
+	$(CC) $(STRICT) $(CFLAGS) -pthread -Iinclude tests/tokens.c $(ARCHIVE) -o $@
 
 $(BUILD)/empty: tests/empty.c $(TESTS)
 	@mkdir -p $(BUILD)
@@ -58,8 +66,9 @@ $(BUILD)/%: examples/%.c examples/files.h include/craneholt.h $(ARCHIVE)
 	@mkdir -p $(BUILD)
 	$(CC) $(STRICT) $(CFLAGS) -Iinclude $< $(ARCHIVE) -o $@
 
-check: $(BUILD)/vectors $(BUILD)/empty $(BUILD)/random $(BUILD)/tokens $(BUILD)/correct $(BUILD)/merge
+check: $(BUILD)/vectors $(BUILD)/vectors_model $(BUILD)/empty $(BUILD)/random $(BUILD)/tokens $(BUILD)/correct $(BUILD)/merge
 	$(BUILD)/vectors tests/vectors
+	$(BUILD)/vectors_model tests/vectors
 	$(BUILD)/empty
 	$(BUILD)/random
 	$(BUILD)/tokens
@@ -69,14 +78,14 @@ check: $(BUILD)/vectors $(BUILD)/empty $(BUILD)/random $(BUILD)/tokens $(BUILD)/
 # ---- Install
 
 install: $(ARCHIVE)
-	install -d $(DESTDIR)$(PREFIX)/include $(DESTDIR)$(PREFIX)/lib/pkgconfig
+	install -d $(DESTDIR)$(PREFIX)/include $(DESTDIR)$(LIBDIR)/pkgconfig
 	install -m 644 include/craneholt.h $(DESTDIR)$(PREFIX)/include/craneholt.h
-	install -m 644 $(ARCHIVE) $(DESTDIR)$(PREFIX)/lib/libcraneholt.a
-	sed -e 's|@PREFIX@|$(PREFIX)|' -e 's|@VERSION@|$(VERSION)|' craneholt.pc.in > $(DESTDIR)$(PREFIX)/lib/pkgconfig/craneholt.pc
+	install -m 644 $(ARCHIVE) $(DESTDIR)$(LIBDIR)/libcraneholt.a
+	sed -e 's|@PREFIX@|$(PREFIX)|' -e 's|@LIBDIR@|$(LIBDIR)|' -e 's|@VERSION@|$(VERSION)|' craneholt.pc.in > $(DESTDIR)$(LIBDIR)/pkgconfig/craneholt.pc
 
 uninstall:
-	rm -f $(DESTDIR)$(PREFIX)/include/craneholt.h $(DESTDIR)$(PREFIX)/lib/libcraneholt.a
-	rm -f $(DESTDIR)$(PREFIX)/lib/pkgconfig/craneholt.pc
+	rm -f $(DESTDIR)$(PREFIX)/include/craneholt.h $(DESTDIR)$(LIBDIR)/libcraneholt.a
+	rm -f $(DESTDIR)$(LIBDIR)/pkgconfig/craneholt.pc
 
 # ---- Benchmark
 

@@ -1,5 +1,6 @@
 /* Times every call that touches many bytes beside plain C that does the same job, in one run, on the same buffers. Prints
- * milliseconds and the ratio ours / peer: below 1 ours is faster. Both results are compared first. `make bench` builds and runs it. */
+ * milliseconds and the ratio ours / peer: below 1 ours is faster. Both results of decoding and of writing are compared first.
+ * `make bench` builds and runs it. */
 #define _POSIX_C_SOURCE 200809L
 #include "craneholt.h"
 #include "peers.h"
@@ -162,6 +163,7 @@ static void write_hex_row(bench *b, const char *name) { write_file(b, name, CRAN
 static void write_text_row(bench *b, const char *name) { write_file(b, name, CRANEHOLT_TEXT, text_file); }
 static void decode_hex_row(bench *b, const char *name) { decode_hex(b, name, 0); }
 static void decode_hex_lines_row(bench *b, const char *name) { decode_hex(b, name, 70); }
+static void decode_hex_bytes_row(bench *b, const char *name) { decode_hex(b, name, 2); }
 
 /* A row for each type, and for each byte order where there are two. */
 static void each_type(bench *b, row_maker *make, int orders)
@@ -224,6 +226,7 @@ static const struct {
     {"raw decoded", "C ms", decode_raw, 2},
     {"hex decoded", "C table ms", decode_hex_row, 2},
     {"hex decoded, lines of 70 digits", "C table ms", decode_hex_lines_row, 2},
+    {"hex decoded, a byte a line", "C table ms", decode_hex_bytes_row, 2},
     {"text decoded", "strtoll ms", decode_text, 1},
     {"raw written", "C ms", write_raw_row, 2},
     {"hex written", "C ms", write_hex_row, 2},

@@ -2,25 +2,29 @@
  * The file is replaced whole or not at all: the corrected one is written beside it and then takes its name. */
 #define _POSIX_C_SOURCE 200809L
 #include <string.h>
+#include <sys/stat.h>
 #include <unistd.h>
 
 #include "files.h"
 
 static const char key[] = "utc offset";
 
-/* Writes the bytes to a new file beside `name`, to the disk, and gives it that name. */
+/* Writes the bytes to a new file beside `name`, to the disk, with the mode of `name`, and gives it that name. */
 static void replace(const char *name, const uint8_t *bytes, size_t length)
 {
-    size_t room = strlen(name) + sizeof ".corrected";
+    size_t room = strlen(name) + sizeof ".XXXXXX";
     char *temporary = (char *)malloc(room);
     if (temporary == NULL)
         fail(name, 0, "does not fit the memory");
-    snprintf(temporary, room, "%s.corrected", name);
+    snprintf(temporary, room, "%s.XXXXXX", name);
 
-    FILE *out = fopen(temporary, "wb");
+    struct stat old;
+    int new = stat(name, &old) == 0 ? mkstemp(temporary) : -1;
+    FILE *out = new < 0 ? NULL : fdopen(new, "wb");
     if (out == NULL)
-        fail(temporary, 0, "cannot be created");
-    int written = fwrite(bytes, 1, length, out) == length && fflush(out) == 0 && fsync(fileno(out)) == 0;
+        fail(name, 0, "no file can be created beside it");
+    int written = fchmod(new, old.st_mode & 07777) == 0 && fwrite(bytes, 1, length, out) == length && fflush(out) == 0
+                  && fsync(new) == 0;
     if (fclose(out) != 0 || !written || rename(temporary, name) != 0) {
         remove(temporary);
         fail(name, 0, "cannot be replaced");

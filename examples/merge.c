@@ -15,12 +15,13 @@ typedef struct {
     char offset[64];
 } sweep;
 
-/* The file that a detached header names, in the header's folder. */
+/* The file that a detached header names, in the header's folder unless its name starts with a slash. */
 static whole_file load_second(const sweep *s)
 {
     craneholt_find_answer field = craneholt_find_field(s->header.bytes, s->header.length, CRANEHOLT_FIELD_DATA_FILE);
     const char *slash = strrchr(s->name, '/');
-    int folder = slash == NULL ? 0 : (int)(slash - s->name) + 1;
+    int absolute = field.length > 0 && s->header.bytes[field.start] == '/';
+    int folder = slash == NULL || absolute ? 0 : (int)(slash - s->name) + 1;
     char path[4096];
     int n = snprintf(path, sizeof path, "%.*s%.*s", folder, s->name, (int)field.length,
                      (const char *)s->header.bytes + field.start);
@@ -52,16 +53,18 @@ static sweep load_sweep(const char *name)
 
 static void print_points(const sweep *s, int head)
 {
-    craneholt_count_answer count = craneholt_check_samples(s->header.bytes, s->header.length, s->second.bytes, s->second.length,
-                                                           SIZE_MAX);
-    must(s->name, count.refusal);
-    int64_t *samples = (int64_t *)malloc(count.count * sizeof *samples);
+    /* data that is too short is refused before memory is asked for */
+    must(s->name, craneholt_data(s->header.bytes, s->header.length, s->second.bytes, s->second.length).refusal);
+    uint64_t count = 1;
+    for (uint32_t axis = 0; axis < s->reading.dimension; axis++)
+        count *= s->reading.sizes[axis];
+    int64_t *samples = (int64_t *)malloc(count * sizeof *samples);
     if (samples == NULL)
         fail(s->name, 0, "does not fit the memory");
     must(s->name, craneholt_samples(s->header.bytes, s->header.length, s->second.bytes, s->second.length, samples,
-                                    count.count * sizeof *samples).refusal);
+                                    count * sizeof *samples).refusal);
 
-    for (uint64_t n = 0; n < count.count; n++) {
+    for (uint64_t n = 0; n < count; n++) {
         uint64_t rest = n;
         printf("head %d at", head);
         for (uint32_t axis = 0; axis < s->reading.dimension; axis++) {

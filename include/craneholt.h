@@ -21,7 +21,8 @@
  *
  *     craneholt_read_answer a = craneholt_read_header(file, length);
  *     if (a.refusal.number != 0)
- *         fprintf(stderr, "line %u: %s\n", (unsigned)a.refusal.line, craneholt_sentence(a.refusal.number));
+ *         fprintf(stderr, "refused %u line %u: %s\n", (unsigned)a.refusal.number, (unsigned)a.refusal.line,
+ *                 craneholt_sentence(a.refusal.number));
  */
 #ifndef CRANEHOLT_H
 #define CRANEHOLT_H
@@ -33,6 +34,8 @@
 extern "C" {
 #endif
 
+#define CRANEHOLT_VERSION "1.0"
+
 /* ---- Limits ---- */
 
 #define CRANEHOLT_MAX_FILE   4294967295u /* bytes of a file, and of the data by its sizes */
@@ -40,6 +43,7 @@ extern "C" {
 #define CRANEHOLT_MAX_LINES  1024        /* lines of a header: a table of so many entries is always enough */
 #define CRANEHOLT_MAX_AXES   16
 #define CRANEHOLT_MAX_LISTED 65536       /* bytes of a file that craneholt_listing takes */
+#define CRANEHOLT_MAX_LISTING 70111      /* bytes of a listing: so much room is always enough */
 
 /* ---- Refusals ---- */
 
@@ -54,7 +58,8 @@ enum craneholt_refusal_number {
     CRANEHOLT_UNKNOWN_FIELD    = 7,  /* no field has this name */
     CRANEHOLT_NOT_IN_VERSION   = 8,  /* this version has no such field, or no key pairs */
     CRANEHOLT_REPEATED_FIELD   = 9,  /* the field was given before, in either spelling */
-    CRANEHOLT_OUT_OF_ORDER     = 10, /* a per-axis field before dimension, or an orientation field before space */
+    CRANEHOLT_OUT_OF_ORDER     = 10, /* a per-axis field before dimension, or space units, space origin, space
+                                        directions or measurement frame before space and space dimension */
     CRANEHOLT_BAD_DESCRIPTOR   = 11, /* the field may not say this; writer: a number that cannot be written */
     CRANEHOLT_BAD_BACKSLASH    = 12, /* a backslash in a key or value that is neither "\n" nor "\\" */
     CRANEHOLT_NO_END           = 13, /* the bytes end before the header does, and there is no data file field */
@@ -75,7 +80,7 @@ enum craneholt_refusal_number {
 };
 
 /* The line is that of the header (from 1) for the numbers 2 to 12 of a reading, else 0. */
-typedef struct {
+typedef struct craneholt_refusal {
     uint32_t number;
     uint32_t line;
 } craneholt_refusal;
@@ -93,7 +98,7 @@ enum { CRANEHOLT_RAW, CRANEHOLT_TEXT, CRANEHOLT_HEX };
 
 enum { CRANEHOLT_LITTLE, CRANEHOLT_BIG, CRANEHOLT_NO_ENDIAN };
 
-typedef struct {
+typedef struct craneholt_reading {
     uint32_t version;    /* 1 to 5 */
     uint32_t form;       /* CRANEHOLT_ATTACHED or CRANEHOLT_DETACHED */
     uint32_t dimension;  /* 1 to 16 */
@@ -108,7 +113,7 @@ typedef struct {
     uint32_t lines;      /* lines of the header, its closing empty line included */
 } craneholt_reading;
 
-typedef struct {
+typedef struct craneholt_read_answer {
     craneholt_refusal refusal;
     craneholt_reading reading;
 } craneholt_read_answer;
@@ -135,14 +140,15 @@ enum craneholt_field {
 };
 
 /* Where bytes lie in the file. `found` is 0, and start and length are 0, if the header has none. */
-typedef struct {
+typedef struct craneholt_find_answer {
     craneholt_refusal refusal;
     uint8_t found;
     uint64_t start;
     uint64_t length;
 } craneholt_find_answer;
 
-/* The descriptor of a field, without blanks at its end, and, in the fields up to data file, at its start. Refuses 1 to 15. */
+/* The descriptor of a field, without spaces and tabs at its end, and, in the fields up to data file, at its start. A number past
+ * the last field is answered as not found. Refuses 1 to 15. */
 craneholt_find_answer craneholt_find_field(const uint8_t *file, size_t file_length, uint32_t field);
 
 /* The text of a key's value as it stands in the file: in the last line with the key, LF as "\n" and backslash as "\\".
@@ -150,9 +156,9 @@ craneholt_find_answer craneholt_find_field(const uint8_t *file, size_t file_leng
 craneholt_find_answer craneholt_find_key(const uint8_t *file, size_t file_length,
                                          const uint8_t *key, size_t key_length);
 
-typedef struct {
+typedef struct craneholt_value_answer {
     craneholt_refusal refusal;
-    uint8_t found;
+    uint8_t found;   /* 0: no line has the key, which is no refusal */
     uint64_t length; /* of the value */
 } craneholt_value_answer;
 
@@ -164,7 +170,7 @@ craneholt_value_answer craneholt_copy_value(const uint8_t *file, size_t file_len
 
 /* ---- Data and samples ---- */
 
-typedef struct {
+typedef struct craneholt_data_answer {
     craneholt_refusal refusal;
     uint8_t second; /* 1: the data is in the second file */
     uint64_t start; /* in the file that holds it, after the skips */
@@ -175,13 +181,13 @@ typedef struct {
 craneholt_data_answer craneholt_data(const uint8_t *file, size_t file_length,
                                      const uint8_t *second, size_t second_length);
 
-typedef struct {
+typedef struct craneholt_count_answer {
     craneholt_refusal refusal;
     uint64_t count; /* of samples: the product of the sizes */
 } craneholt_count_answer;
 
 /* All samples, axis 0 fastest, to the front of `list`; what is past them stays. Refuses as craneholt_data, with 19 before 16,
- * then 22, then 20 or 21, whichever comes first in the data. */
+ * then 22, then 20 or 21, whichever comes first in the data. The count is known before: the product of reading.sizes. */
 craneholt_count_answer craneholt_samples(const uint8_t *file, size_t file_length,
                                          const uint8_t *second, size_t second_length,
                                          void *list, size_t list_length);
@@ -190,7 +196,7 @@ craneholt_count_answer craneholt_samples(const uint8_t *file, size_t file_length
 craneholt_count_answer craneholt_check_samples(const uint8_t *file, size_t file_length,
                                                const uint8_t *second, size_t second_length, size_t room);
 
-typedef struct {
+typedef struct craneholt_number_answer {
     craneholt_refusal refusal;
     uint64_t number; /* from 0, in the order of craneholt_samples */
 } craneholt_number_answer;
@@ -201,7 +207,7 @@ craneholt_number_answer craneholt_sample_number(const uint8_t *file, size_t file
 
 /* ---- Writing ---- */
 
-typedef struct {
+typedef struct craneholt_write_answer {
     craneholt_refusal refusal;
     uint64_t length; /* bytes written */
 } craneholt_write_answer;
@@ -217,7 +223,7 @@ craneholt_write_answer craneholt_write(uint64_t version, const void *sizes, size
 
 /* ---- Setting a key ---- */
 
-typedef struct {
+typedef struct craneholt_set_answer {
     craneholt_refusal refusal;
     uint64_t length; /* of the file now: the used length for the next call */
     uint64_t count;  /* of the lines now: the count for the next call */
@@ -240,7 +246,7 @@ craneholt_set_answer craneholt_set_key(uint8_t *buffer, size_t buffer_length, si
 
 /* What the program `listing` prints for a file: lines of version, form, type, sizes, encoding, endian, start and extent of the
  * data, and each key with its value, or one line for a refusal, to the front of `out`; the bytes past it stay.
- * Refuses 22 if the text does not fit (131,072 bytes are always enough). A file that is refused is no refusal of this call. */
+ * Refuses 22 if the text does not fit (CRANEHOLT_MAX_LISTING bytes are always enough). A file that is refused is no refusal of this call. */
 craneholt_write_answer craneholt_listing(const uint8_t *file, size_t file_length, uint8_t *out, size_t out_length);
 
 #ifdef __cplusplus

@@ -52,6 +52,11 @@ expect "line named" \
     "bad.nrrd:3: the field comes before the one that it needs (dimension; space or space dimension)" \
     "$("$build/correct" bad.nrrd 5 2>&1 || true)"
 expect "file left" "$(od -c wanted)" "$(od -c bad.nrrd)"
-expect "nothing beside it" "" "$(ls | grep corrected || true)"
+expect "nothing beside it" "bad.nrrd" "$(ls | grep '^bad')"
+
+# the mode stays
+chmod 640 sweep.nrrd
+"$build/correct" sweep.nrrd 37 > /dev/null
+expect "mode kept" "-rw-r-----" "$(ls -l sweep.nrrd | cut -c1-10)"
 
 echo "examples: $passed passed, 0 failed"

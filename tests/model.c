@@ -11,17 +11,17 @@
 #include <string.h>
 
 enum {
-    AXES = 16,             /* "dimension (1 to 16)" */
+    AXES = 16,             /* the largest dimension */
     HEADER_LIMIT = 65535,  /* refusal 3 */
     LINE_LIMIT = 1024,     /* refusal 4 */
-    LISTING_LIMIT = 65536  /* Trials: "reads a file of up to 65,536 bytes" */
+    LISTING_LIMIT = 65536  /* bytes of a file that is listed ("Trials") */
 };
 
 static const uint64_t LIMIT32 = 4294967295u; /* refusals 1 and 15, sizes, skips */
 
 /* ---- What is read, written and corrected: numbers in lent bytes */
 
-/* "four bytes, a sample, size or coordinate eight, low byte first" */
+/* Numbers as callers lend them ("What is read, written and corrected"). */
 static uint64_t load(const void *bytes, size_t index, size_t width)
 {
     const uint8_t *b = (const uint8_t *)bytes + index * width;
@@ -51,8 +51,7 @@ struct line {
     size_t start, text, end;
 };
 
-/* "A line ends at LF; one CR right before it belongs to the ending. The last
- * line of the bytes may lack an ending." start is below length. */
+/* "Lines and headers", point 1; start is below length. */
 static struct line line_at(const uint8_t *file, size_t length, size_t start)
 {
     const uint8_t *lf = memchr(file + start, '\n', length - start);
@@ -78,7 +77,7 @@ static uint8_t lower(uint8_t byte)
     return byte >= 'A' && byte <= 'Z' ? (uint8_t)(byte + 32) : byte;
 }
 
-/* "Field names ignore case", "Words ignore case" */
+/* Without regard to case. */
 static int is_word(const uint8_t *text, size_t length, const char *word)
 {
     size_t i = 0;
@@ -110,8 +109,7 @@ static uint64_t value_of_digits(const uint8_t *digits, size_t length)
     return value;
 }
 
-/* "Numbers are digits without sign, leading zeros allowed, parted by spaces
- * or tabs." True if the text is exactly count numbers from low to high. */
+/* True if the text is exactly count numbers from low to high ("Understood fields"). */
 static int read_numbers(const uint8_t *text, size_t length, size_t count,
                         uint64_t low, uint64_t high, uint64_t *numbers)
 {
@@ -200,14 +198,13 @@ enum { LITTLE, BIG, NOT_GIVEN };
 const char *const model_encodings[MODEL_ENCODINGS][3] = {{"raw"}, {"txt", "text", "ascii"}, {"hex"}};
 static const char *const endians[] = {"little", "big"};
 
-/* "endian too where a sample has more than one byte and the encoding is raw or hex" */
+/* Whether endian is needed ("Needed"). */
 static int needs_endian(uint64_t type, uint64_t encoding)
 {
     return model_types[type].bytes > 1 && encoding != TEXT;
 }
 
-/* "Extent = product of the sizes times the bytes of a sample", or anything
- * above the limit once it is above. Each size is at least 1. */
+/* The extent ("Data and samples"), or anything above the limit once it is above. */
 static uint64_t extent_of(const uint64_t *sizes, size_t count, size_t bytes)
 {
     uint64_t extent = bytes;
@@ -221,7 +218,7 @@ static uint64_t extent_of(const uint64_t *sizes, size_t count, size_t bytes)
 
 /* ---- Lines and headers: keys and values */
 
-/* "In both, \n means LF and \\ a backslash; no other backslash is allowed." */
+/* True if every backslash is one of the two escapes. */
 static int escapes_are_good(const uint8_t *text, size_t length)
 {
     for (size_t i = 0; i < length; i++)
@@ -266,7 +263,7 @@ struct header {
     size_t pair_count;
 };
 
-/* "Line 1 is exactly NRRD0001 to NRRD0005, or NRRD00.01 (version 1)"; 0 if it is not */
+/* The version that the first line tells, or 0. */
 static uint32_t version_of_magic(const uint8_t *text, size_t length)
 {
     if (length == 9 && memcmp(text, "NRRD00.01", 9) == 0)
@@ -285,7 +282,7 @@ static int bytes_are_good(const uint8_t *text, size_t length)
     return 1;
 }
 
-/* "look for `: ` and `:=`; the first such place in the line decides"; end if there is none */
+/* Where the line's mark stands, or end. */
 static size_t find_mark(const uint8_t *file, size_t start, size_t end)
 {
     for (size_t i = start; i + 1 < end; i++)
@@ -345,8 +342,7 @@ static int understand_endian(const uint8_t *text, size_t length, uint32_t *endia
     return 0;
 }
 
-/* "A data file descriptor that is `LIST` (capitals), starts with `LIST `, or
- * holds `%` is not a name"; a name is not empty. */
+/* Data file: no list, no pattern, not empty. */
 static int is_file_name(const uint8_t *text, size_t length)
 {
     if (length == 0 || memchr(text, '%', length) != NULL)
@@ -396,8 +392,7 @@ static uint32_t read_field(struct header *h, const uint8_t *file, struct line li
         return 9;
     if (!in_order(h, field))
         return 10;
-    /* "from after `: ` to the end of its line without trailing spaces and
-     * tabs; in understood fields leading ones drop too" */
+    /* blanks at the end drop, in understood fields also those in front */
     while (end > start && is_space_or_tab(file[end - 1]))
         end--;
     while (field < UNDERSTOOD && start < end && is_space_or_tab(file[start]))
@@ -410,7 +405,7 @@ static uint32_t read_field(struct header *h, const uint8_t *file, struct line li
     return 0;
 }
 
-/* A key pair: refusals 8 ("key pairs from 2") and 12, or 0. */
+/* A key pair: refusals 8 and 12, or 0. */
 static uint32_t read_pair(struct header *h, const uint8_t *file, struct line line, size_t mark)
 {
     struct pair pair = {line.start, mark, line.text};
@@ -456,7 +451,7 @@ static craneholt_refusal read_lines(struct header *h, const uint8_t *file, size_
         if (refusal.number != 0)
             return refusal;
     }
-    /* "A header with a `data file` field is detached and may also close at the end of the bytes." */
+    /* a detached header needs no closing line */
     return (craneholt_refusal){h->present[DATA_FILE] ? 0 : 13, 0};
 }
 
@@ -467,7 +462,7 @@ static int needed_are_present(const struct header *h)
            && (h->present[ENDIAN] || !needs_endian(h->reading.sampletype, h->reading.encoding));
 }
 
-/* "Order for reading: 1, 2, then for each line 3, 4, then 5 to 12, then 13, 14, 15" */
+/* The reading, refusals in the order of "Numbers of refusal". */
 static craneholt_refusal read_refusal(struct header *h, const uint8_t *file, size_t length)
 {
     craneholt_refusal refusal = {0, 0};
@@ -493,7 +488,7 @@ static craneholt_refusal read_refusal(struct header *h, const uint8_t *file, siz
     return (craneholt_refusal){r->extent > LIMIT32 ? 15 : 0, 0};
 }
 
-/* "Reading without the table"; true if it is not refused. */
+/* The reading alone; true if it is not refused. */
 static int read_header(struct header *h, const uint8_t *file, size_t length)
 {
     memset(&h->reading, 0, sizeof h->reading);
@@ -514,8 +509,7 @@ craneholt_read_answer model_read_header(const uint8_t *file, size_t file_length)
     return answer;
 }
 
-/* "The line table is the lent table of 32-bit line starts, magic and closing
- * empty line included; entries past the count stay." */
+/* Stores the starts of the header's lines. */
 craneholt_read_answer model_read(const uint8_t *file, size_t file_length, void *table, size_t table_length)
 {
     struct header h;
@@ -557,7 +551,7 @@ static int pair_has_key(const uint8_t *file, const struct pair *pair, const uint
     return same;
 }
 
-/* "Of several pairs with one key the last counts"; NULL if there is none. */
+/* The last pair with the key, or NULL. */
 static const struct pair *last_pair(const struct header *h, const uint8_t *file,
                                     const uint8_t *key, size_t length)
 {
@@ -611,8 +605,7 @@ struct rest {
     size_t at, length;
 };
 
-/* "Skip first that many LF-ended lines, then that many bytes"; false if a skip
- * passes the end (an unended rest is no line to skip). */
+/* Passes the lines and bytes to skip; false if they pass the end. */
 static int skip(struct rest *rest, uint64_t lines, uint64_t bytes)
 {
     for (; lines > 0; lines--) {
@@ -630,8 +623,7 @@ static int skip(struct rest *rest, uint64_t lines, uint64_t bytes)
     return 1;
 }
 
-/* The data's place: "reading without the table, 1 for a second file in use,
- * 16, 17, 18. Samples add 19 before 16". On a refusal its number is in h. */
+/* The data's place, refusals in the order of "Numbers of refusal". */
 static int find_data(struct header *h, const uint8_t *file, size_t file_length,
                      const uint8_t *second, size_t second_length, int samples, struct rest *data)
 {
@@ -650,7 +642,7 @@ static int find_data(struct header *h, const uint8_t *file, size_t file_length,
     else if (r->encoding == RAW && data->length - data->at < r->extent)
         h->refusal.number = 18; /* 17 cannot come: both are below 2^32 */
     else if (r->encoding == RAW)
-        data->length = data->at + r->extent; /* "the next extent bytes in raw, else all the rest" */
+        data->length = data->at + r->extent; /* raw has the extent, the others all the rest */
     return h->refusal.number == 0;
 }
 
@@ -671,7 +663,7 @@ craneholt_data_answer model_data(const uint8_t *file, size_t file_length,
 
 /* ---- Data and samples: the samples */
 
-/* "Blanks are bytes 9 to 13 and 32." */
+/* Blanks of text and hex data. */
 static int is_blank(uint8_t byte)
 {
     return (byte >= 9 && byte <= 13) || byte == 32;
@@ -691,7 +683,7 @@ static int hex_digit(uint8_t byte)
     return byte >= 'a' && byte <= 'f' ? byte - 'a' + 10 : -1;
 }
 
-/* "Hex is two digits a byte, either case, blanks ignored anywhere": 0, 20 or 21 */
+/* The next hex byte: 0, 20 or 21. */
 static uint32_t hex_byte(struct rest *rest, uint8_t *byte)
 {
     int value = 0;
@@ -709,7 +701,7 @@ static uint32_t hex_byte(struct rest *rest, uint8_t *byte)
     return 0;
 }
 
-/* "Raw bytes follow endian; signed types are two's complement." Judged when whole. */
+/* The value of a sample's bytes, judged when they are all there. */
 static uint32_t sample_of_bytes(const craneholt_reading *r, const uint8_t *bytes, int64_t *sample)
 {
     size_t width = model_types[r->sampletype].bytes;
@@ -724,7 +716,7 @@ static uint32_t sample_of_bytes(const craneholt_reading *r, const uint8_t *bytes
     return 0;
 }
 
-/* "an optional + or -, then digits": 0, or 20 if it is not, or outside the type */
+/* A token: 0, or 20 if it is no number or outside the type. */
 static uint32_t sample_of_token(const craneholt_reading *r, const uint8_t *token, size_t length, int64_t *sample)
 {
     int negative = token[0] == '-';
@@ -747,7 +739,7 @@ static uint32_t next_sample(const craneholt_reading *r, struct rest *rest, int64
     size_t width = model_types[r->sampletype].bytes, start;
     uint8_t bytes[8];
     if (r->encoding == TEXT) {
-        /* "runs of blanks and tokens take turns"; "A token reaches to the next blank or the end" */
+        /* blanks, then a token up to the next blank */
         skip_blanks(rest);
         for (start = rest->at; rest->at < rest->length && !is_blank(rest->file[rest->at]); )
             rest->at++;
@@ -781,8 +773,8 @@ static uint32_t read_samples(const craneholt_reading *r, struct rest rest, uint6
     return 0;
 }
 
-/* "after 18 first 22, then 20 or 21, whichever comes first in the data"; the
- * list, if given, is written only after all samples are known to be good */
+/* The samples once the data is found; the list, if given, is written only after
+ * all of them are known to be good. */
 static craneholt_count_answer take_samples(const uint8_t *file, size_t file_length,
                                            const uint8_t *second, size_t second_length,
                                            size_t room, void *list)
@@ -816,7 +808,7 @@ craneholt_count_answer model_samples(const uint8_t *file, size_t file_length,
 
 /* ---- Data and samples: coordinates */
 
-/* "c0 + s0 × (c1 + s1 × (...))", "from the slowest down to axis 0" */
+/* The number of a sample, slowest axis first. */
 craneholt_number_answer model_sample_number(const uint8_t *file, size_t file_length,
                                             const void *coords, size_t coords_length)
 {
@@ -888,7 +880,7 @@ static void put_numbers(struct text *text, const char *name, const uint64_t *num
     put_byte(text, '\n');
 }
 
-/* Hands a text over: 22 if out is too short, "Bytes past the written length stay". */
+/* Hands a text over: 22 if out is too short; what is past it stays. */
 static craneholt_write_answer hand_over(struct text text, uint8_t *out, size_t out_length)
 {
     craneholt_write_answer answer = {{0, 0}, 0};
@@ -915,7 +907,7 @@ struct volume {
     size_t sample_count;
 };
 
-/* "11 (version not 1 to 5, a number past its list, no size or more than 16, a size 0)" */
+/* The writer's 11. */
 static int volume_is_bad(const struct volume *v)
 {
     if (v->version < 1 || v->version > 5 || v->axes < 1 || v->axes > AXES)
@@ -928,7 +920,7 @@ static int volume_is_bad(const struct volume *v)
     return 0;
 }
 
-/* "Writer: 11, 15, 19, 27, 20" */
+/* What the writer refuses before it knows the length. */
 static uint32_t volume_refusal(const struct volume *v)
 {
     uint64_t extent;
@@ -949,7 +941,7 @@ static uint32_t volume_refusal(const struct volume *v)
     return 0;
 }
 
-/* "magic, then lines type, dimension, sizes, encoding, endian (only where needed), an empty line" */
+/* The written header. */
 static void put_header(struct text *text, const struct volume *v)
 {
     uint64_t dimension = v->axes;
@@ -1007,13 +999,13 @@ craneholt_write_answer model_write(uint64_t version, const void *sizes, size_t s
     for (size_t i = 0; i < v.sample_count; i++)
         put_sample(&text, &v, load(samples, i, 8));
     if (encoding == HEX)
-        put_byte(&text, '\n'); /* "closed by LF" */
+        put_byte(&text, '\n'); /* the line ending of hex data */
     return hand_over(text, out, out_length);
 }
 
 /* ---- Setting a key */
 
-/* "a byte other than 9, 10, 32 to 126" in a key or value */
+/* A byte that neither a key nor a value may have. */
 static int is_settable(const uint8_t *bytes, size_t length)
 {
     for (size_t i = 0; i < length; i++)
@@ -1022,7 +1014,7 @@ static int is_settable(const uint8_t *bytes, size_t length)
     return 1;
 }
 
-/* "each with LF and backslash escaped" */
+/* Text with its escapes. */
 static void put_escaped(struct text *text, const uint8_t *bytes, size_t length)
 {
     for (size_t i = 0; i < length; i++) {
@@ -1046,7 +1038,7 @@ static int key_is_bad(const uint8_t *key, size_t length)
     return bad;
 }
 
-/* "its count isn't the file's line count, passes the lent table, or an entry differs" */
+/* True if the lent table is not that of the file. */
 static int table_is_bad(const struct header *h, const void *table, size_t table_length, size_t count)
 {
     if (count != h->reading.lines || count > table_length / 4)
@@ -1057,9 +1049,7 @@ static int table_is_bad(const struct header *h, const void *table, size_t table_
     return 0;
 }
 
-/* "If the key is there, its last line's text is replaced and its ending kept.
- * If not, a new line goes in right after line 1, with line 1's ending. Text is
- * key, `:=`, value." */
+/* The new header: the key's last line rewritten, or a second line put in. */
 static struct text new_file(const struct header *h, const uint8_t *file, size_t used,
                             const uint8_t *key, size_t key_length,
                             const uint8_t *value, size_t value_length)
@@ -1088,8 +1078,7 @@ static void store_table(const struct text *text, size_t count, void *table)
     }
 }
 
-/* "Setting: 22 if the used length passes the buffer; reading without the
- * table; 8 in version 1; 24; 25; 26" */
+/* What a setting is refused for before the new file is made. */
 static craneholt_refusal set_refusal(struct header *h, const uint8_t *buf, size_t buf_length, size_t used,
                                      const void *table, size_t table_length, size_t count,
                                      const uint8_t *key, size_t key_length,
@@ -1111,7 +1100,7 @@ static craneholt_refusal set_refusal(struct header *h, const uint8_t *buf, size_
     return refusal;
 }
 
-/* "then for the new file 3, 4, 1, 22" */
+/* What the new file is refused for. */
 static uint32_t new_file_refusal(const struct header *h, size_t used, size_t buf_length, size_t table_length,
                                  size_t new_used, size_t new_count)
 {
@@ -1144,7 +1133,7 @@ craneholt_set_answer model_set_key(uint8_t *buf, size_t buf_length, size_t used,
         answer.length = text.length;
         answer.count = new_count;
         memcpy(buf, text.bytes, text.length);
-        /* "Buffer bytes vacated by a shorter file become 0" */
+        /* what the file no longer takes */
         if (text.length < used)
             memset(buf + text.length, 0, used - text.length);
         store_table(&text, new_count, table);
@@ -1164,8 +1153,8 @@ static void put_refused(struct text *text, craneholt_refusal refusal)
     put_byte(text, '\n');
 }
 
-/* "Keys stand escaped, in order of their last lines." Both texts stand in the
- * file escaped; equal keys have equal texts. */
+/* Each key once, at its last line. Both texts stand in the file escaped; equal
+ * keys have equal texts. */
 static void put_keys(struct text *text, const struct header *h, const uint8_t *file)
 {
     for (size_t i = 0; i < h->pair_count; i++) {
@@ -1199,8 +1188,8 @@ static void put_reading(struct text *text, const struct header *h, uint64_t star
     put_numbers(text, "extent", &r->extent, 1);
 }
 
-/* "for attached files the data call's refusals count too"; "start is the
- * data's place in the file, 0 for a detached header" */
+/* The listing ("Trials"); the data of an attached file is looked for, that of a
+ * detached one is not. */
 craneholt_write_answer model_listing(const uint8_t *file, size_t file_length, uint8_t *out, size_t out_length)
 {
     struct header h;

@@ -14,11 +14,7 @@
 #include <stdlib.h>
 #include <string.h>
 
-#ifdef USE_MODEL
-static const struct calls library = CALLS(model);
-#else
 static const struct calls library = CALLS(craneholt);
-#endif
 static const struct calls model = CALLS(model);
 
 static uint64_t input; /* the number of the input at hand */

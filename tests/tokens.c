@@ -6,18 +6,13 @@
 #define _POSIX_C_SOURCE 200112L
 
 #include "calls.h"
-#include "model.h"
 
 #include <pthread.h>
 #include <stdio.h>
 #include <stdlib.h>
 #include <string.h>
 
-#ifdef USE_MODEL
-static const struct calls calls = CALLS(model);
-#else
 static const struct calls calls = CALLS(craneholt);
-#endif
 
 enum {
     STACK = 256 * 1024,

@@ -1,7 +1,7 @@
 /*
  * Runs the vectors of a folder: calls.jsonl, one call a line, and
  * listing/NNN.in with the text NNN.out. With USE_MODEL the model is run in
- * place of the library.
+ * place of the library: it has to agree with the vectors as well.
  *
  *     vectors [folder]
  */

@@ -65,7 +65,7 @@ def case(lent, settings, left, fresh, keys, name=b""):
 
 
 def split_lines(file):
-    """Each line as (text, ending): it ends at LF, one CR right before it belongs to the ending; the last may lack one."""
+    """Each line as (text, ending)."""
     lines = []
     while file:
         i = file.find(LF)

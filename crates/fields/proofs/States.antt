@@ -1,6 +1,6 @@
 -- Laws of the reader's state: what one more field makes of it, what the header's end makes of it, and what the walk keeps.
 -- Assumes nothing.
-use Prim.Native.Nat.{ℕ, zero, suc, _+_, _-_, _*_, _≤_, _<_, compare·suc-suc}
+use Prim.Native.Nat.{ℕ, zero, suc, _+_, _*_, _≤_, _<_, _-_}
 use native.Mathlib.Nat.{zero-mul, one-mul, mul-comm, mul-assoc, mul-le-mul}
 use native.Mathlib.Omega.{arith}
 use mathlib.Core.Path.{_≡_, refl, sym, ap, _∙_}
@@ -13,7 +13,7 @@ use lib.Seq.{take-at}
 use borrow.Author.Tests.{ltb-true, lt-ltb, le-ltb, le-leb, lt-leb, leb-true, leb-false, eqb-true, eqb-false, eq-eqb, ne-eqb}
 use mir.Val.{boolByte}
 use Rattle.format.specs.declared.Reading.{Reading}
-use Rattle.format.specs.Bytes.{if_then_else_, isIn, isEmpty, orDefault}
+use Rattle.format.specs.Bytes.{isIn, orDefault, if_then_else_}
 use Rattle.format.specs.Limits.{maxAxes, maxSize, maxExtent}
 use Rattle.format.specs.Refusals.{badDescriptor, missingField, extentTooLarge, refusal, fine}
 use Rattle.format.specs.Fields.{Given, given, descriptorOf, isGiven, inOrder, understood, dimension, type, encoding, endian, sizes, lineSkip, byteSkip, dataFile}
@@ -210,27 +210,6 @@ module _ (n : ℕ) (ws : List (List ℕ)) (r : Sizes) (e : r ≡ sizesAnswer n w
 
 -- ---- names
 
-pub empty-is : (t : List ℕ) → length t ≡ 0 → isEmpty t ≡ true
-empty-is [] h = refl
-empty-is (b ∷ t) h = absurd (omega arith)
-
-pub empty-not : (t : List ℕ) → (length t ≡ 0 → ⊥) → isEmpty t ≡ false
-empty-not [] h = absurd (h refl)
-empty-not (b ∷ t) h = refl
-
--- a byte is in a text where not all stand before the first such
-pub in-before : (b : ℕ) (s : List ℕ) → eqb (before b s) (length s) ≡ not (isIn b s)
-unfolding before isIn
-in-before b [] = refl
-in-before b (c ∷ s) = go (eqb c b) (eqb b c) refl refl (in-before b s)
-  where
-    go : (x y : Bool) → eqb c b ≡ x → eqb b c ≡ y → eqb (before b s) (length s) ≡ not (isIn b s)
-        → eqb (if x then 0 else suc (before b s)) (suc (length s)) ≡ not (y || isIn b s)
-    go true true p q e = ne-eqb 0 (suc (length s)) (omega arith)
-    go true false p q e = absurd (eqb-false b c q (sym (eqb-true c b p)))
-    go false true p q e = absurd (eqb-false c b p (sym (eqb-true b c q)))
-    go false false p q e = rw compare·suc-suc e
-
 -- within a list its default does not matter
 pub getD-any : (l : List ℕ) (n d e : ℕ) → n < length l → getD l n d ≡ getD l n e
 getD-any [] n d e h = absurd (omega arith)
@@ -426,7 +405,3 @@ unfolding stateOf
 holds-of version {st} {gs} e k =
     let v : st .version ≡ version = ap (λ (s : State). s .version) e in
     record { is = e ∙ ap (λ (n : ℕ). stateOf n gs) (sym v); kept = k }
-
--- the state before the first field
-pub holds-start : (version : ℕ) → Holds (stateOf version []) []
-holds-start version = holds-of version refl kept-none

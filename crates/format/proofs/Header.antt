@@ -7,19 +7,19 @@ use mathlib.Core.List.{List, [], _∷_, _++_, cons≢nil}
 use mathlib.Core.Option.{Option, none, some, Option·none-ne-some}
 use lib.Dec.{eqb, ltb}
 use lib.ListN.{length, drop, length-append}
-use borrow.Author.Tests.{eqb-true, ltb-false, le-ltb}
+use borrow.Author.Tests.{ltb-false, le-ltb}
 use native.Mathlib.Omega.{arith}
 use Rattle.format.specs.declared.Refusal.{Refusal}
-use Rattle.format.specs.Bytes.{if_then_else_, bytes, every, same, orElse, isSome, HASH}
+use Rattle.format.specs.Bytes.{bytes, every, same, HASH, if_then_else_}
 use Rattle.format.specs.Limits.{maxFile, maxHeader, maxLines, maxExtent}
 use Rattle.format.specs.Refusals.{badByte, notInVersion, repeatedField, outOfOrder, badDescriptor, fileTooLong, missingField, extentTooLarge, noEnd, headerTooLong, tooManyLines, atLine, refusal}
 use Rattle.format.specs.Lines.{Line, line, lf, crlf, eof, text, size, lines, unlines}
 use Rattle.format.specs.Pairs.{plain, Marked, unmarked, fieldMark, pairMark, mark, unescape}
-use Rattle.format.specs.Fields.{fieldNamed, pairsSince, fieldSince, Given, given, descriptorOf, isGiven, inOrder}
+use Rattle.format.specs.Fields.{fieldNamed, pairsSince, fieldSince, Given, given, isGiven, inOrder}
 use Rattle.format.specs.Descriptors.{descriptor, mayDescribe, hasNeeded, extentOf, isDetached}
 use Rattle.format.specs.Header.{Item, magic, comment, field, pair, closing, Entry, entry, linesOf, magicVersion, versionOfLine, Judged, wrong, right, unescaped, onPair, onField, onMark, judge, Outcome, refused, accepted, withEntry, closes, afterItem, complete, onJudged, walk, afterMagic, fromFirst, header, headerLength}
 pub use Rattle.format.specs.Laws.{closed}
-use Rattle.format.proofs.Lines.{unlines-of-lines, unlines-append, length-unlines-cons, Shape, lf-line, crlf-line, eof-line, shape-of-lines, shape-before, shape-after, lines-of-parts, bytes-after, lines-after}
+use Rattle.format.proofs.Lines.{unlines-of-lines, unlines-append, length-unlines-cons, Shape, lf-line, crlf-line, eof-line, shape-of-lines, shape-before, shape-after, lines-of-parts, bytes-after}
 
 -- ---- what an accepted header is, the limits left out
 
@@ -126,11 +126,6 @@ module _ (version : ℕ) where
           let h : at + size l ≤ maxHeader = ltb-false maxHeader (at + size l) e in
           let k : n ≤ maxLines = ltb-false maxLines n f in
           one h k i d (s i h k) (closes i) refl
-
--- what the walk accepts is fine and within the limits; line n may come and byte `at` is within the limit, as after line 1
-pub walk-sound : (version n at : ℕ) (gs : List Given) (ls : List Line) {es : List Entry} {gs′ : List Given} {r : List Line}
-    → at ≤ maxHeader → n ≤ maxLines + 1 → walk version n at gs ls ≡ accepted es gs′ r → Walked version n at gs ls es gs′ r
-walk-sound version n at gs ls b c e = subst (Sound version n at gs ls) e (walked version ls n at gs b c)
 
 -- ---- fine: accepted
 
@@ -276,10 +271,6 @@ module _ (s : List ℕ) {es : List Entry} {gs : List Given} {r : List Line} (e :
   pub data-area : drop (headerLength es) s ≡ unlines r
   data-area = bytes-after s (linesOf es) r (header-sound s e .split)
 
-  -- and those lines are the lines of the bytes
-  pub data-lines : lines (drop (headerLength es) s) ≡ r
-  data-lines = lines-after s (linesOf es) r (header-sound s e .split)
-
 -- ---- what the items of an accepted header say
 
 -- the field f may come with the descriptor d after the fields gs
@@ -350,35 +341,7 @@ module _ (version : ℕ) (gs : List Given) where
   pub judge-says : (t : List ℕ) {i : Item} → judge version gs t ≡ right i → Says version gs t i
   judge-says t e = subst (SaysRight version gs t) e (judged t)
 
--- ---- the fields of an accepted header are those of its entries
-
--- the fields after the entries, the last one first
-unfoldable pub fieldsFrom : List Given → List Entry → List Given
-fieldsFrom gs [] = gs
-fieldsFrom gs (entry l i ∷ es) = fieldsFrom (afterItem i gs) es
-
--- the descriptor that an item gives the field f
-abbrev pub descriptorBy : ℕ → Item → Option (List ℕ)
-descriptorBy f (magic n) = none
-descriptorBy f comment = none
-descriptorBy f (field g d) = if eqb f g then some d else none
-descriptorBy f (pair k v) = none
-descriptorBy f closing = none
-
--- the descriptor that the first of the entries with the field f gives it
-unfoldable pub descriptorIn : ℕ → List Entry → Option (List ℕ)
-descriptorIn f [] = none
-descriptorIn f (entry l i ∷ es) = orElse (descriptorBy f i) (descriptorIn f es)
-
--- no field is given twice
-abbrev pub Once : List Given → Type 0
-Once [] = Unit {0}
-Once (given f d ∷ gs) = (isGiven f gs ≡ false) × Once gs
-
--- nothing after an answer changes it
-or-none : (x : Option (List ℕ)) → x ≡ orElse x none
-or-none none = refl
-or-none (some y) = refl
+-- ---- the first line of a fine header
 
 -- the line that closes the header gives no field
 after-closing : (i : Item) (gs : List Given) → closes i ≡ true → afterItem i gs ≡ gs
@@ -403,78 +366,6 @@ module _ (version : ℕ) where
       go : (t : Bool) → closes i ≡ t → FineBy t gs es gs′ (Fine version (afterItem i gs) es gs′ r) → P es gs′
       go true e g = rw (g .0, g .2, ← after-closing i gs e) (last says e (g .1))
       go false e g = more says e g
-
-  -- the fields at the end are those of the entries
-  fine-given : (es : List Entry) (gs gs′ : List Given) (r : List Line) → Fine version gs es gs′ r → gs′ ≡ fieldsFrom gs es
-  unfolding fieldsFrom
-  fine-given [] gs gs′ r f = f .3
-  fine-given (entry l i ∷ es) gs gs′ r f =
-      fine-cases gs l i es gs′ r (λ es gs′. gs′ ≡ fieldsFrom (afterItem i gs) es) f
-      (λ s c k. refl) (λ s c g. fine-given es (afterItem i gs) gs′ r g)
-
-  -- what each field that may come keeps, the entries keep
-  pub fine-keep : (P : List Given → Type 0) → ((gs : List Given) (f : ℕ) (d : List ℕ) → FieldFine version gs f d → P gs → P (given f d ∷ gs))
-      → (es : List Entry) (gs gs′ : List Given) (r : List Line) → Fine version gs es gs′ r → P gs → P gs′
-  fine-keep P keep [] gs gs′ r f p = rw (f .3) p
-  fine-keep P keep (entry l i ∷ es) gs gs′ r f p =
-      fine-cases gs l i es gs′ r (λ es gs′. P gs′) f (λ s c k. after i s) (λ s c g. fine-keep P keep es (afterItem i gs) gs′ r g (after i s))
-    where
-      after : (i : Item) → Says version gs (text l) i → P (afterItem i gs)
-      after (magic n) s = p
-      after comment s = p
-      after (field f d) s = keep gs f d s p
-      after (pair k v) s = p
-      after closing s = p
-
-  module _ (f : ℕ) where
-    -- one line: the descriptor of f is the one given before, or else the one that the line gives
-    after-descriptor : (gs : List Given) (t : List ℕ) (i : Item) → Says version gs t i → (o : Option (List ℕ))
-        → orElse (descriptorOf f (afterItem i gs)) o ≡ orElse (descriptorOf f gs) (orElse (descriptorBy f i) o)
-    unfolding descriptorOf
-    after-descriptor gs t (magic n) s o = refl
-    after-descriptor gs t comment s o = refl
-    after-descriptor gs t (field g d) s o = go (eqb f g) refl
-      where
-        none-given : (x : Option (List ℕ)) → isSome x ≡ false → some d ≡ orElse x (some d)
-        none-given none e = refl
-        none-given (some y) e = absurd (false≢true (sym e))
-
-        go : (x : Bool) → eqb f g ≡ x
-            → orElse (if x then some d else descriptorOf f gs) o ≡ orElse (descriptorOf f gs) (orElse (if x then some d else none) o)
-        go true e = none-given (descriptorOf f gs) (rw (eqb-true f g e) (s .new))
-        go false e = refl
-    after-descriptor gs t (pair k v) s o = refl
-    after-descriptor gs t closing s o = refl
-
-    -- all entries: the descriptor of f is the one given before, or else the one that an entry gives
-    fine-descriptor : (es : List Entry) (gs gs′ : List Given) (r : List Line) → Fine version gs es gs′ r
-        → descriptorOf f gs′ ≡ orElse (descriptorOf f gs) (descriptorIn f es)
-    unfolding descriptorIn
-    fine-descriptor [] gs gs′ r h = rw (h .3) (or-none (descriptorOf f gs))
-    fine-descriptor (entry l i ∷ es) gs gs′ r h =
-        fine-cases gs l i es gs′ r (λ es gs′. descriptorOf f gs′ ≡ orElse (descriptorOf f gs) (orElse (descriptorBy f i) (descriptorIn f es))) h
-        (λ s c k. or-none (descriptorOf f (afterItem i gs)) ∙ after-descriptor gs (text l) i s none)
-        (λ s c g. fine-descriptor es (afterItem i gs) gs′ r g ∙ after-descriptor gs (text l) i s (descriptorIn f es))
-
-module _ (s : List ℕ) {es : List Entry} {gs : List Given} {r : List Line} (e : header s ≡ accepted es gs r) where
-  -- the fields of an accepted header are the fields of its lines, the last one first
-  pub given-of-entries : gs ≡ fieldsFrom [] es
-  unfolding fieldsFrom
-  given-of-entries = let x = header-sound s e in rw (x .entries) (fine-given (x .version) (x .rest) [] gs r (x .fine))
-
-  -- what holds of no fields, and is kept by each field that may come, holds of the fields of an accepted header
-  pub header-fields : (P : List Given → Type 0) → P []
-      → ((version : ℕ) (gs : List Given) (f : ℕ) (d : List ℕ) → FieldFine version gs f d → P gs → P (given f d ∷ gs)) → P gs
-  header-fields P p keep = let x = header-sound s e in fine-keep (x .version) P (keep (x .version)) (x .rest) [] gs r (x .fine) p
-
-  -- an accepted header gives no field twice
-  pub given-once : Once gs
-  given-once = header-fields Once tt (λ v gs f d h o. (h .new, o))
-
-  -- the descriptor of a field is the one that the field's line has
-  pub descriptor-of-fields : (f : ℕ) → descriptorOf f gs ≡ descriptorIn f es
-  unfolding descriptorIn descriptorOf
-  descriptor-of-fields f = let x = header-sound s e in rw (x .entries) (fine-descriptor (x .version) f (x .rest) [] gs r (x .fine))
 
 -- ---- where an accepted header ends
 
@@ -522,14 +413,6 @@ module _ (version : ℕ) where
       shape-before s (omega arith)
       (shape-closed (e ∷ es) (afterItem i gs) gs′ r r′ c (fine-tail gs l i e es gs′ r f .1) (shape-after (l ∷ []) (linesOf (e ∷ es) ++ r) s) s′)
 
-  -- entries that do not end closed give data file, and no line follows them
-  pub fine-open : (es : List Entry) (gs gs′ : List Given) (r : List Line) → closed es ≡ false → Fine version gs es gs′ r
-      → (isDetached gs′ ≡ true) × (r ≡ [])
-  unfolding closed
-  fine-open [] gs gs′ r c f = (rw (f .3) (f .1), f .0)
-  fine-open (entry l i ∷ []) gs gs′ r c f = let g = rw c at (f .1) in (rw (g .3) (g .1), g .0)
-  fine-open (entry l i ∷ e ∷ es) gs gs′ r c f = fine-open (e ∷ es) (afterItem i gs) gs′ r c (fine-tail gs l i e es gs′ r f .1)
-
 -- `header-ends` of line 1 and the entries after it
 ends : (s : List ℕ) (l : Line) (v : ℕ) (es : List Entry) (gs : List Given) (r : List Line)
     → lines s ≡ l ∷ linesOf es ++ r → versionOfLine l ≡ some v → Fine v [] es gs r
@@ -545,12 +428,6 @@ ends s l v (e ∷ es) gs r p m f b n c d h =
     header-fine (unlines (l ∷ linesOf (e ∷ es)) ++ d) l v (e ∷ es) gs (lines d)
     (lines-of-parts (l ∷ linesOf (e ∷ es)) d (shape-before shape (omega arith) under)) m (fine-closed v (e ∷ es) [] gs r (lines d) c f) b n h
 
--- entries after line 1 do not end closed where the whole header does not
-open-rest : (e : Entry) (es : List Entry) → closed (e ∷ es) ≡ false → closed es ≡ false
-unfolding closed
-open-rest e [] c = refl
-open-rest e (f ∷ es) c = c
-
 module _ (s : List ℕ) {es : List Entry} {gs : List Given} {r : List Line} (e : header s ≡ accepted es gs r) where
   -- a header that ends with the closing line is decided by its own bytes: with any others after them it is accepted just so
   pub header-ends : closed es ≡ true → (d : List ℕ) → length (unlines (linesOf es) ++ d) ≤ maxFile
@@ -560,9 +437,3 @@ module _ (s : List ℕ) {es : List Entry} {gs : List Given} {r : List Line} (e :
       rw (x .entries)
       (ends s (x .first) (x .version) (x .rest) gs r (rw (x .entries) at (x .split)) (x .magical) (x .fine)
       (rw (x .entries) at (x .short)) (rw (x .entries) at (x .few)) (rw (x .entries) at c) d (rw (x .entries) at h))
-
-  -- a header that does not end with the closing line has data file, and ends where the bytes do
-  pub header-open : closed es ≡ false → (isDetached gs ≡ true) × (r ≡ [])
-  header-open c =
-      let x = header-sound s e in
-      fine-open (x .version) (x .rest) [] gs r (open-rest (entry (x .first) (magic (x .version))) (x .rest) (rw (x .entries) at c)) (x .fine)

@@ -1,20 +1,19 @@
 -- The laws of specs/Lines.antt: no byte is lost, `lines` is the only split that keeps the line rule, and each start is where its line begins.
 -- Assumes nothing.
-use Prim.Native.Nat.{ℕ, zero, suc, _+_, _-_, _≤_, _<_}
-use native.Mathlib.Nat.{add-zero, zero-add, add-assoc, le-of-suc-le-suc, not-suc-le-zero}
-use native.Mathlib.Numerals.{add-one}
+use Prim.Native.Nat.{ℕ, zero, suc, _+_, _≤_, _<_, _-_}
+use native.Mathlib.Nat.{zero-add, le-of-suc-le-suc, not-suc-le-zero}
 use native.Mathlib.Omega.{arith}
 use mathlib.Core.Path.{_≡_, refl, sym, ap, _∙_}
 use mathlib.Core.Bool.{Bool, true, false, false≢true}
 use mathlib.Core.List.{List, [], _∷_, _++_, append-assoc, append-nil}
 use lib.Dec.{eqb}
 use lib.ListN.{length, take, drop, getD, length-append, length-drop, take-append-drop, drop-of-length-le}
-use lib.Seq.{drop-append-add, drop-append-seam, take-append-add, take-suc, take-take, drop-cons, drop-drop, getD-drop}
+use lib.Seq.{drop-append-seam, take-suc, getD-drop}
 use borrow.Author.Tests.{eqb-true, not-true, ne-eqb}
-use Rattle.format.specs.Bytes.{if_then_else_, LF, CR, every}
+use Rattle.format.specs.Bytes.{LF, CR, every, if_then_else_}
 use Rattle.format.specs.Lines.{Ending, lf, crlf, eof, Line, line, endingBytes, lineBytes, size, extend, extendFirst, withByte, lines, unlines, starts}
 pub use Rattle.format.specs.Laws.{notLF, NoLF, endsInCR, Shape, no-lines, lf-line, crlf-line, eof-line}
-use Rattle.format.proofs.Bytes.{and-left, and-right, every-append}
+use Rattle.format.proofs.Bytes.{and-left, and-right}
 
 -- ---- texts: no LF, and no CR at the end
 
@@ -34,27 +33,6 @@ no-lf-head b t h = not-true (eqb b LF) (and-left (notLF b) (every notLF t) h)
 pub no-lf-tail : (b : ℕ) (t : List ℕ) → NoLF (b ∷ t) → NoLF t
 unfolding every
 no-lf-tail b t h = and-right (notLF b) (every notLF t) h
-
--- no LF in two texts, in the first bytes of a text, at a place of a text
-pub no-lf-append : (a b : List ℕ) → NoLF a → NoLF b → NoLF (a ++ b)
-no-lf-append a b h k = every-append notLF a b h k
-
-pub no-lf-take : (n : ℕ) (t : List ℕ) → NoLF t → NoLF (take n t)
-no-lf-take zero t h = no-lf-nil
-no-lf-take (suc n) [] h = no-lf-nil
-no-lf-take (suc n) (b ∷ t) h = no-lf-cons b (take n t) (no-lf-head b t h) (no-lf-take n t (no-lf-tail b t h))
-
-pub no-lf-at : (t : List ℕ) (i : ℕ) → i < length t → NoLF t → eqb (getD t i 0) LF ≡ false
-no-lf-at [] i h k = absurd (not-suc-le-zero h)
-no-lf-at (b ∷ t) zero h k = no-lf-head b t k
-no-lf-at (b ∷ t) (suc i) h k = no-lf-at t i (le-of-suc-le-suc h) (no-lf-tail b t k)
-
--- the last byte of two texts, the second not empty, is that of the second
-pub ends-append : (a : List ℕ) (b : ℕ) (t : List ℕ) → endsInCR (a ++ b ∷ t) ≡ endsInCR (b ∷ t)
-unfolding endsInCR
-ends-append [] b t = refl
-ends-append (c ∷ []) b t = refl
-ends-append (c ∷ d ∷ a) b t = ends-append (d ∷ a) b t
 
 -- a byte that passes a test which c fails is not c
 differs : (p : ℕ → Bool) (b c : ℕ) → p b ≡ true → p c ≡ false → eqb b c ≡ false
@@ -131,14 +109,6 @@ unfolding lines
 shape-of-lines [] = no-lines
 shape-of-lines (b ∷ s) = shape-with b (lines s) (shape-of-lines s)
 
--- nothing follows a line without an ending
-pub eof-is-last : {t : List ℕ} {ls : List Line} → Shape (line t eof ∷ ls) → ls ≡ []
-eof-is-last (eof-line p n) = refl
-
--- an empty line has its ending
-pub empty-has-ending : {ls : List Line} → Shape (line [] eof ∷ ls) → ⊥
-empty-has-ending (eof-line p n) = not-suc-le-zero n
-
 -- ---- the first line of bytes; the premises are those of the line rule
 
 -- a text, LF, and more bytes
@@ -201,19 +171,6 @@ length-le-unlines (eof-line p n) = simp append-nil (omega arith)
 pub length-lines-le : (s : List ℕ) → length (lines s) ≤ length s
 length-lines-le s = rw unlines-of-lines at (length-le-unlines (shape-of-lines s))
 
--- the bytes of the first k lines, and those of the lines after them
-pub take-unlines : (k : ℕ) (ls : List Line) → take (length (unlines (take k ls))) (unlines ls) ≡ unlines (take k ls)
-unfolding unlines
-take-unlines zero ls = refl
-take-unlines (suc k) [] = refl
-take-unlines (suc k) (l ∷ ls) = rw (length-append, take-append-add, take-unlines k ls)
-
-pub drop-unlines : (k : ℕ) (ls : List Line) → drop (length (unlines (take k ls))) (unlines ls) ≡ unlines (drop k ls)
-unfolding unlines
-drop-unlines zero ls = refl
-drop-unlines (suc k) [] = refl
-drop-unlines (suc k) (l ∷ ls) = rw (length-append, drop-append-add) (drop-unlines k ls)
-
 -- the lines after the first k keep the rule, and so do those after any others
 pub shape-drop : (k : ℕ) {ls : List Line} → Shape ls → Shape (drop k ls)
 shape-drop zero s = s
@@ -263,12 +220,6 @@ unfolding starts
 length-starts at [] = refl
 length-starts at (l ∷ ls) = ap suc (length-starts (at + size l) ls)
 
--- the starts of two lists of lines, one after the other
-pub starts-append : (at : ℕ) (a b : List Line) → starts at (a ++ b) ≡ starts at a ++ starts (at + length (unlines a)) b
-unfolding starts unlines
-starts-append at [] b = rw add-zero
-starts-append at (l ∷ a) b = rw (starts-append (at + size l) a b, length-append, add-assoc)
-
 -- a line starts past the bytes of the lines before it
 pub starts-at : (at k : ℕ) (ls : List Line) → k < length ls → getD (starts at ls) k 0 ≡ at + length (unlines (take k ls))
 unfolding starts unlines
@@ -282,13 +233,6 @@ pub start-of-line : (s : List ℕ) (k : ℕ) → k < length (lines s) → lines 
 start-of-line s k h =
     rw (starts-at 0 k (lines s) h, zero-add)
     (lines-after s (take k (lines s)) (drop k (lines s)) (sym (take-append-drop k (lines s))))
-
--- each line starts within the file
-pub starts-within : (s : List ℕ) (k : ℕ) → k < length (lines s) → getD (starts 0 (lines s)) k 0 < length s
-starts-within s k h =
-    let n : ℕ = getD (starts 0 (lines s)) k 0 in
-    let e : lines (drop n s) ≡ drop k (lines s) = start-of-line s k h in
-    omega (arith, length-lines-le (drop n s), ap length e, length-drop k (lines s), length-drop n s)
 
 -- ---- the line that starts at p in a file s, for a loop over the lines
 
@@ -304,48 +248,3 @@ part-next s p i h k =
     let f : p + (i - p) ≡ i = omega arith in
     let m : i - p < length (drop p s) = omega (arith, length-drop p s) in
     rw (e, take-suc (drop p s) (i - p) 0 m, getD-drop, f)
-
--- the bytes from p on, cut at i
-cut-at : (s : List ℕ) (p i : ℕ) → p ≤ i → i < length s → drop p s ≡ take (i - p) (drop p s) ++ getD s i 0 ∷ drop (i + 1) s
-cut-at s p i h k =
-    let f : p + (i - p) ≡ i = omega arith in
-    sym (take-append-drop (i - p) (drop p s)) ∙ rw (drop-drop, f, add-one, ← drop-cons s i 0 k)
-
-ends-at : (s : List ℕ) (p i : ℕ) → i ≤ length s → (p < i → getD s (i - 1) 0 ≡ CR → ⊥) → endsInCR (take (i - p) (drop p s)) ≡ false
-unfolding endsInCR
-ends-at s p i k d = go (i - p) refl
-  where
-    go : (n : ℕ) → i - p ≡ n → endsInCR (take n (drop p s)) ≡ false
-    go zero e = refl
-    go (suc n) e =
-        let f : suc n ≡ i - 1 + 1 - p = omega arith in
-        rw (f, part-next s p (i - 1) (omega arith) (omega arith))
-        (ends-append (take (i - 1 - p) (drop p s)) (getD s (i - 1) 0) [] ∙ ne-eqb (getD s (i - 1) 0) CR (d (omega arith)))
-
--- a turn of the search for LF
-pub no-lf-next : (s : List ℕ) (p i : ℕ) → p ≤ i → i < length s → NoLF (take (i - p) (drop p s)) → (getD s i 0 ≡ LF → ⊥)
-    → NoLF (take (i + 1 - p) (drop p s))
-no-lf-next s p i h k n d =
-    let b : ℕ = getD s i 0 in
-    rw (part-next s p i h k) (no-lf-append (take (i - p) (drop p s)) (b ∷ []) n (no-lf-cons b [] (ne-eqb b LF d) no-lf-nil))
-
--- the first LF from p on is at i, and no CR of the line is right before it
-pub lines-at-lf : (s : List ℕ) (p i : ℕ) → p ≤ i → i < length s → getD s i 0 ≡ LF → NoLF (take (i - p) (drop p s))
-    → (p < i → getD s (i - 1) 0 ≡ CR → ⊥) → lines (drop p s) ≡ line (take (i - p) (drop p s)) lf ∷ lines (drop (i + 1) s)
-lines-at-lf s p i h k e n c =
-    ap lines (cut-at s p i h k)
-    ∙ rw e (lines-lf (take (i - p) (drop p s)) (drop (i + 1) s) n (ends-at s p i (omega arith) c))
-
--- the first LF from p on is at i, and a CR of the line is right before it
-pub lines-at-crlf : (s : List ℕ) (p i : ℕ) → p < i → i < length s → getD s i 0 ≡ LF → NoLF (take (i - p) (drop p s))
-    → getD s (i - 1) 0 ≡ CR → lines (drop p s) ≡ line (take (i - 1 - p) (drop p s)) crlf ∷ lines (drop (i + 1) s)
-lines-at-crlf s p i h k e n c =
-    let t : List ℕ = take (i - 1 - p) (drop p s) in
-    let f : i - 1 + 1 ≡ i = omega arith in
-    let m : NoLF t = rw (take-take (i - 1 - p) (i - p) (drop p s) (omega arith)) at (no-lf-take (i - 1 - p) (take (i - p) (drop p s)) n) in
-    ap lines (cut-at s p (i - 1) (omega arith) (omega arith))
-    ∙ rw (f, drop-cons s i 0 k, ← add-one i, c, e) (lines-crlf t (drop (i + 1) s) m)
-
--- there is no LF from p on
-pub lines-at-eof : (s : List ℕ) (p : ℕ) → p < length s → NoLF (drop p s) → lines (drop p s) ≡ line (drop p s) eof ∷ []
-lines-at-eof s p h n = lines-eof (drop p s) n (omega (arith, length-drop p s))

@@ -7,7 +7,7 @@ use mathlib.Core.List.{List, [], _∷_, _++_}
 use mathlib.Core.Option.{Option, none, some}
 use lib.Dec.{eqb, ltb}
 use borrow.Author.Tests.{eqb-true, not-true, le-ltb, ltb-false}
-use Rattle.format.specs.Bytes.{if_then_else_, bytes, every, onto, LF, HASH, COLON, SPACE, EQUALS, BACKSLASH}
+use Rattle.format.specs.Bytes.{bytes, every, onto, LF, HASH, COLON, SPACE, EQUALS, BACKSLASH, if_then_else_}
 use Rattle.format.specs.Refusals.{badByte, notInVersion}
 use Rattle.format.specs.Pairs.{plain, Marked, unmarked, fieldMark, pairMark, afterColon, moreBefore, firstMark, mark, escape, unescapeFrom, unescape}
 use Rattle.format.specs.Fields.{pairsSince, fieldSince, fieldNamed, Given, isGiven, inOrder}
@@ -94,11 +94,6 @@ escape-injective a b e =
     let p : unescape (escape a) ≡ some a = unescape-of-escape a in
     let q : unescape (escape b) ≡ some b = unescape-of-escape b in
     cc
-
--- two texts without LF that mean the same are the same text
-pub unescape-injective : (t u s : List ℕ) → every notLF t ≡ true → every notLF u ≡ true
-    → unescape t ≡ some s → unescape u ≡ some s → t ≡ u
-unescape-injective t u s m n h i = sym (escape-of-unescape t s m h) ∙ escape-of-unescape u s n i
 
 -- an escaped text has only plain bytes if and only if the text has only bytes that can be set
 plain-escape : (s : List ℕ) → every plain (escape s) ≡ every settable s
@@ -370,10 +365,6 @@ told-judge version gs (b ∷ t) = go (eqb b HASH) refl (every plain (b ∷ t)) r
 -- what holds of every line that is read as a pair
 pub pair-line : (version : ℕ) (gs : List Given) (t k v : List ℕ) → judge version gs t ≡ right (pair k v) → PairLine version t k v
 pair-line version gs t k v e = rw e at (told-judge version gs t)
-
--- a pair's line is the one that sets its key to its value, byte for byte
-pub pair-is-canonical : (version : ℕ) (gs : List Given) (t k v : List ℕ) → judge version gs t ≡ right (pair k v) → t ≡ pairText k v
-pair-is-canonical version gs t k v e = pair-line version gs t k v e .text-is
 
 -- every key that a file holds can be set, and so can every value
 pub pair-key-fine : (version : ℕ) (gs : List Given) (t k v : List ℕ) → judge version gs t ≡ right (pair k v) → keyFine k ≡ true

@@ -1,6 +1,6 @@
 -- Laws of the writer: decimal and hex text are read back, and the samples of written data are the samples given.
 -- Assumes nothing.
-use Prim.Native.Nat.{ℕ, zero, suc, _+_, _*_, _-_, _/_, _%_, _≤_, _<_}
+use Prim.Native.Nat.{ℕ, zero, suc, _+_, _*_, _/_, _%_, _≤_, _<_, _-_}
 use native.Mathlib.Omega.{arith}
 use mathlib.Core.Path.{_≡_, refl, sym, ap, _∙_}
 use mathlib.Core.Bool.{Bool, true, false, _&&_, and-assoc, and-false, and-eq-true-iff}
@@ -8,10 +8,10 @@ use mathlib.Core.List.{List, [], _∷_, _++_, append-assoc, append-nil}
 use mathlib.Core.Option.{some}
 use lib.Dec.{leb, ltb, eqb}
 use lib.IntN.{ℤ, pos, negsuc}
-use lib.ListN.{length, getD, length-append, List·getD-append}
+use lib.ListN.{length, length-append}
 use lib.Seq.{take-at, drop-at}
 use borrow.Author.Tests.{ltb-true, ltb-false, leb-true, le-leb, lt-leb, ne-eqb}
-use Rattle.format.specs.Bytes.{if_then_else_, between, isDigit, every, LF}
+use Rattle.format.specs.Bytes.{between, isDigit, every, LF, if_then_else_}
 use Rattle.format.specs.Descriptors.{NumberKind, digitsFrom, number, raw, asText}
 use Rattle.format.specs.Samples.{inType, valueBytes, rawSamples, blank, withoutBlanks, hexDigit, hexRun, hexBytes, hexSamples, skipBlanks, token, afterToken, signedBy, tokenValue, textSample, tokens, textSamples, samplesOf}
 use Rattle.format.specs.Writer.{digit, byDigits, decimalFrom, decimal, signedDecimal, hexLetter, hexText, rawData, textData, dataBytes, allInType}
@@ -84,21 +84,6 @@ decimal-digits = of-decimal (λ n s. every isDigit s ≡ true) (λ d h. rw (is-d
 -- a decimal number has one digit or more
 pub decimal-not-empty : (n : ℕ) → 1 ≤ length (decimal n)
 decimal-not-empty = of-decimal (λ n s. 1 ≤ length s) (λ d h. omega arith) (λ n s h p. simp length-append (omega arith))
-
--- the first digit of a decimal number is not `0`, unless the number is 0
-pub decimal-first : (n : ℕ) → 1 ≤ n → 48 < getD (decimal n) 0 0
-decimal-first n = of-decimal First (λ d h. (omega arith, λ l. omega arith)) more n .1
-  where
-    First : ℕ → List ℕ → Type 0
-    First n s = (1 ≤ length s) × (1 ≤ n → 48 < getD s 0 0)
-
-    more : (n : ℕ) (s : List ℕ) → 10 ≤ n → First (n / 10) s → First n (s ++ (digit (n % 10) ∷ []))
-    more n s h p = (simp length-append (omega arith), λ l. rw (List·getD-append s (digit (n % 10) ∷ []) 0 0 (p .0)) (p .1 (omega arith)))
-
--- the number 0 is one digit
-pub decimal-zero : decimal 0 ≡ digit 0 ∷ []
-unfolding decimalFrom
-decimal-zero = refl
 
 -- of a text that is not empty, `number` is `digitsFrom 0`
 number-from : (s : List ℕ) → 1 ≤ length s → number s ≡ digitsFrom 0 s

@@ -1,4 +1,4 @@
--- The laws that make the definitions believable, as one statement: `Laws`. proofs/ proves them; each is used by the crates above.
+-- The laws that make the definitions believable, as one statement: `Laws`. proofs/ proves them; the crates above use most of them.
 use Prim.Native.Nat.{ℕ, _≤_, _<_}
 use mathlib.Core.Path.{_≡_}
 use mathlib.Core.Bool.{Bool, true, false, not}

@@ -35,7 +35,7 @@ unfoldable pub texts : List String → List ℕ
 texts [] = []
 texts (s ∷ ss) = bytes s ++ LF ∷ texts ss
 
--- the header of S from its third line on, with a pair more
+-- S from its second line on, with this as its last pair
 abbrev pub linesS : String → List ℕ
 linesS pair =
     texts
@@ -170,7 +170,7 @@ StarredTrials = Hold starredTrials
 
 -- ---- the limits of a header, from both sides (trial 7, and refusal 4)
 
--- five lines of 56 bytes that need only be closed, then these bytes, then the closing line
+-- five lines, 56 bytes in all, that need only be closed, then these bytes, then the closing line
 abbrev pub headerWith : List ℕ → List ℕ
 headerWith s = texts ("NRRD0001" ∷ "type: int8" ∷ "dimension: 1" ∷ "sizes: 1" ∷ "encoding: raw" ∷ []) ++ (s ++ LF ∷ [])
 

@@ -86,7 +86,7 @@ pub record Settled (first : List ℕ) (es : List Entry) (gs : List Given) (ls : 
   pub entries : List Entry
   pub reading : header (fileIn after) ≡ accepted entries gs ls
   pub version : versionOf entries ≡ versionOf es
-  -- each key of an accepted setting is at the value accepted for it last, every other key at its first value
+  -- a key that was set has its latest accepted value, any other key its first
   pub values : (k : List ℕ) → valueOf k entries ≡ orElse (lastAccepted k done) (valueOf k es)
   -- the carried count and table are those of the fresh reading
   pub count : countIn after ≡ length entries
@@ -139,10 +139,10 @@ refusalOf (changed l) = none
 -- ---- the statement
 
 pub record SettingsHold : Type 0 where
-  -- a buffer with a file whose header is accepted, the table and the count of its reading, and ANY list of settings
+  -- an accepted file, its table and its count; then any settings at all
   pub lists : (buf : List ℕ) (used : ℕ) (table : List ℕ) (es : List Entry) (gs : List Given) (ls : List Line)
       → used ≤ length buf → header (take used buf) ≡ accepted es gs ls → take (length es) table ≡ tableOf es
       → (ss : List Setting)
       → let after = setKeys ss (lent buf used table (length es)) [] in Settled (take used buf) es gs ls (after .0) (after .1)
-  -- any setting, in such a list or not, is refused exactly when one of the cases holds, by the first of them
+  -- of any single setting: the refusal is the first case that holds, none if no case does
   pub cases : (l : Lent) (s : Setting) → refusalOf (setKey l s) ≡ firstCase (setCases l s)

@@ -7,11 +7,11 @@ use native.Mathlib.Omega.{arith}
 use mathlib.Core.Path.{_≡_, refl, sym, ap, _∙_}
 use mathlib.Core.Bool.{Bool, true, false, _&&_}
 use mathlib.Core.List.{List, reverse, reverse-append}
-use lib.Dec.{ltb, leb, lit≤}
+use lib.Dec.{eqb, ltb, leb, lit≤}
 use lib.IntN.{ℤ, pos, subℕ, _-ℤ_}
 use lib.ListN.{length, take, drop, getD, set, length-drop, length-reverse, length-set}
 use lib.Seq.{drop-drop, getD-drop, sets}
-use borrow.Author.Tests.{lt-ltb, le-ltb, ltb-true, ltb-false, leb-true, le-leb}
+use borrow.Author.Tests.{eq-eqb, ne-eqb, eqb-true, eqb-false, lt-ltb, le-ltb, ltb-true, ltb-false, leb-true, leb-false, le-leb}
 use mir.Syntax.{w64}
 use mir.Val.{SFits, toZ, ofZ}
 use mir.Facts.{toZ-pos, toZ-ofZ}
@@ -146,6 +146,28 @@ unsigned-in w n d not-8 h = le-leb n (min (256 ^ w - 1) maxSample) (omega (arith
 pub word-in : (n : ℕ) → inType unsigned 8 (pos n) ≡ leb n maxSample
 unfolding inType
 word-in n = refl
+
+-- a number of 8 bytes is above the largest sample or not
+pub above-one : (x : ℕ) → x < 2 ^ 64 → x / 9223372036854775808 ≡ (if leb x maxSample then 0 else 1)
+above-one x h = go (leb x maxSample) refl
+  where
+    go : (t : Bool) → leb x maxSample ≡ t → x / 9223372036854775808 ≡ (if t then 0 else 1)
+    go true e = omega (arith, leb-true x maxSample e)
+    go false e = omega (arith, leb-false x maxSample e)
+
+-- a count of those above is zero as long as none of them is
+pub count-more : (m : ℕ) (t : Bool) → eqb (m + (if t then 0 else 1)) 0 ≡ (eqb m 0 && t)
+count-more m t = go (eqb m 0) t refl
+  where
+    go : (u t : Bool) → eqb m 0 ≡ u → eqb (m + (if t then 0 else 1)) 0 ≡ (u && t)
+    go true true p = eq-eqb (m + 0) 0 (omega (arith, eqb-true m 0 p))
+    go true false p = ne-eqb (m + 1) 0 (λ e. absurd (omega (arith, e)))
+    go false true p = ne-eqb (m + 0) 0 (λ e. eqb-false m 0 p (omega (arith, e)))
+    go false false p = ne-eqb (m + 1) 0 (λ e. absurd (omega (arith, e)))
+
+pub at-most-one : (t : Bool) {r : ℕ} → r ≡ (if t then 0 else 1) → r ≤ 1
+at-most-one true e = omega (arith, e)
+at-most-one false e = omega (arith, e)
 
 -- ---- the samples of a list
 

@@ -1,27 +1,37 @@
 // Raw samples into a list.
 ghost use mathlib.Core.Path.{_≡_};
+ghost use mathlib.Core.Bool.{true, false};
 ghost use Prim.Native.Nat.{_*_, _≤_};
 ghost use lib.ListN.{length};
-ghost use Rattle.format.specs.Bytes.{over};
+ghost use lib.Dec.{leb};
+ghost use Rattle.format.specs.Bytes.{over, if_then_else_};
 ghost use Rattle.format.specs.Descriptors.{unsigned};
+ghost use Rattle.format.specs.Limits.{maxSample};
 ghost use Rattle.format.specs.Samples.{rawSamples};
 ghost use Rattle.words.specs.Widths.{Width, kindBy, endianBy};
 use crate::number;
 
-// The refusal of unsigned samples of 8 bytes. There is no early exit.
+// 1 for a number above the largest sample, or 0.
+fn is_above(x: u64) -> u64
+    ensures { λ r. ⌜ r ≡ (if leb x maxSample then 0 else 1) ⌝ }
+{
+    x / 9223372036854775808
+}
+
+// The refusal of unsigned samples of 8 bytes. All are counted, with no early exit: the compiler makes a vector loop of it.
 fn check_words(s: &[u8], n: usize, big: bool) -> u32
     requires { ⌜ n * 8 ≤ length (now s) ⌝ }
     ensures { λ r. ⌜ r ≡ rawSamples unsigned 8 (endianBy big) n (now (s .entry)) .number ⌝ }
 {
-    let mut fine = true;
+    let mut count: u64 = 0;
     let mut at: usize = 0;
     let mut k: usize = 0;
     while k < n {
-        fine = fine & (number::word(s, at, 8, big) <= 9223372036854775807);
+        count += is_above(number::word(s, at, 8, big));
         at += 8;
         k += 1;
     }
-    if fine { 0 } else { 20 }
+    if count == 0 { 0 } else { 20 }
 }
 
 // The refusal that n samples of w bytes come to: 20 where one is above the largest sample, or 0.
@@ -56,7 +66,7 @@ fn put(s: &[u8], n: usize, w: usize, signed: bool, big: bool, dst: &mut [i64])
     }
 }
 
-// The same, two samples a turn: of one of 8 bytes with its bytes turned the compiler would make vector code that is slower.
+// The same, two samples a turn: of one of 4 or 8 bytes with its bytes turned the compiler would make vector code that is slower.
 fn put_pairs(s: &[u8], n: usize, w: usize, signed: bool, big: bool, dst: &mut [i64])
     requires { ⌜ Width w ⌝ }
     requires { ⌜ n * w ≤ length (now s) ⌝ }
@@ -79,35 +89,66 @@ fn put_pairs(s: &[u8], n: usize, w: usize, signed: bool, big: bool, dst: &mut [i
     dst[k] = number::sample_at(s, at, w, signed, big);
 }
 
-// Samples of 8 bytes.
-fn put_words(s: &[u8], n: usize, signed: bool, big: bool, dst: &mut [i64])
-    requires { ⌜ n * 8 ≤ length (now s) ⌝ }
+// Big-endian samples of 2 bytes. Where the sign is no literal the compiler decides it at each sample.
+fn put_big_shorts(s: &[u8], n: usize, signed: bool, dst: &mut [i64])
+    requires { ⌜ n * 2 ≤ length (now s) ⌝ }
     requires { ⌜ n ≤ length (now dst) ⌝ }
-    ensures { λ _. ⌜ (rawSamples (kindBy signed) 8 (endianBy big) n (now (s .entry)) .number ≡ 0 → now (dst .exit) ≡ over (rawSamples (kindBy signed) 8 (endianBy big) n (now (s .entry)) .seen) (now (dst .entry))) ⌝ }
+    ensures { λ _. ⌜ (rawSamples (kindBy signed) 2 (endianBy true) n (now (s .entry)) .number ≡ 0 → now (dst .exit) ≡ over (rawSamples (kindBy signed) 2 (endianBy true) n (now (s .entry)) .seen) (now (dst .entry))) ⌝ }
 {
-    if big {
-        return put_pairs(s, n, 8, signed, true, dst);
+    if signed {
+        return put(s, n, 2, true, true, dst);
     }
-    put(s, n, 8, signed, false, dst)
+    put(s, n, 2, false, true, dst)
 }
 
-// A call for each width: the compiler makes a loop of its own of each.
-fn put_by_width(s: &[u8], n: usize, w: usize, signed: bool, big: bool, dst: &mut [i64])
+// Big-endian samples. A call for each width: the compiler makes a loop of its own of each.
+fn put_big(s: &[u8], n: usize, w: usize, signed: bool, dst: &mut [i64])
+    requires { ⌜ Width w ⌝ }
+    requires { ⌜ n * w ≤ length (now s) ⌝ }
+    requires { ⌜ n ≤ length (now dst) ⌝ }
+    ensures { λ _. ⌜ (rawSamples (kindBy signed) w (endianBy true) n (now (s .entry)) .number ≡ 0 → now (dst .exit) ≡ over (rawSamples (kindBy signed) w (endianBy true) n (now (s .entry)) .seen) (now (dst .entry))) ⌝ }
+{
+    if w == 8 {
+        return put_pairs(s, n, 8, signed, true, dst);
+    }
+    if w == 4 {
+        return put_pairs(s, n, 4, signed, true, dst);
+    }
+    if w == 2 {
+        return put_big_shorts(s, n, signed, dst);
+    }
+    put(s, n, 1, signed, true, dst)
+}
+
+// Little-endian samples, in the same way.
+fn put_little(s: &[u8], n: usize, w: usize, signed: bool, dst: &mut [i64])
+    requires { ⌜ Width w ⌝ }
+    requires { ⌜ n * w ≤ length (now s) ⌝ }
+    requires { ⌜ n ≤ length (now dst) ⌝ }
+    ensures { λ _. ⌜ (rawSamples (kindBy signed) w (endianBy false) n (now (s .entry)) .number ≡ 0 → now (dst .exit) ≡ over (rawSamples (kindBy signed) w (endianBy false) n (now (s .entry)) .seen) (now (dst .entry))) ⌝ }
+{
+    if w == 8 {
+        return put(s, n, 8, signed, false, dst);
+    }
+    if w == 4 {
+        return put(s, n, 4, signed, false, dst);
+    }
+    if w == 2 {
+        return put(s, n, 2, signed, false, dst);
+    }
+    put(s, n, 1, signed, false, dst)
+}
+
+fn put_by_endian(s: &[u8], n: usize, w: usize, signed: bool, big: bool, dst: &mut [i64])
     requires { ⌜ Width w ⌝ }
     requires { ⌜ n * w ≤ length (now s) ⌝ }
     requires { ⌜ n ≤ length (now dst) ⌝ }
     ensures { λ _. ⌜ (rawSamples (kindBy signed) w (endianBy big) n (now (s .entry)) .number ≡ 0 → now (dst .exit) ≡ over (rawSamples (kindBy signed) w (endianBy big) n (now (s .entry)) .seen) (now (dst .entry))) ⌝ }
 {
-    if w == 8 {
-        return put_words(s, n, signed, big, dst);
+    if big {
+        return put_big(s, n, w, signed, dst);
     }
-    if w == 4 {
-        return put(s, n, 4, signed, big, dst);
-    }
-    if w == 2 {
-        return put(s, n, 2, signed, big, dst);
-    }
-    put(s, n, 1, signed, big, dst)
+    put_little(s, n, w, signed, dst)
 }
 
 // The samples to the front of dst, where none is refused.
@@ -123,5 +164,5 @@ pub fn fill(s: &[u8], n: usize, w: usize, signed: bool, big: bool, dst: &mut [i6
     if s.len() / w < n {
         return;
     }
-    put_by_width(s, n, w, signed, big, dst);
+    put_by_endian(s, n, w, signed, big, dst);
 }

@@ -1,5 +1,6 @@
 // Raw samples into lent bytes, 8 for each, the low byte first.
 ghost use mathlib.Core.Path.{_≡_};
+ghost use mathlib.Core.Bool.{true, false};
 ghost use Prim.Native.Nat.{_*_, _/_, _≤_};
 ghost use lib.ListN.{length};
 ghost use Rattle.format.specs.Samples.{rawSamples};
@@ -23,7 +24,7 @@ fn put(s: &[u8], n: usize, w: usize, signed: bool, big: bool, dst: &mut [u8])
     }
 }
 
-// The same, two samples a turn: of one of 8 bytes with its bytes turned the compiler would make vector code that is slower.
+// The same, two samples a turn: of one of 4 or 8 bytes with its bytes turned the compiler would make vector code that is slower.
 fn put_pairs(s: &[u8], n: usize, w: usize, signed: bool, big: bool, dst: &mut [u8])
     requires { ⌜ Width w ⌝ }
     requires { ⌜ n * w ≤ length (now s) ⌝ }
@@ -46,35 +47,66 @@ fn put_pairs(s: &[u8], n: usize, w: usize, signed: bool, big: bool, dst: &mut [u
     words::put_sample(dst, k, number::sample_at(s, at, w, signed, big));
 }
 
-// Raw samples of 8 bytes.
-fn put_words(s: &[u8], n: usize, signed: bool, big: bool, dst: &mut [u8])
-    requires { ⌜ n * 8 ≤ length (now s) ⌝ }
+// Big-endian samples of 2 bytes. Where the sign is no literal the compiler decides it at each sample.
+fn put_big_shorts(s: &[u8], n: usize, signed: bool, dst: &mut [u8])
+    requires { ⌜ n * 2 ≤ length (now s) ⌝ }
     requires { ⌜ n ≤ length (now dst) / 8 ⌝ }
-    ensures { λ _. ⌜ (rawSamples (kindBy signed) 8 (endianBy big) n (now (s .entry)) .number ≡ 0 → now (dst .exit) ≡ samplesOver (rawSamples (kindBy signed) 8 (endianBy big) n (now (s .entry)) .seen) (now (dst .entry))) ⌝ }
+    ensures { λ _. ⌜ (rawSamples (kindBy signed) 2 (endianBy true) n (now (s .entry)) .number ≡ 0 → now (dst .exit) ≡ samplesOver (rawSamples (kindBy signed) 2 (endianBy true) n (now (s .entry)) .seen) (now (dst .entry))) ⌝ }
 {
-    if big {
-        return put_pairs(s, n, 8, signed, true, dst);
+    if signed {
+        return put(s, n, 2, true, true, dst);
     }
-    put(s, n, 8, signed, false, dst)
+    put(s, n, 2, false, true, dst)
 }
 
-// A call for each width: the compiler makes a loop of its own of each.
-fn put_by_width(s: &[u8], n: usize, w: usize, signed: bool, big: bool, dst: &mut [u8])
+// Big-endian samples. A call for each width: the compiler makes a loop of its own of each.
+fn put_big(s: &[u8], n: usize, w: usize, signed: bool, dst: &mut [u8])
+    requires { ⌜ Width w ⌝ }
+    requires { ⌜ n * w ≤ length (now s) ⌝ }
+    requires { ⌜ n ≤ length (now dst) / 8 ⌝ }
+    ensures { λ _. ⌜ (rawSamples (kindBy signed) w (endianBy true) n (now (s .entry)) .number ≡ 0 → now (dst .exit) ≡ samplesOver (rawSamples (kindBy signed) w (endianBy true) n (now (s .entry)) .seen) (now (dst .entry))) ⌝ }
+{
+    if w == 8 {
+        return put_pairs(s, n, 8, signed, true, dst);
+    }
+    if w == 4 {
+        return put_pairs(s, n, 4, signed, true, dst);
+    }
+    if w == 2 {
+        return put_big_shorts(s, n, signed, dst);
+    }
+    put(s, n, 1, signed, true, dst)
+}
+
+// Little-endian samples, in the same way.
+fn put_little(s: &[u8], n: usize, w: usize, signed: bool, dst: &mut [u8])
+    requires { ⌜ Width w ⌝ }
+    requires { ⌜ n * w ≤ length (now s) ⌝ }
+    requires { ⌜ n ≤ length (now dst) / 8 ⌝ }
+    ensures { λ _. ⌜ (rawSamples (kindBy signed) w (endianBy false) n (now (s .entry)) .number ≡ 0 → now (dst .exit) ≡ samplesOver (rawSamples (kindBy signed) w (endianBy false) n (now (s .entry)) .seen) (now (dst .entry))) ⌝ }
+{
+    if w == 8 {
+        return put(s, n, 8, signed, false, dst);
+    }
+    if w == 4 {
+        return put(s, n, 4, signed, false, dst);
+    }
+    if w == 2 {
+        return put(s, n, 2, signed, false, dst);
+    }
+    put(s, n, 1, signed, false, dst)
+}
+
+fn put_by_endian(s: &[u8], n: usize, w: usize, signed: bool, big: bool, dst: &mut [u8])
     requires { ⌜ Width w ⌝ }
     requires { ⌜ n * w ≤ length (now s) ⌝ }
     requires { ⌜ n ≤ length (now dst) / 8 ⌝ }
     ensures { λ _. ⌜ (rawSamples (kindBy signed) w (endianBy big) n (now (s .entry)) .number ≡ 0 → now (dst .exit) ≡ samplesOver (rawSamples (kindBy signed) w (endianBy big) n (now (s .entry)) .seen) (now (dst .entry))) ⌝ }
 {
-    if w == 8 {
-        return put_words(s, n, signed, big, dst);
+    if big {
+        return put_big(s, n, w, signed, dst);
     }
-    if w == 4 {
-        return put(s, n, 4, signed, big, dst);
-    }
-    if w == 2 {
-        return put(s, n, 2, signed, big, dst);
-    }
-    put(s, n, 1, signed, big, dst)
+    put_little(s, n, w, signed, dst)
 }
 
 // Raw samples to the front of dst, where none is refused.
@@ -90,5 +122,5 @@ pub fn fill(s: &[u8], n: usize, w: usize, signed: bool, big: bool, dst: &mut [u8
     if s.len() / w < n {
         return;
     }
-    put_by_width(s, n, w, signed, big, dst);
+    put_by_endian(s, n, w, signed, big, dst);
 }

@@ -1,6 +1,6 @@
 -- Laws of what the leaves answer about a text: by index for their loops, and as parts of the text for those that call them.
 -- Assumes nothing.
-use Prim.Native.Nat.{ℕ, zero, suc, _+_, _-_, _≤_, _<_}
+use Prim.Native.Nat.{ℕ, zero, suc, _+_, _≤_, _<_, _-_}
 use native.Mathlib.Nat.{zero-add, add-zero, le-of-suc-le-suc, not-suc-le-zero}
 use native.Mathlib.Numerals.{add-one, one-add}
 use native.Mathlib.Omega.{arith}
@@ -8,10 +8,10 @@ use mathlib.Core.Path.{_≡_, refl, sym, ap, _∙_}
 use mathlib.Core.Bool.{Bool, true, false, _&&_, _||_, and-assoc, false≢true}
 use mathlib.Core.List.{List, [], _∷_, _++_}
 use lib.Dec.{eqb}
-use lib.ListN.{length, take, drop, getD, length-append, length-take, length-drop, take-append-drop, drop-of-length-le}
+use lib.ListN.{length, take, drop, getD, length-append, length-drop, take-append-drop, drop-of-length-le}
 use lib.Seq.{drop-cons, take-length, length-take-le, take-suc, take-at, drop-append-add}
 use borrow.Author.Tests.{eq-eqb, ne-eqb, eqb-true}
-use Rattle.format.specs.Bytes.{if_then_else_, LF, CR, TAB, SPACE, COLON, EQUALS, spaceOrTab, every, same, beginsWith}
+use Rattle.format.specs.Bytes.{LF, CR, TAB, SPACE, COLON, EQUALS, spaceOrTab, every, same, beginsWith, if_then_else_}
 use Rattle.format.specs.Lines.{lf, crlf, eof, line, size, extend, lines}
 use Rattle.format.specs.Pairs.{Marked, unmarked, fieldMark, pairMark, moreBefore, firstMark, mark}
 use Rattle.format.specs.Descriptors.{trimFront, trimByte, trimEnd}
@@ -426,9 +426,6 @@ take-trimmed (b ∷ s) = go (trimEnd s) (take-trimmed s)
     go : (t : List ℕ) → take (length t) s ≡ t → take (length (trimByte b t)) (b ∷ s) ≡ trimByte b t
     go [] h = last (spaceOrTab b)
     go (c ∷ t) h = ap (λ (u : List ℕ). b ∷ u) h
-
-pub trim-end-le : (s : List ℕ) → length (trimEnd s) ≤ length s
-trim-end-le s = omega (arith, ap length (take-trimmed s), length-take (length (trimEnd s)) s)
 
 -- a text by its last byte
 trim-end-space : (s : List ℕ) (b : ℕ) → spaceOrTab b ≡ true → trimEnd (s ++ (b ∷ [])) ≡ trimEnd s

@@ -1,4 +1,4 @@
-// The samples of a text one after another: runs of blanks and tokens take turns until the wanted count is read.
+// Text samples: blanks are skipped and a token is read, in turn, as often as samples are wanted.
 ghost use mathlib.Core.Path.{_≡_};
 ghost use mathlib.Core.Bool.{true};
 ghost use Prim.Native.Nat.{_+_, _*_, _-_, _^_, _≤_, _<_, min};

@@ -12,7 +12,7 @@ use Rattle.format.specs.Boundary.{samplesLent, lentSamples}
 use Rattle.format.specs.Calls.{checkSamplesCall, seenIn}
 use Rattle.format.proofs.Samples.{all-bytes}
 use Rattle.words.proofs.Groups.{length-samples, samples-back}
-use Rattle.samples.specs.Packed.{samplesOver}
+use Rattle.words.specs.Packed.{samplesOver}
 use Rattle.volume.specs.Boundary.{samplesEntry}
 use Rattle.volume.proofs.Parts.{list-kept, list-filled}
 

@@ -27,7 +27,7 @@ use Rattle.format.specs.Data.{afterSkips, Place, nowhere, part, placeFrom, plac
 use Rattle.format.specs.Samples.{Decoded, sampleValue, ordered, rawSamples, textSamples, HexRun, noHex, hexRun, hexBytes, hexSample, hexSamples, withoutBlanks, samplesOf}
 use Rattle.format.specs.Calls.{readingOf, readAnswer, readHeaderCall, dataAnswer, noSamples, countOf, decoded, answerDecoded, checkAt, checkIn, checkSamplesCall, seenIn, samplesCall}
 use Rattle.header.proofs.Numbered.{NumberedOutcome, header-numbered}
-use Rattle.samples.specs.Widths.{Width, kindBy, endianBy}
+use Rattle.words.specs.Widths.{Width, kindBy, endianBy}
 use Rattle.volume.specs.Places.{IsReading}
 use Rattle.volume.specs.Parts.{WidthOf, decodedBy, Decodable, partBy, Held, Placed}
 use Rattle.volume.proofs.Located.{place-lies}

@@ -13,7 +13,7 @@ use Rattle.format.specs.Header.{Entry, headerLength}
 use Rattle.format.specs.Data.{placeOf}
 use Rattle.format.specs.Samples.{Decoded, samplesOf}
 use Rattle.format.specs.Calls.{dataAnswer}
-use Rattle.samples.specs.Widths.{Width}
+use Rattle.words.specs.Widths.{Width}
 use Rattle.volume.specs.Places.{IsReading}
 
 -- w is the bytes of a sample, where the type of this number is an integer

@@ -15,8 +15,8 @@ ghost use Rattle.format.specs.Bytes.{if_then_else_, over};
 ghost use Rattle.format.specs.Refusals.{refusal, fine};
 ghost use Rattle.format.specs.Descriptors.{numberKind, isFloating, sampleBytes};
 ghost use Rattle.format.specs.Calls.{noSamples, checkSamplesCall, samplesCall};
-ghost use Rattle.samples.specs.Packed.{samplesOver};
-ghost use Rattle.samples.specs.Widths.{kindBy};
+ghost use Rattle.words.specs.Packed.{samplesOver};
+ghost use Rattle.words.specs.Widths.{kindBy};
 ghost use Rattle.volume.specs.Boundary.{samplesEntry};
 ghost use Rattle.volume.specs.Parts.{WidthOf, decodedBy, Decodable, partBy, Held, Placed};
 
@@ -92,12 +92,12 @@ fn check_part(s: &[u8], reading: Reading, n: usize) -> u32
     let signed = is_signed(reading.sampletype);
     let big = reading.endian == 1;
     if reading.encoding == 0 {
-        return samples::raw::check_raw(s, n, w, signed, big);
+        return raw::list::check(s, n, w, signed, big);
     }
     if reading.encoding == 1 {
-        return samples::text::check_text(s, n, w, signed);
+        return tokens::list::check(s, n, w, signed);
     }
-    samples::hex::check_hex(s, n, w, signed, big)
+    hex::list::check(s, n, w, signed, big)
 }
 
 // n samples of the data to the front of the list; none of them is refused.
@@ -111,12 +111,12 @@ fn fill_part(s: &[u8], reading: Reading, n: usize, list: &mut [i64])
     let signed = is_signed(reading.sampletype);
     let big = reading.endian == 1;
     if reading.encoding == 0 {
-        return samples::raw::fill_raw(s, n, w, signed, big, list);
+        return raw::list::fill(s, n, w, signed, big, list);
     }
     if reading.encoding == 1 {
-        return samples::text::fill_text(s, n, w, signed, list);
+        return tokens::list::fill(s, n, w, signed, list);
     }
-    samples::hex::fill_hex(s, n, w, signed, big, list)
+    hex::list::fill(s, n, w, signed, big, list)
 }
 
 // The refusal that n samples come to, by the place of the data; or 0.
@@ -133,7 +133,7 @@ fn check_place(reading: Reading, file: &[u8], second: &[u8], d: DataAnswer, n: u
     }
 }
 
-// The same to the front of lent bytes.
+// n samples of the data to the front of lent bytes, 8 for each; none of them is refused.
 fn pack_part(s: &[u8], reading: Reading, n: usize, list: &mut [u8])
     requires { ⌜ Decodable reading n (now s) ⌝ }
     requires { ⌜ decodedBy reading n (now s) .number ≡ 0 ⌝ }
@@ -144,12 +144,12 @@ fn pack_part(s: &[u8], reading: Reading, n: usize, list: &mut [u8])
     let signed = is_signed(reading.sampletype);
     let big = reading.endian == 1;
     if reading.encoding == 0 {
-        return samples::packed::fill_raw(s, n, w, signed, big, list);
+        return raw::packed::fill(s, n, w, signed, big, list);
     }
     if reading.encoding == 1 {
-        return samples::packed::fill_text(s, n, w, signed, list);
+        return tokens::packed::fill(s, n, w, signed, list);
     }
-    samples::packed::fill_hex(s, n, w, signed, big, list)
+    hex::packed::fill(s, n, w, signed, big, list)
 }
 
 // n samples to the front of the list, by the place of the data; none of them is refused.
@@ -175,7 +175,7 @@ fn fill_place(
     }
 }
 
-// The same to the front of lent bytes.
+// n samples to the front of lent bytes, by the place of the data; none of them is refused.
 fn pack_place(
     reading: Reading,
     file: &[u8],

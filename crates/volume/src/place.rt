@@ -166,7 +166,7 @@ pub fn data_place(file: &[u8], second: &[u8]) -> DataAnswer
     locate(answer.reading, file, second, false)
 }
 
-// The data itself: that very part of the file that holds it; with a refusal the empty part at the start of the header's file.
+// The data as a slice of its file; a refusal gives an empty slice at byte 0 of the first file.
 pub fn data<'a>(file: &'a [u8], second: &'a [u8]) -> &'a [u8]
     ensures list { λ r. ⌜ now r ≡ dataCall (now (file .entry)) (now (second .entry)) ⌝ }
     ensures itself { λ r. ⌜ ptr r ≡ dataPointer (ptr (file .entry)) (ptr (second .entry)) (dataPlaceCall (now (file .entry)) (now (second .entry))) ⌝ }

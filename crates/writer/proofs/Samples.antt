@@ -20,7 +20,8 @@ use Rattle.format.specs.Samples.{inType, lowest, highest, toBytes, fromSigned, 
 use Rattle.format.specs.Writer.{signedDecimal, hexOfByte, hexText, rawData, textData, dataBytes, allInType}
 use Rattle.format.proofs.Bytes.{and-left, and-right}
 use Rattle.format.proofs.Samples.{length-to-bytes, length-ordered, length-value-bytes}
-use Rattle.writer.specs.Stored.{lowBytes, textLine, inRange, allInRange, Width}
+use Rattle.writer.specs.Stored.{lowBytes, textLine, inRange, allInRange}
+use Rattle.words.specs.Widths.{Width}
 use Rattle.writer.proofs.Digits.{at-most-20}
 use Rattle.writer.proofs.Runs.{flat-parts}
 use Rattle.words.proofs.Stores.{flat-length}

@@ -1,6 +1,5 @@
 -- What the writer's parts store and test, in the words of their contracts. Each is tied to the definitions of `format` by a law of proofs/.
 use mathlib.Core.Path.{_≡_}
-use mathlib.Core.Logic.{_⊎_}
 use Prim.Native.Nat.{ℕ, zero, suc, _*_, _-_, _/_, _%_, _≤_, _<_}
 use mathlib.Core.Bool.{Bool, true, not, _&&_}
 use mathlib.Core.List.{List, [], _∷_, _++_, flatMap}
@@ -52,10 +51,6 @@ inRange low high (negsuc n) = ltb n low
 unfoldable pub allInRange : ℕ → ℕ → List ℤ → Bool
 allInRange low high [] = true
 allInRange low high (z ∷ zs) = inRange low high z && allInRange low high zs
-
--- the bytes that a sample may have
-abbrev pub Width : ℕ → Type 0
-Width w = (w ≡ 1) ⊎ ((w ≡ 2) ⊎ ((w ≡ 4) ⊎ (w ≡ 8)))
 
 -- the refusals that do not ask for the file's length, in the order of `writeRefusal`
 unfoldable pub earlyRefusal : ℕ → List ℕ → ℕ → ℕ → ℕ → List ℤ → ℕ

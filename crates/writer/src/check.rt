@@ -6,7 +6,8 @@ ghost use Rattle.format.specs.Bytes.{isIn};
 ghost use Rattle.format.specs.Descriptors.{product, sampleBytes, numberKind};
 ghost use Rattle.format.specs.Samples.{lowest, highest, toSigned};
 ghost use Rattle.format.specs.Writer.{writable};
-ghost use Rattle.writer.specs.Stored.{chosen, inRange, allInRange, Width, earlyRefusal, lateRefusal, Numbers, Ready};
+ghost use Rattle.writer.specs.Stored.{chosen, inRange, allInRange, earlyRefusal, lateRefusal, Numbers, Ready};
+ghost use Rattle.words.specs.Widths.{Width};
 use crate::source;
 
 // Whether one of the numbers is 0.

@@ -68,7 +68,7 @@ fn write_chosen(
     answer(0, end)
 }
 
-// The same for samples that are numbers.
+// Writes samples that are numbers as an attached file to the front of `out`; a refused call leaves `out` as it was.
 pub fn write(
     version: u64,
     sizes: &[u64],

@@ -19,30 +19,30 @@ width-of-requires c κs = search needs
 is-signed-requires : tie.Need-is-signed-requires
 is-signed-requires c κs = search needs
 
-check-raw-requires : tie.Need-check-raw-requires
-check-raw-requires c κs = search needs
+check-requires : tie.Need-check-requires
+check-requires c κs = search needs
 
 returns : tie.Need-returns
 returns c =
     let p = is (c .before .before .before .before) in
     let t = c .before .if1 .taken in
-    rw (← p .as-raw t) (c .check-raw .ensures (p .width) (p .enough t))
+    rw (← p .as-raw t) (c .check .ensures (p .width) (p .enough t))
 
-check-text-requires : tie.Need-check-text-requires
-check-text-requires c κs = search needs
+check-requires-2 : tie.Need-check-requires-2
+check-requires-2 c κs = search needs
 
 returns-2 : tie.Need-returns-2
 returns-2 c =
     let p = is (c .before .before .before .before .before .before) in
-    rw (← p .as-text (c .before .if2 .taken)) (c .check-text .ensures (p .width))
+    rw (← p .as-text (c .before .if2 .taken)) (c .check2 .ensures (p .width))
 
-check-hex-requires : tie.Need-check-hex-requires
-check-hex-requires c κs = search needs
+check-requires-3 : tie.Need-check-requires-3
+check-requires-3 c κs = search needs
 
 returns-3 : tie.Need-returns-3
 returns-3 c =
     let p = is (c .before .before .before .before .before .before) in
-    rw (← p .as-hex (c .before .before .before .if1 .left) (c .before .if2 .left)) (c .check-hex .ensures (p .width))
+    rw (← p .as-hex (c .before .before .before .if1 .left) (c .before .if2 .left)) (c .check3 .ensures (p .width))
 
 pub check-part-spec : {M : Type 1} → statement M
 check-part-spec =
@@ -50,9 +50,9 @@ check-part-spec =
     (tie.spec
     width-of-requires
     is-signed-requires
-    check-raw-requires
+    check-requires
     returns
-    check-text-requires
+    check-requires-2
     returns-2
-    check-hex-requires
+    check-requires-3
     returns-3)

@@ -21,8 +21,8 @@ width-of-requires c κs = search needs
 is-signed-requires : tie.Need-is-signed-requires
 is-signed-requires c κs = search needs
 
-fill-raw-requires : tie.Need-fill-raw-requires
-fill-raw-requires c κs = search needs
+fill-requires : tie.Need-fill-requires
+fill-requires c κs = search needs
 
 same-length : tie.Need-same-length
 same-length c = search needs
@@ -33,10 +33,10 @@ returns c =
     let r = c .before .before .before .before .before .before .before .before .before .before .before .pre in
     let t = c .before .before .before .before .if1 .taken in
     let l = p .as-raw t in
-    rw (← l) (c .before .before .fill-raw .ensures (p .width) (p .enough t) (r .1 .1) (ap (λ (d : Decoded). d .number) l ∙ r .1 .0))
+    rw (← l) (c .before .before .fill .ensures (p .width) (p .enough t) (r .1 .1) (ap (λ (d : Decoded). d .number) l ∙ r .1 .0))
 
-fill-text-requires : tie.Need-fill-text-requires
-fill-text-requires c κs = search needs
+fill-requires-2 : tie.Need-fill-requires-2
+fill-requires-2 c κs = search needs
 
 same-length-2 : tie.Need-same-length-2
 same-length-2 c = search needs
@@ -46,10 +46,10 @@ returns-2 c =
     let p = is (c .before .before .before .before .before .before .before .before .before) in
     let r = c .before .before .before .before .before .before .before .before .before .before .before .before .before .pre in
     let l = p .as-text (c .before .before .before .before .if2 .taken) in
-    rw (← l) (c .before .before .fill-text .ensures (p .width) (r .1 .1) (ap (λ (d : Decoded). d .number) l ∙ r .1 .0))
+    rw (← l) (c .before .before .fill2 .ensures (p .width) (r .1 .1) (ap (λ (d : Decoded). d .number) l ∙ r .1 .0))
 
-fill-hex-requires : tie.Need-fill-hex-requires
-fill-hex-requires c κs = search needs
+fill-requires-3 : tie.Need-fill-requires-3
+fill-requires-3 c κs = search needs
 
 same-length-3 : tie.Need-same-length-3
 same-length-3 c = search needs
@@ -59,7 +59,7 @@ returns-3 c =
     let p = is (c .before .before .before .before .before .before .before .before .before) in
     let r = c .before .before .before .before .before .before .before .before .before .before .before .before .before .pre in
     let l = p .as-hex (c .before .before .before .before .before .before .if1 .left) (c .before .before .before .before .if2 .left) in
-    rw (← l) (c .before .before .fill-hex .ensures (p .width) (r .1 .1) (ap (λ (d : Decoded). d .number) l ∙ r .1 .0))
+    rw (← l) (c .before .before .fill3 .ensures (p .width) (r .1 .1) (ap (λ (d : Decoded). d .number) l ∙ r .1 .0))
 
 pub pack-part-spec : {M : Type 1} → statement M
 pack-part-spec =
@@ -67,12 +67,12 @@ pack-part-spec =
     (tie.spec
     width-of-requires
     is-signed-requires
-    fill-raw-requires
+    fill-requires
     same-length
     returns
-    fill-text-requires
+    fill-requires-2
     same-length-2
     returns-2
-    fill-hex-requires
+    fill-requires-3
     same-length-3
     returns-3)

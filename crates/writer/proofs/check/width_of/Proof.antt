@@ -5,7 +5,7 @@ use lib.ListN.{getD}
 use Rattle.writer.proofs.Refuse.{below-10}
 use mathlib.Core.Logic.{inl, inr}
 use Rattle.format.specs.Descriptors.{typeAt, sampleBytes}
-use Rattle.writer.specs.Stored.{Width}
+use Rattle.words.specs.Widths.{Width}
 use mathlib.Core.List.{List, _∷_, []}
 use Prim.Native.Nat.{ℕ}
 use Rattle.writer.proofs.check.width_of.Statement.{statement}

@@ -1,0 +1,5 @@
+pub mod BlockLaws
+pub mod DigitLaws
+pub mod JoinLaws
+pub mod LoopLaws
+pub mod SampleLaws

@@ -1,0 +1,104 @@
+-- `put_some` meets its contract: each return is one law of the digits that are stored.
+-- Assumes nothing.
+use Prim.Native.Nat.{_-_, _≤_}
+use native.Mathlib.Omega.{arith}
+use denote.Ref.{now}
+use lib.ListN.{length}
+use Rattle.hex.specs.Forms.{digitsAt}
+use Rattle.hex.proofs.DigitLaws.{refusal-first}
+use Rattle.hex.proofs.BlockLaws.{blank-passed, few-bytes}
+use borrow.Author.Needs.{needs}
+use Rattle.hex.proofs.bytes.put_some.Statement.{statement}
+use Rattle.hex.proofs.bytes.put_some.Tie as tie
+
+sub-is-run : tie.Need-sub-is-run
+sub-is-run c = search needs
+
+is-run-requires : tie.Need-is-run-requires
+is-run-requires c κs = search needs
+
+copy-requires : tie.Need-copy-requires
+copy-requires c κs =
+    let p = c .before .before .is-run .ensures (c .before .if1 .taken) in
+    (p .0, (omega (arith, p .1 .0), p .1 .1))
+
+add-t13 : tie.Need-add-t13
+add-t13 c = search needs
+
+add-t14 : tie.Need-add-t14
+add-t14 c = search needs
+
+same-length : tie.Need-same-length
+same-length c = search needs
+
+returns : tie.Need-returns
+returns c =
+    let p = c .before .before .before .before .before .is-run .ensures (c .before .before .before .before .if1 .taken) in
+    ((omega arith, (p .0, (omega arith, omega (arith, p .1 .0)))), λ f. c .before .before .copy .ensures)
+
+shared-slice-read-if2 : tie.Need-shared-slice-read-if2
+shared-slice-read-if2 c = search needs
+
+add-t18 : tie.Need-add-t18
+add-t18 c = search needs
+
+returns-2 : tie.Need-returns-2
+returns-2 c =
+    let a = c .before .before .before .before .before .before .args in
+    let s = now (a .s) in
+    let one : 1 ≤ a .m - a .o = omega arith in
+    (search needs, λ f. blank-passed s (a .at) (omega arith) (now (a .d)) (a .o) (c .if2 .taken) (refusal-first (digitsAt s (a .at)) one f))
+
+sub-least : tie.Need-sub-least
+sub-least c = search needs
+
+sub-least-2 : tie.Need-sub-least-2
+sub-least-2 c = search needs
+
+least-requires : tie.Need-least-requires
+least-requires c κs = search needs
+
+least-requires-2 : tie.Need-least-requires-2
+least-requires-2 c κs = search needs
+
+squeeze-requires : tie.Need-squeeze-requires
+squeeze-requires c κs =
+    let a = c .before .before .before .before .before .before .before .before .before .args in
+    let f = few-bytes (length (now (a .s)) - a .at) (a .m - a .o) _ _ (c .before .before .least .ensures) (c .before .least2 .ensures) (omega arith) (omega arith) in
+    (omega arith, omega arith)
+
+add-t9 : tie.Need-add-t9
+add-t9 c = search needs
+
+same-length-2 : tie.Need-same-length-2
+same-length-2 c = search needs
+
+returns-3 : tie.Need-returns-3
+returns-3 c =
+    let a = c .before .before .before .before .before .before .before .before .before .before .before .before .args in
+    let n = few-bytes (length (now (a .s)) - a .at) (a .m - a .o) _ _ (c .before .before .before .before .before .least .ensures) (c .before .before .before .before .least2 .ensures) (omega arith) (omega arith) in
+    let r = c .before .before .squeeze .ensures in
+    ((omega arith, (omega arith, (r .0 .0, omega arith))), λ f. r .1 (refusal-first (digitsAt (now (a .s)) (a .at)) (n .1 .1) f))
+
+pub put-some-spec : {M : Type 1} → statement M
+put-some-spec =
+    tie.close
+    (tie.spec
+    sub-is-run
+    is-run-requires
+    copy-requires
+    add-t13
+    add-t14
+    same-length
+    returns
+    shared-slice-read-if2
+    add-t18
+    returns-2
+    sub-least
+    sub-least-2
+    least-requires
+    least-requires-2
+    squeeze-requires
+    add-t9
+    same-length-2
+    returns-3)

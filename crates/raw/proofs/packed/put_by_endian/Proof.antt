@@ -1,0 +1,28 @@
+-- `packed::put_by_endian` meets its contract, by the endian.
+-- Assumes nothing.
+use borrow.Author.Needs.{needs}
+use Rattle.raw.proofs.packed.put_by_endian.Statement.{statement}
+use Rattle.raw.proofs.packed.put_by_endian.Tie as tie
+
+put-big-requires : tie.Need-put-big-requires
+put-big-requires c κs = c .before .before .before .before .pre
+
+same-length : tie.Need-same-length
+same-length c = search needs
+
+returns : tie.Need-returns
+returns c = rw (c .before .before .before .before .if1 .taken) (c .before .before .put-big .ensures)
+
+put-little-requires : tie.Need-put-little-requires
+put-little-requires c κs = c .before .before .before .before .pre
+
+same-length-2 : tie.Need-same-length-2
+same-length-2 c = search needs
+
+returns-2 : tie.Need-returns-2
+returns-2 c = rw (c .before .before .before .before .if1 .left) (c .before .before .put-little .ensures)
+
+pub put-by-endian-spec : {M : Type 1} → statement M
+put-by-endian-spec =
+    tie.close
+    (tie.spec put-big-requires same-length returns put-little-requires same-length-2 returns-2)
