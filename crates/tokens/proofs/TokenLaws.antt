@@ -22,7 +22,7 @@ use Rattle.format.specs.Samples.{blank, skipBlanks, token, tokenValue, signedBy
 use Rattle.tokens.specs.declared.reader.Digits.{Digits}
 use Rattle.tokens.specs.declared.reader.Digits.the-variants.{NoDigits, Run}
 use Rattle.tokens.specs.declared.reader.TokenRead.the-variants.{NoSample, Sample}
-use Rattle.tokens.specs.Tokens.{inRange, ranged, cap, runOf, digitsAt, minus, boundToken, tokenOf, tokenAt}
+use Rattle.tokens.specs.Tokens.{Scan, inRange, ranged, cap, runOf, digitsAt, minus, boundToken, tokenOf, tokenAt}
 
 module _ (s : List ℕ) (i : ℕ) where
   -- a text from i on: a byte and the text from i + 1 on, or nothing
@@ -100,15 +100,6 @@ number-some : (t : List ℕ) → 0 < length t → number t ≡ digitsFrom 0 t
 unfolding number
 number-some [] h = absurd (omega arith)
 number-some (b ∷ t) h = refl
-
--- the token from `at` on is read up to i: its number so far, of which the code keeps m
-pub record Scan (s : List ℕ) (at i m : ℕ) : Type 0 where
-  pub far : ℕ
-  pub from : at ≤ i
-  pub within : i ≤ length s
-  pub kept : m ≡ min far cap
-  pub rest : digitsFrom 0 (token (drop at s)) ≡ digitsFrom far (token (drop i s))
-  pub long : at + length (token (drop at s)) ≡ i + length (token (drop i s))
 
 pub scan-none : (s : List ℕ) (at : ℕ) → at ≤ length s → Scan s at at 0
 scan-none s at h = record { far = 0; from = omega arith; within = h; kept = refl; rest = refl; long = refl }

@@ -1,16 +1,16 @@
 -- Text samples as the code reads them: by position, and over the two bounds of a type.
-use Prim.Native.Nat.{ℕ, zero, suc, _+_, _^_, _≤_, min}
+use Prim.Native.Nat.{ℕ, zero, suc, _+_, _^_, _≤_, _<_, min}
 use mathlib.Core.Path.{_≡_}
-use mathlib.Core.Bool.{Bool}
+use mathlib.Core.Bool.{Bool, true, false, _||_}
 use mathlib.Core.List.{List, [], _∷_}
 use mathlib.Core.Option.{Option, none, some}
-use lib.Dec.{leb, ltb}
+use lib.Dec.{leb, ltb, eqb}
 use lib.IntN.{ℤ, pos, negsuc, negℤ}
-use lib.ListN.{length, drop}
+use lib.ListN.{length, drop, getD}
 use mir.Syntax.{w64}
-use mir.Val.{SFits}
-use Rattle.format.specs.Bytes.{if_then_else_}
-use Rattle.format.specs.Descriptors.{number}
+use mir.Val.{SFits, boolByte}
+use Rattle.format.specs.Bytes.{if_then_else_, isDigit}
+use Rattle.format.specs.Descriptors.{number, digitsFrom}
 use Rattle.format.specs.Refusals.{badSample, dataEndsEarly}
 use Rattle.format.specs.Samples.{Decoded, stopped, withSample, skipBlanks, token, afterToken, tokenValue}
 use Rattle.tokens.specs.declared.reader.Digits.{Digits}
@@ -77,6 +77,44 @@ tokenOf (some z) e = Sample z e
 -- the token at `at`
 abbrev pub tokenAt : ℕ → ℕ → List ℕ → ℕ → TokenRead
 tokenAt low high s at = tokenOf (ranged low high (tokenValue (token (drop at s)))) (at + length (token (drop at s)))
+
+-- the token from `at` on is read up to i: its number so far, of which the code keeps m
+pub record Scan (s : List ℕ) (at i m : ℕ) : Type 0 where
+  pub far : ℕ
+  pub from : at ≤ i
+  pub within : i ≤ length s
+  pub kept : m ≡ min far cap
+  pub rest : digitsFrom 0 (token (drop at s)) ≡ digitsFrom far (token (drop i s))
+  pub long : at + length (token (drop at s)) ≡ i + length (token (drop i s))
+
+-- ---- tokens of few digits
+
+-- + and -
+abbrev pub isSign : ℕ → Bool
+isSign b = eqb b 43 || eqb b 45
+
+-- the n bytes from `at` on are a sign or a digit, and then digits
+pub record Front (s : List ℕ) (at n : ℕ) : Type 0 where
+  pub few : n ≤ 5
+  pub first : 0 < n → isSign (getD s at 0) ≡ false → isDigit (getD s at 0) ≡ true
+  pub digits : (k : ℕ) → 0 < k → k < n → isDigit (getD s (at + k) 0) ≡ true
+
+-- m is the number of the digits among the n bytes from `at` on
+pub record ShortNumber (s : List ℕ) (at n m : ℕ) : Type 0 where
+  pub small : m < 10 ^ 5
+  pub scan : Scan s (at + boolByte (isSign (getD s at 0))) (at + n) m
+
+-- a number after a minus, or without one
+abbrev pub bySign : Bool → ℕ → ℤ
+bySign true m = minus m
+bySign false m = pos m
+
+-- ---- several tokens
+
+-- a token as one sample; `at` is named where it is none
+abbrev pub sampleOf : TokenRead → ℕ → TextSample
+sampleOf NoSample at = record { number = badSample; value = pos 0; next = at }
+sampleOf (Sample z e) at = record { number = 0; value = z; next = e }
 
 -- what n tokens leave of a text, from the next token on
 unfoldable pub left : ℕ → List ℕ → List ℕ

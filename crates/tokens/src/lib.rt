@@ -2,3 +2,4 @@
 pub mod list;
 pub mod packed;
 mod reader;
+mod short;

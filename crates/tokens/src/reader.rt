@@ -1,13 +1,15 @@
 // Text samples: blanks are skipped and a token is read, in turn, as often as samples are wanted.
 ghost use mathlib.Core.Path.{_≡_};
-ghost use mathlib.Core.Bool.{true};
+ghost use mathlib.Core.Bool.{true, false};
 ghost use Prim.Native.Nat.{_+_, _*_, _-_, _^_, _≤_, _<_, min};
 ghost use lib.ListN.{length, drop};
-ghost use lib.IntN.{pos};
-ghost use Rattle.format.specs.Bytes.{isDigit};
+ghost use mir.Syntax.{w64};
+ghost use mir.Val.{SFits};
+ghost use Rattle.format.specs.Bytes.{if_then_else_, isDigit};
 ghost use Rattle.format.specs.Samples.{blank, skipBlanks, lowest, highest};
-ghost use Rattle.tokens.specs.Tokens.{cap, minus, Skipped, digitsAt, boundToken, tokenAt, samplesIn, Walked, OneSample};
+ghost use Rattle.tokens.specs.Tokens.{cap, isSign, bySign, Skipped, digitsAt, boundToken, tokenAt, sampleOf, samplesIn, Walked, OneSample};
 ghost use Rattle.words.specs.Widths.{Width, kindBy};
+use crate::short;
 
 // The digits up to the end of a token: their number, 2^63 + 1 where it is larger, and where the token ends.
 pub(crate) enum Digits {
@@ -28,16 +30,22 @@ pub(crate) struct TextSample {
     pub(crate) next: usize,
 }
 
-fn is_blank(b: u8) -> bool
+pub(crate) fn is_blank(b: u8) -> bool
     ensures { λ r. ⌜ r ≡ blank b ⌝ }
 {
     b == 32 || (9 <= b && b <= 13)
 }
 
-fn is_digit(b: u8) -> bool
+pub(crate) fn is_digit(b: u8) -> bool
     ensures { λ r. ⌜ r ≡ isDigit b ⌝ }
 {
     48 <= b && b <= 57
+}
+
+pub(crate) fn is_sign(b: u8) -> bool
+    ensures { λ r. ⌜ r ≡ isSign b ⌝ }
+{
+    (b == 43) | (b == 45)
 }
 
 // One digit more, of a number that stays at 2^63 + 1 once it is there: no run of digits overflows.
@@ -92,63 +100,75 @@ fn digits_at(s: &[u8], at: usize) -> Digits
     }
 }
 
-// The sample of digits without a minus.
-fn above(d: Digits, high: u64) -> TokenRead
-    requires { ⌜ high < 2 ^ 63 ⌝ }
-    ensures { λ r. ⌜ r ≡ boundToken pos high d ⌝ }
+// The bound of a number after a minus, or without one.
+fn bound(minus: bool, low: u64, high: u64) -> u64
+    ensures { λ r. ⌜ r ≡ (if minus then low else high) ⌝ }
 {
-    match d {
-        Digits::NoDigits => TokenRead::NoSample,
-        Digits::Run { number, end } => {
-            if number <= high {
-                TokenRead::Sample {
-                    value: number as i64,
-                    end,
-                }
-            } else {
-                TokenRead::NoSample
-            }
-        }
+    if minus { low } else { high }
+}
+
+// The sample of a number after a minus, or without one.
+fn with_sign(minus: bool, m: u64) -> i64
+    requires { ⌜ (minus ≡ true → m ≤ 2 ^ 63) × (minus ≡ false → m < 2 ^ 63) ⌝ }
+    ensures { λ r. ⌜ r ≡ bySign minus m ⌝ }
+{
+    if minus {
+        if m == 0 { 0 } else { -1 - ((m - 1) as i64) }
+    } else {
+        m as i64
     }
 }
 
-// The sample of digits after a minus.
-fn below(d: Digits, low: u64) -> TokenRead
-    requires { ⌜ low ≤ 2 ^ 63 ⌝ }
-    ensures { λ r. ⌜ r ≡ boundToken minus low d ⌝ }
+// The sample of a number whose digits end at `end`, from -low to high: no branch for its sign.
+fn bounded(minus: bool, m: u64, end: usize, low: u64, high: u64) -> TokenRead
+    requires { ⌜ (low ≤ 2 ^ 63) × (high < 2 ^ 63) ⌝ }
+    ensures { λ r. ⌜ r ≡ boundToken (bySign minus) (if minus then low else high) (Digits.Run m end) ⌝ }
 {
-    match d {
-        Digits::NoDigits => TokenRead::NoSample,
-        Digits::Run { number, end } => {
-            if number <= low {
-                if number == 0 {
-                    TokenRead::Sample { value: 0, end }
-                } else {
-                    TokenRead::Sample {
-                        value: -1 - ((number - 1) as i64),
-                        end,
-                    }
-                }
-            } else {
-                TokenRead::NoSample
-            }
+    if m <= bound(minus, low, high) {
+        TokenRead::Sample {
+            value: with_sign(minus, m),
+            end,
         }
+    } else {
+        TokenRead::NoSample
     }
 }
 
-// The sample of the token at `at`, from -low to high.
-fn token_at(s: &[u8], at: usize, low: u64, high: u64) -> TokenRead
+// The sample of digits after a minus, or without one.
+fn digits_token(d: Digits, minus: bool, low: u64, high: u64) -> TokenRead
+    requires { ⌜ (low ≤ 2 ^ 63) × (high < 2 ^ 63) ⌝ }
+    ensures { λ r. ⌜ r ≡ boundToken (bySign minus) (if minus then low else high) d ⌝ }
+{
+    match d {
+        Digits::NoDigits => TokenRead::NoSample,
+        Digits::Run { number, end } => bounded(minus, number, end, low, high),
+    }
+}
+
+// The sample of the token at `at`, of any length.
+fn long_token(s: &[u8], at: usize, low: u64, high: u64) -> TokenRead
     requires { ⌜ (at < length (now s)) × ((low ≤ 2 ^ 63) × (high < 2 ^ 63)) ⌝ }
     ensures { λ r. ⌜ r ≡ tokenAt low high (now (s .entry)) at ⌝ }
 {
     let b = s[at];
-    if b == 43 {
-        above(digits_at(s, at + 1), high)
-    } else if b == 45 {
-        below(digits_at(s, at + 1), low)
-    } else {
-        above(digits_at(s, at), high)
+    let from = at + is_sign(b) as usize;
+    digits_token(digits_at(s, from), b == 45, low, high)
+}
+
+// The sample of the token at `at`, from -low to high. It has one caller, so that it is inlined there: a call that answers an enum would keep `token` from being a jump.
+fn token_at(s: &[u8], at: usize, low: u64, high: u64) -> TokenRead
+    requires { ⌜ (at < length (now s)) × ((low ≤ 2 ^ 63) × (high < 2 ^ 63)) ⌝ }
+    ensures { λ r. ⌜ r ≡ tokenAt low high (now (s .entry)) at ⌝ }
+{
+    if short::has_room(s, at, high) {
+        let n = short::front(s, at);
+        if short::is_token(s, at, n) {
+            let m = short::number(s, at, n);
+            let end = at + n;
+            return bounded(s[at] == 45, m, end, low, high);
+        }
     }
+    long_token(s, at, low, high)
 }
 
 // Passes the blanks from *at on, and then reads n tokens: 0, or the number of the refusal.
@@ -222,17 +242,66 @@ fn at_most(at: usize, most: usize) -> usize
     if at < most { at } else { most }
 }
 
-// The first sample from `at` on, from -low to high.
+// A token as one sample, with a place to name where it is none.
+fn sample_of(t: TokenRead, at: usize) -> TextSample
+    ensures { λ r. ⌜ (r ≡ sampleOf t at) × SFits w64 (r .value) ⌝ }
+{
+    match t {
+        TokenRead::NoSample => TextSample {
+            number: 20,
+            value: 0,
+            next: at,
+        },
+        TokenRead::Sample { value, end } => TextSample {
+            number: 0,
+            value,
+            next: end,
+        },
+    }
+}
+
+// The first sample from `at` on, of any length.
+fn long_sample(s: &[u8], at: usize, low: u64, high: u64) -> TextSample
+    requires { ⌜ (low ≤ 2 ^ 63) × (high < 2 ^ 63) ⌝ }
+    ensures { λ r. ⌜ OneSample (samplesIn low high) (now (s .entry)) at r ⌝ }
+{
+    let i = skip(s, at_most(at, s.len()));
+    if i == s.len() {
+        return TextSample {
+            number: 21,
+            value: 0,
+            next: i,
+        };
+    }
+    sample_of(long_token(s, i, low, high), i)
+}
+
+// The same, where it is short with no branch for a digit.
+fn short_sample(s: &[u8], at: usize, low: u64, high: u64) -> TextSample
+    requires { ⌜ (low ≤ 2 ^ 63) × (high < 2 ^ 63) ⌝ }
+    ensures { λ r. ⌜ OneSample (samplesIn low high) (now (s .entry)) at r ⌝ }
+{
+    let i = skip(s, at_most(at, s.len()));
+    if short::has_room(s, i, high) {
+        let n = short::front(s, i);
+        if short::is_token(s, i, n) {
+            let m = short::number(s, i, n);
+            let end = i + n;
+            // the place is `end` in any case, so that the next token does not wait for the bound
+            return sample_of(bounded(s[i] == 45, m, end, low, high), end);
+        }
+    }
+    long_sample(s, at, low, high)
+}
+
+// The first sample from `at` on, from -low to high. The compiler makes a loop of its own of each way.
 pub(crate) fn sample_in(s: &[u8], at: usize, low: u64, high: u64) -> TextSample
     requires { ⌜ (low ≤ 2 ^ 63) × (high < 2 ^ 63) ⌝ }
     ensures { λ r. ⌜ OneSample (samplesIn low high) (now (s .entry)) at r ⌝ }
 {
-    let mut next = at_most(at, s.len());
-    let mut value: i64 = 0;
-    let number = blanks(&s, &mut next, 1, low, high, &mut value);
-    TextSample {
-        number,
-        value,
-        next,
+    if high < 65536 {
+        short_sample(s, at, low, high)
+    } else {
+        long_sample(s, at, low, high)
     }
 }

@@ -9,7 +9,8 @@ use mathlib.Core.List.{[]}
 use mathlib.Core.Logic.{⊎-elim}
 use lib.ListN.{length, drop}
 use Rattle.format.specs.Samples.{token}
-use Rattle.tokens.proofs.TokenLaws.{Scan, scan-none, scan-more, scan-bad, scan-empty, scan-done, token-end, token-stop}
+use Rattle.tokens.specs.Tokens.{Scan}
+use Rattle.tokens.proofs.TokenLaws.{scan-none, scan-more, scan-bad, scan-empty, scan-done, token-end, token-stop}
 use Rattle.tokens.proofs.reader.digits_at.Statement.{statement}
 use Rattle.tokens.proofs.reader.digits_at.Tie as tie
 

@@ -1,75 +1,67 @@
--- `reader::token_at` meets its contract: by the first byte.
+-- `reader::token_at` meets its contract: a short token by its bytes, another by a loop over them.
 -- Assumes nothing.
+use native.Mathlib.Omega.{arith}
 use denote.Ref.{now}
-use mathlib.Core.Path.{ap, _∙_}
-use lib.IntN.{pos}
-use Rattle.tokens.specs.Tokens.{boundToken, minus}
-use Rattle.tokens.proofs.TokenLaws.{token-plus, token-minus, token-plain}
+use mathlib.Core.Path.{refl, _∙_}
+use lib.Dec.{eqb}
+use lib.ListN.{getD}
+use Rattle.tokens.proofs.ShortLaws.{short-token}
 use borrow.Author.Needs.{needs}
 use Rattle.tokens.proofs.reader.token_at.Statement.{statement}
 use Rattle.tokens.proofs.reader.token_at.Tie as tie
 
-shared-slice-read-b : tie.Need-shared-slice-read-b
-shared-slice-read-b c = search needs
+has-room-requires : tie.Need-has-room-requires
+has-room-requires c κs = search needs
 
-add-digits-at : tie.Need-add-digits-at
-add-digits-at c = search needs
+front-requires : tie.Need-front-requires
+front-requires c κs = omega (arith, c .before .has-room .ensures (c .if1 .taken))
 
-digits-at-requires : tie.Need-digits-at-requires
-digits-at-requires c κs = search needs
+is-token-requires : tie.Need-is-token-requires
+is-token-requires c κs = omega (arith, c .front .ensures .few, c .before .before .has-room .ensures (c .before .if1 .taken))
 
-above-requires : tie.Need-above-requires
-above-requires c κs = search needs
+number-requires : tie.Need-number-requires
+number-requires c κs =
+    let f = c .before .before in
+    (omega (arith, f .before .before .has-room .ensures (f .before .if1 .taken)), (f .front .ensures, c .before .is-token .ensures (c .if2 .taken) .0))
 
-add-digits-at-2 : tie.Need-add-digits-at-2
-add-digits-at-2 c = search needs
+add-end : tie.Need-add-end
+add-end c = search needs
 
-digits-at-requires-2 : tie.Need-digits-at-requires-2
-digits-at-requires-2 c κs = search needs
+shared-slice-read-bounded : tie.Need-shared-slice-read-bounded
+shared-slice-read-bounded c = search needs
 
-below-requires : tie.Need-below-requires
-below-requires c κs = search needs
-
-digits-at-requires-3 : tie.Need-digits-at-requires-3
-digits-at-requires-3 c κs = search needs
-
-above-requires-2 : tie.Need-above-requires-2
-above-requires-2 c κs = search needs
+bounded-requires : tie.Need-bounded-requires
+bounded-requires c κs = search needs
 
 returns : tie.Need-returns
 returns c =
-    let i = c .before .before in
-    let a = i .before .before .before .args in
-    c .above .ensures ∙ ap (boundToken pos _) (c .before .digits-at .ensures)
-    ∙ token-plus (a .low) (a .high) (now (a .s)) (a .at) (search needs) (search needs) (i .if1 .taken)
+    let k = c .before .before in
+    let t = k .before .before in
+    let h = t .before .before .before in
+    let a = h .before .before .args in
+    let yes = t .is-token .ensures (k .before .if2 .taken) in
+    let room = h .has-room .ensures (t .before .before .if1 .taken) in
+    c .bounded .ensures
+    ∙ short-token (a .low) (a .high) (now (a .s)) (a .at) (search needs) (search needs) (omega arith) (t .before .front .result) (k .number .result)
+    (omega (arith, t .before .front .ensures .few)) (yes .0) (yes .1) (k .number .ensures) (eqb (getD (now (a .s)) (a .at) 0) 45) refl
+
+long-token-requires : tie.Need-long-token-requires
+long-token-requires c κs = search needs
 
 returns-2 : tie.Need-returns-2
-returns-2 c =
-    let i = c .before .before in
-    let a = i .before .before .before .before .args in
-    c .below .ensures ∙ ap (boundToken minus _) (c .before .digits-at2 .ensures)
-    ∙ token-minus (a .low) (a .high) (now (a .s)) (a .at) (search needs) (search needs) (i .if2 .taken)
-
-returns-3 : tie.Need-returns-3
-returns-3 c =
-    let i = c .before .before in
-    let a = i .before .before .before .before .args in
-    c .above2 .ensures ∙ ap (boundToken pos _) (c .before .digits-at3 .ensures)
-    ∙ token-plain (a .low) (a .high) (now (a .s)) (a .at) (search needs) (search needs) (i .before .if1 .left) (i .if2 .left)
+returns-2 c = search needs
 
 pub token-at-spec : {M : Type 1} → statement M
 token-at-spec =
     tie.close
     (tie.spec
-    shared-slice-read-b
-    add-digits-at
-    digits-at-requires
-    above-requires
-    add-digits-at-2
-    digits-at-requires-2
-    below-requires
-    digits-at-requires-3
-    above-requires-2
+    has-room-requires
+    front-requires
+    is-token-requires
+    number-requires
+    add-end
+    shared-slice-read-bounded
+    bounded-requires
     returns
-    returns-2
-    returns-3)
+    long-token-requires
+    returns-2)
