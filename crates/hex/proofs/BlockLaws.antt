@@ -13,7 +13,7 @@ use borrow.Author.Tests.{lt-ltb, le-ltb, leb-true, eqb-true}
 use Rattle.format.specs.Bytes.{if_then_else_, between, isSome}
 use Rattle.format.specs.Samples.{hexDigit, blank}
 use Rattle.format.proofs.Bytes.{and-right}
-use Rattle.hex.specs.Forms.{digitsAt, digitsRefusal, Moved, oneIf, digitValue, Pair, pairsOf, Taken}
+use Rattle.hex.specs.Forms.{digitsAt, digitsRefusal, Spaced, Moved, oneIf, digitValue, Pair, pairsOf, Taken}
 use Rattle.hex.proofs.DigitLaws.{digits-here, digits-end, not-refused, high-solid, digit-high, refusal-first, refusal-after}
 
 -- ---- the digits between two places, stored one after another
@@ -81,6 +81,42 @@ module _ (s : List ℕ) where
         let z : o + (j + 1) ≡ o + j + 1 = omega arith in
         rw (y, z) (kept (at + j) h d (o + j) l (high-solid (getD s (at + j) 0) b) ∙ p)
 
+  -- ---- pairs of digits with a blank after each
+
+  over-blank : (i : ℕ) → i < length s → (d : List ℕ) (o : ℕ) → blank (getD s i 0) ≡ true → Moved s i (i + 1) d o d o
+  over-blank i h d o b = rw (digits-here s i h, b)
+
+  -- two digits are stored, and a blank is passed
+  moved-pair : (i : ℕ) → i + 2 < length s → (d : List ℕ) (o : ℕ) → o + 1 < length d → blank (getD s i 0) ≡ false → blank (getD s (i + 1) 0) ≡ false → blank (getD s (i + 2) 0) ≡ true
+      → Moved s i (i + 3) d o (set (set d o (getD s i 0)) (o + 1) (getD s (i + 1) 0)) (o + 2)
+  moved-pair i h d o l p q r =
+      let y : i + 2 ≡ i + 1 + 1 = omega arith in
+      let w : i + 3 ≡ i + 2 + 1 = omega arith in
+      let z : o + 2 ≡ o + 1 + 1 = omega arith in
+      let d₁ = set d o (getD s i 0) in
+      let d₂ = set d₁ (o + 1) (getD s (i + 1) 0) in
+      let a : Moved s i (i + 1) d o d₁ (o + 1) = kept i (omega arith) d o (omega arith) p in
+      let b : Moved s (i + 1) (i + 2) d₁ (o + 1) d₂ (o + 2) = rw (y, z) (kept (i + 1) (omega arith) d₁ (o + 1) (omega (arith, length-set d o (getD s i 0))) q) in
+      let c : Moved s (i + 2) (i + 3) d₂ (o + 2) d₂ (o + 2) = rw w (over-blank (i + 2) h d₂ (o + 2) r) in
+      c ∙ b ∙ a
+
+  module _ (at : ℕ) (c : List ℕ) (o : ℕ) where
+    pub pairs-more : (d : List ℕ) (j : ℕ) → Moved s at (at + 3 * j) c o d (o + 2 * j) → j < 16 → at + 48 ≤ length s → o + 32 ≤ length d → Spaced s at 48 → (x : ℕ)
+        → Pair (getD s (at + 3 * j) 0) (getD s (at + 3 * j + 1) 0) x → (d′ : List ℕ) → d′ ≡ set (set d (o + 2 * j) (x % 256)) (o + 2 * j + 1) (x / 256)
+        → Moved s at (at + 3 * (j + 1)) c o d′ (o + 2 * (j + 1))
+    pairs-more d j p few h l b x q d′ e =
+        let y : at + 3 * (j + 1) ≡ at + 3 * j + 3 = omega arith in
+        let z : o + 2 * (j + 1) ≡ o + 2 * j + 2 = omega arith in
+        let u : at + (3 * j + 1) ≡ at + 3 * j + 1 = omega arith in
+        let v : at + (3 * j + 2) ≡ at + 3 * j + 2 = omega arith in
+        let r₀ : 3 * j % 3 ≡ 0 = omega arith in
+        let r₁ : (3 * j + 1) % 3 ≡ 1 = omega arith in
+        let r₂ : (3 * j + 2) % 3 ≡ 2 = omega arith in
+        let b₀ : blank (getD s (at + 3 * j) 0) ≡ false = rw r₀ at (b (3 * j) (omega arith)) in
+        let b₁ : blank (getD s (at + 3 * j + 1) 0) ≡ false = rw (u, r₁) at (b (3 * j + 1) (omega arith)) in
+        let b₂ : blank (getD s (at + 3 * j + 2) 0) ≡ true = rw (v, r₂) at (b (3 * j + 2) (omega arith)) in
+        rw (y, z, e, q .first, q .second) (moved-pair (at + 3 * j) (omega arith) d (o + 2 * j) (omega arith) b₀ b₁ b₂ ∙ p)
+
   -- ---- bytes among which there may be blanks
 
   module _ (m at : ℕ) (c : List ℕ) (o : ℕ) where
@@ -145,8 +181,8 @@ module _ (s : List ℕ) where
       pub gathering-more : (d′ : List ℕ) (i′ o′ : ℕ) → o′ ≤ m → i′ ≤ length s → length d′ ≡ length d → (digitsRefusal (m - o) (digitsAt s i) ≡ 0 → Moved s i i′ d o d′ o′) → Gathering d′ i′ o′
       gathering-more d′ i′ o′ h e n p = record { few = h; within = e; long = n ∙ g .long; same = λ f. p (left-fine f) ∙ g .same f }
 
--- at most 24 bytes of those that are left, and of those that may be stored
-pub few-bytes : (a b l c : ℕ) → l ≡ min a b → c ≡ min 24 l → 0 < a → 0 < b → (0 < c) × ((c ≤ a) × (c ≤ b))
+-- at most 25 bytes of those that are left, and of those that may be stored
+pub few-bytes : (a b l c : ℕ) → l ≡ min a b → c ≡ min 25 l → 0 < a → 0 < b → (0 < c) × ((c ≤ a) × (c ≤ b))
 few-bytes a b l c p q h k = (omega arith, (omega arith, omega arith))
 
 -- ---- a list that becomes another, element by element

@@ -4,7 +4,7 @@ use Prim.Native.Nat.{ℕ, zero, suc, _+_, _-_, _≤_, _<_}
 use native.Mathlib.Numerals.{add-one}
 use native.Mathlib.Omega.{arith}
 use mathlib.Core.Path.{_≡_, refl, sym, ap, _∙_}
-use mathlib.Core.Bool.{Bool, true, false, _&&_, _||_, false≢true}
+use mathlib.Core.Bool.{Bool, true, false, _&&_, _||_, Bool·beq, false≢true}
 use mathlib.Core.List.{List, [], _∷_}
 use mathlib.Core.Option.{none, some}
 use lib.Dec.{leb}
@@ -209,8 +209,17 @@ module _ (s : List ℕ) (at : ℕ) where
 
 -- ---- the scan
 
+pub same-test : (a b : Bool) → Bool·beq a b ≡ true → a ≡ b
+same-test true true e = refl
+same-test true false e = absurd (false≢true e)
+same-test false true e = absurd (false≢true e)
+same-test false false e = refl
+
+pub two-true : (m a n b : ℕ) → (leb m a && leb n b) ≡ true → (m ≤ a) × (n ≤ b)
+two-true m a n b e = (leb-true m a (and-left (leb m a) (leb n b) e), leb-true n b (and-right (leb m a) (leb n b) e))
+
 pub both-true : (m a b : ℕ) → (leb m a && leb m b) ≡ true → (m ≤ a) × (m ≤ b)
-both-true m a b e = (leb-true m a (and-left (leb m a) (leb m b) e), leb-true m b (and-right (leb m a) (leb m b) e))
+both-true m a b e = two-true m a m b e
 
 module _ (s : List ℕ) (need : ℕ) where
   pub reached-none : Reached s need 0 0

@@ -4,11 +4,12 @@ use mathlib.Core.Path.{_≡_}
 use mathlib.Core.Bool.{Bool, true, false}
 use mathlib.Core.List.{List, [], _∷_, _++_, map}
 use mathlib.Core.Option.{Option, none, some}
+use lib.Dec.{eqb}
 use lib.ListN.{length, take, drop, getD}
 use Rattle.format.specs.Bytes.{if_then_else_, isSome}
 use Rattle.format.specs.Descriptors.{NumberKind}
 use Rattle.format.specs.Refusals.{badSample, dataEndsEarly}
-use Rattle.format.specs.Samples.{Decoded, rawSamples, hexDigit, withoutBlanks}
+use Rattle.format.specs.Samples.{Decoded, rawSamples, hexDigit, blank, withoutBlanks}
 use Rattle.hex.specs.declared.scan.Count.{Count}
 
 -- the digits from a place on
@@ -58,6 +59,10 @@ oneIf false = 0
 -- n bytes from a place on are above the blanks
 abbrev pub Run : List ℕ → ℕ → ℕ → Type 0
 Run s at n = (i : ℕ) → i < n → 32 < getD s (at + i) 0
+
+-- of n bytes from a place on each third one is a blank, and no other
+abbrev pub Spaced : List ℕ → ℕ → ℕ → Type 0
+Spaced s at n = (i : ℕ) → i < n → blank (getD s (at + i) 0) ≡ eqb (i % 3) 2
 
 -- the list d up to e, after the list c up to o: what was added are the digits between two places
 abbrev pub Moved : List ℕ → ℕ → ℕ → List ℕ → ℕ → List ℕ → ℕ → Type 0

@@ -4,8 +4,8 @@ ghost use mathlib.Core.Path.{_≡_};
 ghost use mathlib.Core.Bool.{true};
 ghost use mathlib.Core.List.{map};
 ghost use Prim.Native.Nat.{_+_, _*_, _-_, _/_, _%_, _≤_, _<_, min};
-ghost use lib.ListN.{length, getD};
-ghost use Rattle.hex.specs.Forms.{digitsAt, digitsRefusal, digitValue, pairsOf, Run, Moved, Pair, Enough, Taken};
+ghost use lib.ListN.{length, getD, set};
+ghost use Rattle.hex.specs.Forms.{digitsAt, digitsRefusal, digitValue, pairsOf, Run, Spaced, Moved, Pair, Enough, Taken};
 use crate::digits;
 
 // Whether the 32 bytes from a place on are above the blanks.
@@ -47,6 +47,58 @@ fn copy(s: &[u8], at: usize, d: &mut [u8], o: usize)
     }
 }
 
+// Whether the 48 bytes from a place on are two that are no blanks and a blank, 16 times.
+fn blanks_third(s: &[u8], at: usize) -> bool
+    requires { ⌜ at + 48 ≤ length (now s) ⌝ }
+    ensures { λ r. ⌜ (r ≡ true → Spaced (now (s .entry)) at 48) ⌝ }
+{
+    let mut fine = true;
+    let mut j: usize = 0;
+    while j < 48 {
+        fine = fine & (digits::is_blank(s[at + j]) == (j % 3 == 2));
+        j += 1;
+    }
+    fine
+}
+
+// Whether 16 pairs of digits with a blank after each are next, and as many digits may be stored.
+fn is_spaced(s: &[u8], at: usize, room: usize) -> bool
+    requires { ⌜ at ≤ length (now s) ⌝ }
+    ensures { λ r. ⌜ (r ≡ true → (at + 48 ≤ length (now (s .entry))) × ((32 ≤ room) × Spaced (now (s .entry)) at 48)) ⌝ }
+{
+    if (48 <= s.len() - at) & (32 <= room) {
+        // other shapes of data mostly end here
+        if digits::is_blank(s[at + 2]) {
+            return blanks_third(s, at);
+        }
+    }
+    false
+}
+
+// Two digits that one number holds. The compiler makes one store of it.
+fn store_pair(d: &mut [u8], o: usize, x: u16)
+    requires { ⌜ o + 2 ≤ length (now d) ⌝ }
+    ensures { λ _. ⌜ now (d .exit) ≡ set (set (now (d .entry)) o (x % 256)) (o + 1) (x / 256) ⌝ }
+{
+    d[o] = (x % 256) as u8;
+    d[o + 1] = (x / 256) as u8;
+}
+
+// 16 pairs of digits with a blank after each.
+fn copy_pairs(s: &[u8], at: usize, d: &mut [u8], o: usize)
+    requires { ⌜ at + 48 ≤ length (now s) ⌝ }
+    requires { ⌜ o + 32 ≤ length (now d) ⌝ }
+    requires { ⌜ Spaced (now s) at 48 ⌝ }
+    ensures { λ _. ⌜ Moved (now (s .entry)) at (at + 48) (now (d .entry)) o (now (d .exit)) (o + 32) ⌝ }
+{
+    let mut j: usize = 0;
+    while j < 16 {
+        let x = load_pair(s, at + 3 * j);
+        store_pair(d, o + 2 * j, x);
+        j += 1;
+    }
+}
+
 // The digits of c bytes: each byte is stored, and the next one over it where it is a blank.
 fn squeeze(s: &[u8], at: usize, c: usize, d: &mut [u8], o: usize) -> usize
     requires { ⌜ at + c ≤ length (now s) ⌝ }
@@ -78,7 +130,8 @@ struct Place {
     end: usize,
 }
 
-// Some of the m digits that are wanted: a run of 32, none for a blank, or those of up to 24 bytes.
+// Some of the m digits that are wanted: a run of 32, none for a blank, 16 pairs, or those of up to 25 bytes.
+// Where pairs start one or two bytes later, 25 bytes more lead to a blank or to the start of a pair, since 25 is no multiple of 3.
 fn put_some(s: &[u8], at: usize, m: usize, d: &mut [u8], o: usize) -> Place
     requires { ⌜ at < length (now s) ⌝ }
     requires { ⌜ o < m ⌝ }
@@ -96,7 +149,14 @@ fn put_some(s: &[u8], at: usize, m: usize, d: &mut [u8], o: usize) -> Place
     if s[at] <= 32 {
         return Place { at: at + 1, end: o };
     }
-    let c = least(24, least(s.len() - at, m - o));
+    if is_spaced(s, at, m - o) {
+        copy_pairs(s, at, d, o);
+        return Place {
+            at: at + 48,
+            end: o + 32,
+        };
+    }
+    let c = least(25, least(s.len() - at, m - o));
     let end = squeeze(s, at, c, d, o);
     Place { at: at + c, end }
 }

@@ -49,6 +49,31 @@ returns-2 c =
     let one : 1 ≤ a .m - a .o = omega arith in
     (search needs, λ f. blank-passed s (a .at) (omega arith) (now (a .d)) (a .o) (c .if2 .taken) (refusal-first (digitsAt s (a .at)) one f))
 
+sub-is-spaced : tie.Need-sub-is-spaced
+sub-is-spaced c = search needs
+
+is-spaced-requires : tie.Need-is-spaced-requires
+is-spaced-requires c κs = search needs
+
+copy-pairs-requires : tie.Need-copy-pairs-requires
+copy-pairs-requires c κs =
+    let p = c .before .before .is-spaced .ensures (c .before .if3 .taken) in
+    (p .0, (omega (arith, p .1 .0), p .1 .1))
+
+add-t23 : tie.Need-add-t23
+add-t23 c = search needs
+
+add-t24 : tie.Need-add-t24
+add-t24 c = search needs
+
+same-length-2 : tie.Need-same-length-2
+same-length-2 c = search needs
+
+returns-3 : tie.Need-returns-3
+returns-3 c =
+    let p = c .before .before .before .before .before .is-spaced .ensures (c .before .before .before .before .if3 .taken) in
+    ((omega arith, (p .0, (omega arith, omega (arith, p .1 .0)))), λ f. c .before .before .copy-pairs .ensures)
+
 sub-least : tie.Need-sub-least
 sub-least c = search needs
 
@@ -63,19 +88,19 @@ least-requires-2 c κs = search needs
 
 squeeze-requires : tie.Need-squeeze-requires
 squeeze-requires c κs =
-    let a = c .before .before .before .before .before .before .before .before .before .args in
+    let a = c .before .before .before .before .before .before .before .before .before .before .before .args in
     let f = few-bytes (length (now (a .s)) - a .at) (a .m - a .o) _ _ (c .before .before .least .ensures) (c .before .least2 .ensures) (omega arith) (omega arith) in
     (omega arith, omega arith)
 
 add-t9 : tie.Need-add-t9
 add-t9 c = search needs
 
-same-length-2 : tie.Need-same-length-2
-same-length-2 c = search needs
+same-length-3 : tie.Need-same-length-3
+same-length-3 c = search needs
 
-returns-3 : tie.Need-returns-3
-returns-3 c =
-    let a = c .before .before .before .before .before .before .before .before .before .before .before .before .args in
+returns-4 : tie.Need-returns-4
+returns-4 c =
+    let a = c .before .before .before .before .before .before .before .before .before .before .before .before .before .before .args in
     let n = few-bytes (length (now (a .s)) - a .at) (a .m - a .o) _ _ (c .before .before .before .before .before .least .ensures) (c .before .before .before .before .least2 .ensures) (omega arith) (omega arith) in
     let r = c .before .before .squeeze .ensures in
     ((omega arith, (omega arith, (r .0 .0, omega arith))), λ f. r .1 (refusal-first (digitsAt (now (a .s)) (a .at)) (n .1 .1) f))
@@ -94,11 +119,18 @@ put-some-spec =
     shared-slice-read-if2
     add-t18
     returns-2
+    sub-is-spaced
+    is-spaced-requires
+    copy-pairs-requires
+    add-t23
+    add-t24
+    same-length-2
+    returns-3
     sub-least
     sub-least-2
     least-requires
     least-requires-2
     squeeze-requires
     add-t9
-    same-length-2
-    returns-3)
+    same-length-3
+    returns-4)
