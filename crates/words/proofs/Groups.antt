@@ -134,25 +134,12 @@ unfolding numberBytes flatMap
 number-bytes-flat w [] = refl
 number-bytes-flat w (n ∷ ns) = ap (λ (r : List ℕ). toBytes w n ++ r) (number-bytes-flat w ns)
 
-pub length-number-bytes : (w : ℕ) (ns : List ℕ) → length (numberBytes w ns) ≡ w * length ns
-length-number-bytes w ns = ap length (number-bytes-flat w ns) ∙ flat-length (toBytes w) w (length-to-bytes w) ns
-
--- number j stored anew
-pub number-put : (w : ℕ) (ns : List ℕ) (d : List ℕ) (j x : ℕ) → j < length ns → sets (lentNumbers w ns d) (w * j) (toBytes w x) ≡ lentNumbers w (set ns j x) d
-number-put w ns d j x h =
-    ap (λ (u : List ℕ). sets (over u d) (w * j) (toBytes w x)) (number-bytes-flat w ns)
-    ∙ over-set (toBytes w) w (length-to-bytes w) ns d j x h
-    ∙ ap (λ (u : List ℕ). over u d) (sym (number-bytes-flat w (set ns j x)))
-
 module _ (w : ℕ) (s : List ℕ) where
   pub length-numbers : length (numbersOf w s) ≡ length s / w
   length-numbers = length-lent fromBytes w s
 
   pub number-at : (k : ℕ) → k < length s / w → getD (numbersOf w s) k 0 ≡ fromBytes (take w (drop (w * k) s))
   number-at k h = lent-at fromBytes w s k h 0
-
-  pub numbers-next : (k : ℕ) → k < length s / w → drop k (numbersOf w s) ≡ fromBytes (take w (drop (w * k) s)) ∷ drop (k + 1) (numbersOf w s)
-  numbers-next k h = lent-next fromBytes w s k h
 
   module _ (p : AllBytes s) where
     -- lent bytes that hold other numbers at their front
@@ -190,9 +177,6 @@ module _ (s : List ℕ) where
 
   pub sample-at : (k : ℕ) (z : ℤ) → k < length s / 8 → getD (samplesLent s) k z ≡ sampleValue signed little (take 8 (drop (8 * k) s))
   sample-at k z h = lent-at (sampleValue signed little) 8 s k h z
-
-  pub samples-next : (k : ℕ) → k < length s / 8 → drop k (samplesLent s) ≡ sampleValue signed little (take 8 (drop (8 * k) s)) ∷ drop (k + 1) (samplesLent s)
-  samples-next k h = lent-next (sampleValue signed little) 8 s k h
 
   module _ (p : AllBytes s) where
     -- lent bytes that hold other samples at their front

@@ -89,14 +89,14 @@ pub fn bits_of(z: i64) -> u64
 }
 
 // Table entry k.
-pub fn entry_at(s: &[u8], k: usize) -> u32
+fn entry_at(s: &[u8], k: usize) -> u32
     requires { ⌜ 4 * k + 4 ≤ length (now s) ⌝ }
     ensures { λ r. ⌜ r ≡ fromBytes (take 4 (drop (4 * k) (now (s .entry)))) ⌝ }
 {
     load4(s, 4 * k) as u32
 }
 
-pub fn put_entry(d: &mut [u8], k: usize, x: u32)
+fn put_entry(d: &mut [u8], k: usize, x: u32)
     requires { ⌜ 4 * k + 4 ≤ length (now d) ⌝ }
     ensures { λ _. ⌜ now (d .exit) ≡ sets (now (d .entry)) (4 * k) (toBytes 4 x) ⌝ }
 {
@@ -112,13 +112,6 @@ pub fn word_at(s: &[u8], k: usize) -> u64
 }
 
 // Sample k.
-pub fn sample_at(s: &[u8], k: usize) -> i64
-    requires { ⌜ 8 * k + 8 ≤ length (now s) ⌝ }
-    ensures { λ r. ⌜ r ≡ sampleValue signed little (take 8 (drop (8 * k) (now (s .entry)))) ⌝ }
-{
-    signed_of(load8(s, 8 * k))
-}
-
 pub fn put_sample(d: &mut [u8], k: usize, z: i64)
     requires { ⌜ 8 * k + 8 ≤ length (now d) ⌝ }
     ensures { λ _. ⌜ now (d .exit) ≡ sets (now (d .entry)) (8 * k) (valueBytes 8 little z) ⌝ }
