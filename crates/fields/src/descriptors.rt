@@ -1,6 +1,7 @@
 // The descriptors of the fields: a field sets its flag and its value, or is refused and changes nothing.
 use crate::state::State;
 use crate::state::Step;
+use format::field;
 use text::numbers::Number;
 use text::words::Row;
 ghost use mathlib.Core.Path.{_≡_};
@@ -28,7 +29,7 @@ fn take_dimension(state: State, t: &[u8]) -> Step
                 return refused;
             }
             let mut next = state;
-            next.given[0] = true;
+            next.given[field::DIMENSION] = true;
             next.dimension = n as u32;
             Step {
                 wrong: 0,
@@ -48,7 +49,7 @@ fn take_type(state: State, t: &[u8]) -> Step
     match x {
         Row::Number(n) => {
             let mut next = state;
-            next.given[1] = true;
+            next.given[field::TYPE] = true;
             next.sampletype = n;
             Step {
                 wrong: 0,
@@ -72,7 +73,7 @@ fn take_encoding(state: State, t: &[u8]) -> Step
     match x {
         Row::Number(n) => {
             let mut next = state;
-            next.given[2] = true;
+            next.given[field::ENCODING] = true;
             next.encoding = n;
             Step {
                 wrong: 0,
@@ -96,7 +97,7 @@ fn take_endian(state: State, t: &[u8]) -> Step
     match x {
         Row::Number(n) => {
             let mut next = state;
-            next.given[3] = true;
+            next.given[field::ENDIAN] = true;
             next.endian = n;
             Step {
                 wrong: 0,
@@ -125,7 +126,7 @@ fn take_sizes(state: State, t: &[u8]) -> Step
         };
     }
     let mut next = state;
-    next.given[4] = true;
+    next.given[field::SIZES] = true;
     let read = x.sizes;
     next.sizes = read;
     Step {
@@ -143,7 +144,7 @@ fn take_line_skip(state: State, t: &[u8]) -> Step
     match x {
         Number::Value(n) => {
             let mut next = state;
-            next.given[5] = true;
+            next.given[field::LINE_SKIP] = true;
             next.lineskip = n;
             Step {
                 wrong: 0,
@@ -167,7 +168,7 @@ fn take_byte_skip(state: State, t: &[u8]) -> Step
     match x {
         Number::Value(n) => {
             let mut next = state;
-            next.given[6] = true;
+            next.given[field::BYTE_SKIP] = true;
             next.byteskip = n;
             Step {
                 wrong: 0,
@@ -195,7 +196,7 @@ fn take_data_file(state: State, t: &[u8]) -> Step
         };
     }
     let mut next = state;
-    next.given[7] = true;
+    next.given[field::DATA_FILE] = true;
     Step {
         wrong: 0,
         closes: false,
@@ -204,12 +205,12 @@ fn take_data_file(state: State, t: &[u8]) -> Step
 }
 
 // A carried field, whatever its descriptor.
-fn take_carried(state: State, f: u32) -> Step
+fn take_carried(state: State, f: usize) -> Step
     ensures { λ r. ⌜ ((gs : List Given) (t : List ℕ) → Holds state gs → 8 ≤ f → f < fieldCount → r ≡ stepOf (state .version) gs (described gs f t)) ⌝ }
 {
     let mut next = state;
-    if f < 30 {
-        next.given[f as usize] = true;
+    if f < field::COUNT {
+        next.given[f] = true;
     }
     Step {
         wrong: 0,
@@ -219,18 +220,18 @@ fn take_carried(state: State, f: u32) -> Step
 }
 
 // The field f with the descriptor t.
-pub(crate) fn take_field(state: State, f: u32, t: &[u8]) -> Step
+pub(crate) fn take_field(state: State, f: usize, t: &[u8]) -> Step
     ensures { λ r. ⌜ ((gs : List Given) → Holds state gs → f < fieldCount → r ≡ stepOf (state .version) gs (described gs f (now (t .entry)))) ⌝ }
 {
     match f {
-        0 => take_dimension(state, t),
-        1 => take_type(state, t),
-        2 => take_encoding(state, t),
-        3 => take_endian(state, t),
-        4 => take_sizes(state, t),
-        5 => take_line_skip(state, t),
-        6 => take_byte_skip(state, t),
-        7 => take_data_file(state, t),
+        field::DIMENSION => take_dimension(state, t),
+        field::TYPE => take_type(state, t),
+        field::ENCODING => take_encoding(state, t),
+        field::ENDIAN => take_endian(state, t),
+        field::SIZES => take_sizes(state, t),
+        field::LINE_SKIP => take_line_skip(state, t),
+        field::BYTE_SKIP => take_byte_skip(state, t),
+        field::DATA_FILE => take_data_file(state, t),
         _ => take_carried(state, f),
     }
 }

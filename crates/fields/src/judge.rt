@@ -1,6 +1,7 @@
 // One line after line 1: what it is, or the number of its refusal, 5 to 12 in order; and the end of the header.
 use crate::state::State;
 use crate::state::Step;
+use format::field;
 use text::lines::Mark;
 use text::words::Row;
 ghost use mathlib.Core.Path.{_≡_};
@@ -16,22 +17,22 @@ ghost use Rattle.format.specs.Header.{wrong, onPair, onField, onMark, judge};
 ghost use Rattle.fields.specs.States.{wrongOf, flags, fieldCount, Holds, stepOf};
 
 // The first version that has the field.
-fn field_since(f: u32) -> u32
+fn field_since(f: usize) -> u32
     ensures { λ r. ⌜ r ≡ fieldSince f ⌝ }
 {
-    if f == 29 {
+    if f == field::KINDS {
         return 3;
     }
-    if f == 21 {
+    if f == field::MEASUREMENT_FRAME {
         return 5;
     }
-    if f == 23 {
+    if f == field::THICKNESSES {
         return 4;
     }
-    if f < 15 {
+    if f < field::SAMPLE_UNITS {
         return 1;
     }
-    if f <= 20 {
+    if f <= field::SPACE_DIRECTIONS {
         return 4;
     }
     1
@@ -73,40 +74,41 @@ fn on_pair(version: u32, key: &[u8], value: &[u8]) -> u32
 }
 
 // Whether the field is one of those with an entry for each axis.
-fn is_per_axis(f: u32) -> bool
+fn is_per_axis(f: usize) -> bool
     ensures { λ r. ⌜ r ≡ isIn f perAxis ⌝ }
 {
-    if f == 4 {
+    if f == field::SIZES {
         return true;
     }
-    if f == 20 {
+    if f == field::SPACE_DIRECTIONS {
         return true;
     }
-    if f < 22 {
+    if f < field::SPACINGS {
         return false;
     }
-    f <= 29
+    f <= field::KINDS
 }
 
 // Whether the field needs a space before it.
-fn is_in_space(f: u32) -> bool
+fn is_in_space(f: usize) -> bool
     ensures { λ r. ⌜ r ≡ isIn f inSpace ⌝ }
 {
-    if f < 18 {
+    if f < field::SPACE_UNITS {
         return false;
     }
-    f <= 21
+    f <= field::MEASUREMENT_FRAME
 }
 
 // Whether the field may come here, by the fields given.
-fn is_in_order(f: u32, given: &[bool; 30]) -> bool
+fn is_in_order(f: usize, given: &[bool; 30]) -> bool
     ensures { λ r. ⌜ ((gs : List Given) → now (given .entry) ≡ flags 0 fieldCount gs → r ≡ inOrder f gs) ⌝ }
 {
-    (!is_per_axis(f) | given[0]) & (!is_in_space(f) | (given[16] | given[17]))
+    (!is_per_axis(f) | given[field::DIMENSION])
+        & (!is_in_space(f) | (given[field::SPACE] | given[field::SPACE_DIMENSION]))
 }
 
 // The descriptor of a field in what follows its mark.
-pub fn descriptor_of<'a>(f: u32, rest: &'a [u8]) -> &'a [u8]
+pub fn descriptor_of<'a>(f: usize, rest: &'a [u8]) -> &'a [u8]
     ensures { λ r. ⌜ now r ≡ descriptor f (now (rest .entry)) ⌝ }
 {
     let from = text_start(f, rest);
@@ -116,10 +118,10 @@ pub fn descriptor_of<'a>(f: u32, rest: &'a [u8]) -> &'a [u8]
 }
 
 // How many bytes stand before the descriptor: in understood fields the spaces and tabs.
-pub fn text_start(f: u32, rest: &[u8]) -> usize
+pub fn text_start(f: usize, rest: &[u8]) -> usize
     ensures { λ r. ⌜ (r ≡ length (now (rest .entry)) - length (fromDescriptor f (now (rest .entry)))) × (r ≤ length (now (rest .entry))) ⌝ }
 {
-    if f < 8 {
+    if f < field::BLOCK_SIZE {
         return text::lines::leading(rest);
     }
     0
@@ -137,7 +139,7 @@ fn refuse(state: State, number: u32) -> Step
 }
 
 // A known field: not in this version 8, repeated 9, out of order 10, bad descriptor 11.
-fn on_known(state: State, f: u32, rest: &[u8]) -> Step
+fn on_known(state: State, f: usize, rest: &[u8]) -> Step
     requires { ⌜ f < fieldCount ⌝ }
     ensures { λ r. ⌜ ((gs : List Given) → Holds state gs → r ≡ stepOf (state .version) gs (onField (state .version) gs (some f) (now (rest .entry)))) ⌝ }
 {
@@ -145,7 +147,7 @@ fn on_known(state: State, f: u32, rest: &[u8]) -> Step
         return refuse(state, format::NOT_IN_VERSION);
     }
     let given = state.given;
-    if given[f as usize] {
+    if given[f] {
         return refuse(state, format::REPEATED_FIELD);
     }
     if !is_in_order(f, &given) {
@@ -160,7 +162,7 @@ fn on_field(state: State, name: &[u8], rest: &[u8]) -> Step
 {
     let row = text::words::field_named(name);
     match row {
-        Row::Number(f) => on_known(state, f, rest),
+        Row::Number(f) => on_known(state, f as usize, rest),
         Row::Unknown => refuse(state, format::UNKNOWN_FIELD),
     }
 }

@@ -2,6 +2,7 @@
 use format::ReadAnswer;
 use format::Reading;
 use format::Refusal;
+use format::field;
 ghost use mathlib.Core.Path.{_≡_};
 ghost use mathlib.Core.Bool.{true};
 ghost use mathlib.Core.List.{List, []};
@@ -97,8 +98,10 @@ fn endian_needed(t: u32, e: u32) -> bool
 fn has_needed(state: State) -> bool
     ensures { λ r. ⌜ ((gs : List Given) → Holds state gs → r ≡ hasNeeded gs) ⌝ }
 {
-    let endian = state.given[3] | !endian_needed(state.sampletype, state.encoding);
-    state.given[0] & (state.given[1] & (state.given[2] & (state.given[4] & endian)))
+    let endian = state.given[field::ENDIAN] | !endian_needed(state.sampletype, state.encoding);
+    state.given[field::DIMENSION]
+        & (state.given[field::TYPE]
+            & (state.given[field::ENCODING] & (state.given[field::SIZES] & endian)))
 }
 
 // A product, or 2 to the 32 for all that are above it: no factors overflow.
@@ -163,7 +166,7 @@ pub fn finish(state: State, bytes: usize, count: u32) -> ReadAnswer
         refusal: Refusal { number: 0, line: 0 },
         reading: Reading {
             version: state.version,
-            form: state.given[7] as u32,
+            form: state.given[field::DATA_FILE] as u32,
             dimension: state.dimension,
             sampletype: state.sampletype,
             encoding: state.encoding,

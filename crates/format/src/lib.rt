@@ -6,6 +6,8 @@ ghost use Rattle.format.specs.Limits.{limits};
 ghost use Rattle.format.specs.Refusals.{refusalNumbers};
 ghost use Rattle.format.specs.Trials.{StarredTrials};
 
+pub mod field;
+
 // The limits of document 01.
 pub const MAX_FILE: usize = 4294967295;
 

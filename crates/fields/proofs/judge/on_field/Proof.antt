@@ -22,6 +22,9 @@ field-named-requires c κs = search needs
 enum-known-row : tie.Need-enum-known-row
 enum-known-row c = search needs
 
+cast-on-known : tie.Need-cast-on-known
+cast-on-known c = search needs
+
 on-known-requires : tie.Need-on-known-requires
 on-known-requires c κs = field-below _ _ (known (c .before))
 
@@ -44,6 +47,7 @@ on-field-spec =
     (tie.spec
     field-named-requires
     enum-known-row
+    cast-on-known
     on-known-requires
     enum-told
     refuse-requires
