@@ -157,9 +157,9 @@ fn count_right(a: CountAnswer, refusal: Refusal, s: &[u8]) -> bool {
 // The answer of `samples` where the first `room` entries of the list are lent, all where it has fewer.
 fn samples_to(file: &[u8], second: &[u8], list: &mut [i64], room: usize) -> CountAnswer {
     if room < list.len() {
-        return volume::calls::samples(file, second, &mut list[0..room]);
+        return samples::samples(file, second, &mut list[0..room]);
     }
-    volume::calls::samples(file, second, list)
+    samples::samples(file, second, list)
 }
 
 // The part of the answers about samples that is wrong, 0 for none.
@@ -171,7 +171,7 @@ fn decoding_fault(file: &[u8], second: &[u8], refusal: Refusal, room: usize, s: 
     if !list_right(&list, s) {
         return 2;
     }
-    if !count_right(volume::calls::check_samples(file, second, room), refusal, s) {
+    if !count_right(samples::check_samples(file, second, room), refusal, s) {
         return 3;
     }
     0

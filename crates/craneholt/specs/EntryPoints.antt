@@ -10,7 +10,7 @@ use Rattle.format.specs.declared.SetAnswer.{SetAnswer}
 use Rattle.format.specs.Boundary.{entryBytes, wordBytes, numbersOf, lentNumbers, samplesLent}
 use Rattle.format.specs.Calls.{readCall, sampleNumberCall, writeCall, setKeyCall}
 -- craneholt_samples: a list of 8 bytes a sample
-pub use Rattle.volume.specs.Boundary.{samplesEntry}
+pub use Rattle.samples.specs.Boundary.{samplesEntry}
 
 -- craneholt_read: a table of 4 bytes an entry
 abbrev pub readEntry : List ℕ → List ℕ → ReadAnswer × List ℕ

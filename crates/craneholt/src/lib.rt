@@ -88,7 +88,7 @@ pub extern "C" fn craneholt_data(file: &[u8], second: &[u8]) -> DataAnswer
 pub extern "C" fn craneholt_check_samples(file: &[u8], second: &[u8], room: usize) -> CountAnswer
     ensures { λ r. ⌜ r ≡ checkSamplesCall (now (file .entry)) (now (second .entry)) room ⌝ }
 {
-    volume::calls::check_samples(file, second, room)
+    samples::check_samples(file, second, room)
 }
 
 // The samples to the front of the list, 8 bytes each; untouched where they are refused.
@@ -96,7 +96,7 @@ pub extern "C" fn craneholt_check_samples(file: &[u8], second: &[u8], room: usiz
 pub extern "C" fn craneholt_samples(file: &[u8], second: &[u8], list: &mut [u8]) -> CountAnswer
     ensures { λ r. ⌜ _≡_ {A = CountAnswer × List ℕ} (r, now (list .exit)) (samplesEntry (now (file .entry)) (now (second .entry)) (now (list .entry))) ⌝ }
 {
-    volume::calls::samples_to_bytes(file, second, list)
+    samples::samples_to_bytes(file, second, list)
 }
 
 // The number of the sample at the coordinates, 8 bytes each.

@@ -3,5 +3,3 @@ pub mod Skips
 pub mod Headers
 pub mod Located
 pub mod Numbers
-pub mod Packed
-pub mod Parts

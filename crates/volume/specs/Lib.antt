@@ -1,3 +1,1 @@
-pub mod Boundary
 pub mod Places
-pub mod Parts

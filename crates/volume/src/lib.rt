@@ -1,4 +1,3 @@
-// The place of the data, its samples, and the number of a sample.
+// The place of the data, and the number of a sample.
 pub mod axes;
-pub mod calls;
 pub mod place;

@@ -1,0 +1,58 @@
+-- `samples::part::check_part` meets its contract, by the encoding.
+-- Assumes nothing.
+use borrow.Author.Needs.{needs}
+use Rattle.samples.proofs.Parts.{PartIs, part-is}
+use Rattle.samples.proofs.part.check_part.Statement.{statement}
+use Rattle.samples.proofs.part.check_part.Tie as tie
+
+-- what the part is, by the type
+is : (c : tie.After-is-signed)
+    → let a = c .before .before .before .args in PartIs (a .reading) (a .n) (a .s .now) (c .before .width-of .result) (c .is-signed .result)
+is c =
+    let a = c .before .before .before .args in
+    part-is (a .reading) (a .n) (a .s .now) (c .before .width-of .result) (c .is-signed .result) (c .before .before .before .pre) (c .before .width-of .ensures)
+    (c .is-signed .ensures)
+
+width-of-requires : tie.Need-width-of-requires
+width-of-requires c κs = search needs
+
+is-signed-requires : tie.Need-is-signed-requires
+is-signed-requires c κs = search needs
+
+check-requires : tie.Need-check-requires
+check-requires c κs = search needs
+
+returns : tie.Need-returns
+returns c =
+    let p = is (c .before .before .before .before) in
+    let t = c .before .if1 .taken in
+    rw (← p .as-raw t) (c .check .ensures (p .width) (p .enough t))
+
+check-requires-2 : tie.Need-check-requires-2
+check-requires-2 c κs = search needs
+
+returns-2 : tie.Need-returns-2
+returns-2 c =
+    let p = is (c .before .before .before .before .before .before) in
+    rw (← p .as-text (c .before .if2 .taken)) (c .check2 .ensures (p .width))
+
+check-requires-3 : tie.Need-check-requires-3
+check-requires-3 c κs = search needs
+
+returns-3 : tie.Need-returns-3
+returns-3 c =
+    let p = is (c .before .before .before .before .before .before) in
+    rw (← p .as-hex (c .before .before .before .if1 .left) (c .before .if2 .left)) (c .check3 .ensures (p .width))
+
+pub check-part-spec : {M : Type 1} → statement M
+check-part-spec =
+    tie.close
+    (tie.spec
+    width-of-requires
+    is-signed-requires
+    check-requires
+    returns
+    check-requires-2
+    returns-2
+    check-requires-3
+    returns-3)

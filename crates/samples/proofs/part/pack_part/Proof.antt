@@ -1,0 +1,78 @@
+-- `samples::part::pack_part` meets its contract, by the encoding.
+-- Assumes nothing.
+use mathlib.Core.Path.{ap, _∙_}
+use Rattle.format.specs.Samples.{Decoded}
+use Rattle.samples.proofs.Parts.{PartIs, part-is}
+use borrow.Author.Needs.{needs}
+use Rattle.samples.proofs.part.pack_part.Statement.{statement}
+use Rattle.samples.proofs.part.pack_part.Tie as tie
+
+-- what the part is, by the type
+is : (c : tie.After-is-signed)
+    → let a = c .before .before .before .before .args in PartIs (a .reading) (a .n) (a .s .now) (c .before .width-of .result) (c .is-signed .result)
+is c =
+    let f = c .before .before .before .before in
+    let a = f .args in
+    part-is (a .reading) (a .n) (a .s .now) (c .before .width-of .result) (c .is-signed .result) (f .pre .0) (c .before .width-of .ensures) (c .is-signed .ensures)
+
+width-of-requires : tie.Need-width-of-requires
+width-of-requires c κs = search needs
+
+is-signed-requires : tie.Need-is-signed-requires
+is-signed-requires c κs = search needs
+
+fill-requires : tie.Need-fill-requires
+fill-requires c κs = search needs
+
+same-length : tie.Need-same-length
+same-length c = search needs
+
+returns : tie.Need-returns
+returns c =
+    let p = is (c .before .before .before .before .before .before .before) in
+    let r = c .before .before .before .before .before .before .before .before .before .before .before .pre in
+    let t = c .before .before .before .before .if1 .taken in
+    let l = p .as-raw t in
+    rw (← l) (c .before .before .fill .ensures (p .width) (p .enough t) (r .1 .1) (ap (λ (d : Decoded). d .number) l ∙ r .1 .0))
+
+fill-requires-2 : tie.Need-fill-requires-2
+fill-requires-2 c κs = search needs
+
+same-length-2 : tie.Need-same-length-2
+same-length-2 c = search needs
+
+returns-2 : tie.Need-returns-2
+returns-2 c =
+    let p = is (c .before .before .before .before .before .before .before .before .before) in
+    let r = c .before .before .before .before .before .before .before .before .before .before .before .before .before .pre in
+    let l = p .as-text (c .before .before .before .before .if2 .taken) in
+    rw (← l) (c .before .before .fill2 .ensures (p .width) (r .1 .1) (ap (λ (d : Decoded). d .number) l ∙ r .1 .0))
+
+fill-requires-3 : tie.Need-fill-requires-3
+fill-requires-3 c κs = search needs
+
+same-length-3 : tie.Need-same-length-3
+same-length-3 c = search needs
+
+returns-3 : tie.Need-returns-3
+returns-3 c =
+    let p = is (c .before .before .before .before .before .before .before .before .before) in
+    let r = c .before .before .before .before .before .before .before .before .before .before .before .before .before .pre in
+    let l = p .as-hex (c .before .before .before .before .before .before .if1 .left) (c .before .before .before .before .if2 .left) in
+    rw (← l) (c .before .before .fill3 .ensures (p .width) (r .1 .1) (ap (λ (d : Decoded). d .number) l ∙ r .1 .0))
+
+pub pack-part-spec : {M : Type 1} → statement M
+pack-part-spec =
+    tie.close
+    (tie.spec
+    width-of-requires
+    is-signed-requires
+    fill-requires
+    same-length
+    returns
+    fill-requires-2
+    same-length-2
+    returns-2
+    fill-requires-3
+    same-length-3
+    returns-3)

@@ -1,0 +1,18 @@
+-- `samples::told` meets its contract, by its test.
+-- Assumes nothing.
+use borrow.Author.Needs.{needs}
+use borrow.Author.Tests.{eq-eqb, ne-eqb}
+use Rattle.samples.proofs.told.Statement.{statement}
+use Rattle.samples.proofs.told.Tie as tie
+
+returns : tie.Need-returns
+returns c = simp (eq-eqb _ _ (c .if1 .taken), c .if1 .taken)
+
+none-requires : tie.Need-none-requires
+none-requires c κs = search needs
+
+returns-2 : tie.Need-returns-2
+returns-2 c = simp (ne-eqb _ _ (c .before .if1 .left)) (c .none .ensures)
+
+pub told-spec : {M : Type 1} → statement M
+told-spec = tie.close (tie.spec returns none-requires returns-2)
