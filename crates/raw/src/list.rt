@@ -31,7 +31,7 @@ fn check_words(s: &[u8], n: usize, big: bool) -> u32
         at += 8;
         k += 1;
     }
-    if count == 0 { 0 } else { 20 }
+    if count == 0 { 0 } else { format::BAD_SAMPLE }
 }
 
 // The refusal that n samples of w bytes come to: 20 where one is above the largest sample, or 0.

@@ -192,10 +192,10 @@ fn token(s: &&[u8], at: &mut usize, n: usize, low: u64, high: u64, v: &mut i64) 
     }
     let i = *at;
     if i == s.len() {
-        return 21;
+        return format::DATA_ENDS_EARLY;
     }
     match token_at(*s, i, low, high) {
-        TokenRead::NoSample => 20,
+        TokenRead::NoSample => format::BAD_SAMPLE,
         TokenRead::Sample { value, end } => {
             *v = value;
             *at = end;
@@ -248,7 +248,7 @@ fn sample_of(t: TokenRead, at: usize) -> TextSample
 {
     match t {
         TokenRead::NoSample => TextSample {
-            number: 20,
+            number: format::BAD_SAMPLE,
             value: 0,
             next: at,
         },
@@ -268,7 +268,7 @@ fn long_sample(s: &[u8], at: usize, low: u64, high: u64) -> TextSample
     let i = skip(s, at_most(at, s.len()));
     if i == s.len() {
         return TextSample {
-            number: 21,
+            number: format::DATA_ENDS_EARLY,
             value: 0,
             next: i,
         };
