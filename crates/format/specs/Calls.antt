@@ -77,7 +77,7 @@ withTable table (accepted es gs ls) =
 abbrev pub readCall : List ℕ → List ℕ → ReadAnswer × List ℕ
 readCall file table = withTable table (header file)
 
--- ---- header::find_key, header::find_field: where the bytes lie in the file, or that they are absent
+-- ---- lookup::find_key, lookup::find_field: where the bytes lie in the file, or that they are absent
 
 abbrev pub noPlace : Refusal → FindAnswer
 noPlace r = record { refusal = r; found = false; start = 0; length = 0 }
@@ -137,7 +137,7 @@ findFieldIn f (accepted es gs ls) = fieldPlace f 0 es
 abbrev pub findFieldCall : List ℕ → ℕ → FindAnswer
 findFieldCall file f = findFieldIn f (header file)
 
--- ---- header::copy_value: the value of a key, escapes resolved, at the front of a lent buffer; 22 if it is short
+-- ---- lookup::copy_value: the value of a key, escapes resolved, at the front of a lent buffer; 22 if it is short
 
 abbrev pub noValue : Refusal → ValueAnswer
 noValue r = record { refusal = r; found = false; length = 0 }
@@ -183,7 +183,7 @@ dataCall file second = dataIn file second (header file)
 abbrev pub dataPointer : ℕ × ℕ → ℕ × ℕ → DataAnswer → ℕ × ℕ
 dataPointer file second d = if d .second then (second .0, d .start + second .1) else (file .0, d .start + file .1)
 
--- ---- volume::check_samples and volume::samples: a list of `room` entries is lent
+-- ---- samples::check_samples and samples::samples: a list of `room` entries is lent
 
 abbrev pub noSamples : Refusal → CountAnswer
 noSamples r = record { refusal = r; count = 0 }
