@@ -47,7 +47,7 @@ pub fn start(version: u32) -> State
         dimension: 0,
         sampletype: 0,
         encoding: 0,
-        endian: 2,
+        endian: format::NO_ENDIAN,
         sizes: [0u64; 16],
         lineskip: 0,
         byteskip: 0,
@@ -91,7 +91,7 @@ fn sample_bytes(t: u32) -> u64
 fn endian_needed(t: u32, e: u32) -> bool
     ensures { λ r. ⌜ r ≡ endianNeeded t e ⌝ }
 {
-    (1 < sample_bytes(t)) & ((e == 0) | (e == 2))
+    (1 < sample_bytes(t)) & ((e == format::RAW) | (e == format::HEX))
 }
 
 // Whether the fields that are needed are given.

@@ -84,6 +84,27 @@ pub const WRONG_TABLE: u32 = 26;
 
 pub const WRONG_COUNT: u32 = 27;
 
+// Types, encodings and endians are numbered from 0 as document 01 lists them: those that the code asks for.
+pub const INT16: u32 = 2;
+
+pub const INT32: u32 = 4;
+
+pub const INT64: u32 = 6;
+
+pub const FLOAT: u32 = 8;
+
+pub const DOUBLE: u32 = 9;
+
+pub const RAW: u32 = 0;
+
+pub const TEXT: u32 = 1;
+
+pub const HEX: u32 = 2;
+
+pub const BIG: u32 = 1;
+
+pub const NO_ENDIAN: u32 = 2;
+
 // The limits together.
 pub struct Limits {
     pub file: usize,

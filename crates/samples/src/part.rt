@@ -15,16 +15,16 @@ ghost use Rattle.samples.specs.Parts.{WidthOf, decodedBy, Decodable, par
 fn width_of(t: u32) -> usize
     ensures { λ r. ⌜ WidthOf t r ⌝ }
 {
-    if t < 2 {
+    if t < format::INT16 {
         return 1;
     }
-    if t < 4 {
+    if t < format::INT32 {
         return 2;
     }
-    if t < 6 {
+    if t < format::INT64 {
         return 4;
     }
-    if t < 8 {
+    if t < format::FLOAT {
         return 8;
     }
     1
@@ -34,7 +34,7 @@ fn width_of(t: u32) -> usize
 fn is_signed(t: u32) -> bool
     ensures { λ r. ⌜ (isFloating (numberKind t) ≡ false → kindBy r ≡ numberKind t) ⌝ }
 {
-    if t < 8 {
+    if t < format::FLOAT {
         return t % 2 == 0;
     }
     true
@@ -54,11 +54,11 @@ fn check_part(s: &[u8], reading: Reading, n: usize) -> u32
 {
     let w = width_of(reading.sampletype);
     let signed = is_signed(reading.sampletype);
-    let big = reading.endian == 1;
-    if reading.encoding == 0 {
+    let big = reading.endian == format::BIG;
+    if reading.encoding == format::RAW {
         return raw::list::check(s, n, w, signed, big);
     }
-    if reading.encoding == 1 {
+    if reading.encoding == format::TEXT {
         return tokens::list::check(s, n, w, signed);
     }
     hex::list::check(s, n, w, signed, big)
@@ -73,11 +73,11 @@ fn fill_part(s: &[u8], reading: Reading, n: usize, list: &mut [i64])
 {
     let w = width_of(reading.sampletype);
     let signed = is_signed(reading.sampletype);
-    let big = reading.endian == 1;
-    if reading.encoding == 0 {
+    let big = reading.endian == format::BIG;
+    if reading.encoding == format::RAW {
         return raw::list::fill(s, n, w, signed, big, list);
     }
-    if reading.encoding == 1 {
+    if reading.encoding == format::TEXT {
         return tokens::list::fill(s, n, w, signed, list);
     }
     hex::list::fill(s, n, w, signed, big, list)
@@ -92,11 +92,11 @@ fn pack_part(s: &[u8], reading: Reading, n: usize, list: &mut [u8])
 {
     let w = width_of(reading.sampletype);
     let signed = is_signed(reading.sampletype);
-    let big = reading.endian == 1;
-    if reading.encoding == 0 {
+    let big = reading.endian == format::BIG;
+    if reading.encoding == format::RAW {
         return raw::packed::fill(s, n, w, signed, big, list);
     }
-    if reading.encoding == 1 {
+    if reading.encoding == format::TEXT {
         return tokens::packed::fill(s, n, w, signed, list);
     }
     hex::packed::fill(s, n, w, signed, big, list)

@@ -78,10 +78,10 @@ fn lies(second: bool, start: usize, length: u64) -> DataAnswer
 fn is_floating(t: u32) -> bool
     ensures { λ r. ⌜ r ≡ isFloating (numberKind t) ⌝ }
 {
-    if t == 8 {
+    if t == format::FLOAT {
         return true;
     }
-    t == 9
+    t == format::DOUBLE
 }
 
 // Whether samples are wanted of a type that is float or double.
@@ -98,7 +98,7 @@ fn is_unfit(wanted: bool, t: u32) -> bool
 fn place_at(reading: Reading, second: bool, start: usize, left: usize) -> DataAnswer
     ensures { λ r. ⌜ r ≡ dataAnswer (placeBy reading second start left) ⌝ }
 {
-    if reading.encoding != 0 {
+    if reading.encoding != format::RAW {
         return lies(second, start, left as u64);
     }
     if (left as u64) < reading.extent {
