@@ -16,6 +16,7 @@ use Rattle.format.specs.Header.{Entry, lineOf, linesOf, Outcome, refused, accep
 use Rattle.format.specs.Calls.{readingOf, readAnswer, readHeaderCall, withTable, readCall}
 use Rattle.format.proofs.Header.{header-sound}
 use Rattle.header.specs.Tables.{Tabled, startsOf}
+use Rattle.header.specs.Accepted.{Headed}
 use Rattle.header.proofs.Numbered.{NumberedOutcome, header-numbered}
 use Rattle.header.proofs.Turns.{refusedAt}
 
@@ -35,14 +36,6 @@ module _ (file : List ℕ) {es : List Entry} {gs : List Given} {ls : List Line} 
         room = h;
       }
 
--- the answer of the reading, accepted
-pub record Taken (file : List ℕ) (a : ReadAnswer) : Type 0 where
-  pub es : List Entry
-  pub gs : List Given
-  pub ls : List Line
-  pub is : header file ≡ accepted es gs ls
-  pub lines : a .reading .lines ≡ length es
-
 module _ (file table : List ℕ) (a : ReadAnswer) (is : a ≡ readHeaderCall file) where
   -- refused
   pub call-refused : (a .refusal .number ≡ 0 → ⊥) → _≡_ {A = ReadAnswer × List ℕ} (a, table) (readCall file table)
@@ -54,29 +47,29 @@ module _ (file table : List ℕ) (a : ReadAnswer) (is : a ≡ readHeaderCall fil
       go (accepted es gs ls) q = absurd (h (ap (λ (x : ReadAnswer). x .refusal .number) q))
 
   module _ (fine : a .refusal .number ≡ 0) where
-    taken : Taken file a
+    taken : Headed file (a .reading .lines)
     unfolding readingOf
     taken = go (header file) refl is (header-numbered file)
       where
-        go : (o : Outcome) → header file ≡ o → a ≡ readAnswer o → NumberedOutcome o → Taken file a
+        go : (o : Outcome) → header file ≡ o → a ≡ readAnswer o → NumberedOutcome o → Headed file (a .reading .lines)
         go (refused r) e q n = absurd (let f : ⊥ = omega (arith, ap (λ (x : ReadAnswer). x .refusal .number) q) in f)
         go (accepted es gs ls) e q n =
-            record { es = es; gs = gs; ls = ls; is = e; lines = ap (λ (x : ReadAnswer). x .reading .lines) q }
+            record { entries = es; fields = gs; after = ls; is = e; many = ap (λ (x : ReadAnswer). x .reading .lines) q }
 
     -- the table is short
     pub call-short : length table < a .reading .lines → _≡_ {A = ReadAnswer × List ℕ} (refusedAt lentTooShort 0, table) (readCall file table)
     unfolding withTable
-    call-short h = let t = taken in rw (t .is, lt-ltb (length table) (length (t .es)) (omega (arith, t .lines)))
+    call-short h = let t = taken in rw (t .is, lt-ltb (length table) (length (t .entries)) (omega (arith, t .many)))
 
     module _ (room : a .reading .lines ≤ length table) where
       pub call-tabled : Tabled file table (a .reading .lines)
-      call-tabled = let t = taken in rw (t .lines) (tabled file (t .is) table (omega (arith, t .lines)))
+      call-tabled = let t = taken in rw (t .many) (tabled file (t .is) table (omega (arith, t .many)))
 
       pub call-filled : (table′ : List ℕ) → table′ ≡ over (startsOf file (a .reading .lines)) table
           → _≡_ {A = ReadAnswer × List ℕ} (a, table′) (readCall file table)
       unfolding withTable
       call-filled table′ e =
           let t = taken in
-          let p : a ≡ readAnswer (accepted (t .es) (t .gs) (t .ls)) = is ∙ ap readAnswer (t .is) in
-          let q : table′ ≡ over (tableOf (t .es)) table = rw (t .lines, starts-of file (t .is)) at e in
-          rw (t .is, le-ltb (length table) (length (t .es)) (omega (arith, t .lines))) (λ i. (p i, q i))
+          let p : a ≡ readAnswer (accepted (t .entries) (t .fields) (t .after)) = is ∙ ap readAnswer (t .is) in
+          let q : table′ ≡ over (tableOf (t .entries)) table = rw (t .many, starts-of file (t .is)) at e in
+          rw (t .is, le-ltb (length table) (length (t .entries)) (omega (arith, t .many))) (λ i. (p i, q i))

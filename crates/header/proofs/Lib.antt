@@ -5,5 +5,4 @@ pub mod Turns
 pub mod FirstLine
 pub mod Tables
 pub mod Calls
-pub mod Finding
-pub mod Values
+pub mod Accepted

@@ -1,13 +1,13 @@
 -- The line at a place of a file, from the search for its LF in the bytes up to the limit.
 -- Assumes nothing.
-use Prim.Native.Nat.{ℕ, zero, suc, _+_, _-_, _≤_, _<_}
+use Prim.Native.Nat.{ℕ, zero, suc, _+_, _-_, _≤_, _<_, min}
 use native.Mathlib.Nat.{le-of-suc-le-suc, not-suc-le-zero}
 use native.Mathlib.Omega.{arith}
 use mathlib.Core.Path.{_≡_, refl, sym, ap, _∙_, subst}
 use mathlib.Core.Bool.{Bool, true, false}
 use mathlib.Core.List.{List, [], _∷_, append-nil}
 use lib.Dec.{eqb, ltb}
-use lib.ListN.{length, take, drop, length-drop}
+use lib.ListN.{length, take, drop, length-take, length-drop}
 use lib.Seq.{take-all, take-take, length-take-le, drop-drop}
 use borrow.Author.Tests.{ltb-true, ltb-false}
 use Rattle.format.specs.Bytes.{if_then_else_, LF, CR}
@@ -106,8 +106,17 @@ module _ (s : List ℕ) (n r : ℕ) (first : before LF s ≡ n) (text : r ≡ le
 
 -- ---- the line from `at` on, of which the bytes up to `to` are looked at
 
-module _ (file : List ℕ) (at to n : ℕ) (from : at ≤ to) (within : to ≤ length file)
+module _ (file : List ℕ) (at to n : ℕ) (start : (at < length file) × (at ≤ maxHeader)) (limit : to ≡ min (length file) maxHeader)
     (first : n ≡ before LF (take (to - at) (drop at file))) where
+  from : at ≤ to
+  from = omega arith
+
+  within : to ≤ length file
+  within = omega arith
+
+  short : to ≤ maxHeader
+  short = omega arith
+
   left : length (drop at file) ≡ length file - at
   left = length-drop at file
 
@@ -115,10 +124,11 @@ module _ (file : List ℕ) (at to n : ℕ) (from : at ≤ to) (within : to ≤ l
   looked = length-take-le (to - at) (drop at file) (omega (arith, left))
 
   -- an LF stands at at + n
-  pub line-found : to ≤ maxHeader → at + n < to → (r : ℕ) → r ≡ length (withoutCR (take (at + n - at) (drop at file))) → r ≤ n
+  pub line-found : at + n < to → (r : ℕ) → r ≡ length (withoutCR (take (at + n - at) (drop at file))) → r ≤ length (take (at + n - at) (drop at file))
       → LineAt file at (at + r) (at + n + 1)
-  line-found short h r e less =
+  line-found h r e part =
       let m : at + n - at ≡ n = omega arith in
+      let less : r ≤ n = omega (arith, part, length-take (at + n - at) (drop at file)) in
       let k : at + r - at ≡ r = omega arith in
       let j : at + (n + 1) ≡ at + n + 1 = omega arith in
       let q : before LF (drop at file) ≡ n = before-take LF (to - at) (drop at file) (omega (arith, looked)) ∙ sym first in
@@ -136,8 +146,8 @@ module _ (file : List ℕ) (at to n : ℕ) (from : at ≤ to) (within : to ≤ l
       }
 
   -- none does, and the file ends at `to`
-  pub line-last : to ≤ maxHeader → at < to → to ≤ at + n → length file ≤ to → LineAt file at to to
-  line-last short some h e =
+  pub line-last : to ≤ at + n → length file ≤ to → LineAt file at to to
+  line-last h e =
       let t : take (to - at) (drop at file) ≡ drop at file = take-all (to - at) (drop at file) (omega (arith, left)) in
       let q : before LF (drop at file) ≡ length (drop at file) = omega (arith, rw t at first, before-le LF (drop at file), left) in
       record {
@@ -153,8 +163,8 @@ module _ (file : List ℕ) (at to n : ℕ) (from : at ≤ to) (within : to ≤ l
       }
 
   -- none does, and there are more bytes
-  pub line-past : to ≡ maxHeader → to ≤ at + n → to < length file → PastAt file at
-  line-past short h e =
+  pub line-past : to ≤ at + n → to < length file → PastAt file at
+  line-past h e =
       let x = longer (to - at) (drop at file) (omega (arith, left)) (omega arith) in
       record { first = x .first; rest = x .rest; cut = x .cut; long = omega (arith, x .long) }
 
@@ -166,3 +176,9 @@ module _ {file : List ℕ} {at : ℕ} {s : Span} where
 
   pub past-at : s ≡ Past → SpanIs file at s → PastAt file at
   past-at e h = subst (λ (x : Span). SpanIs file at x) e h
+
+-- ---- the rest of a line
+
+-- what stands from a place on, as a part of the text
+pub rest-of : (n : ℕ) (t : List ℕ) → take (length t - n) (drop n t) ≡ drop n t
+rest-of n t = take-all (length t - n) (drop n t) (omega (arith, length-drop n t))

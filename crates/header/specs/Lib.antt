@@ -1,3 +1,3 @@
 pub mod Spans
 pub mod Tables
-pub mod Lookup
+pub mod Accepted

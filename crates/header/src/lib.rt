@@ -1,5 +1,4 @@
-// The reader: headers read, refused and tabled; the look-up of a key and of a field.
-pub mod find;
+// The reader: headers read, refused and tabled.
 pub mod lines;
 pub mod read;
 mod table;

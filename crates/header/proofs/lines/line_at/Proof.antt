@@ -1,7 +1,6 @@
 -- `header::lines::line_at` meets its contract, by the laws of LineCuts.
 -- Assumes nothing.
 use borrow.Author.Needs.{needs}
-use native.Mathlib.Omega.{arith}
 use Rattle.header.proofs.LineCuts.{line-found, line-last, line-past}
 use Rattle.header.proofs.lines.line_at.Statement.{statement}
 use Rattle.header.proofs.lines.line_at.Tie as tie
@@ -44,18 +43,24 @@ add-t17 c = search needs
 
 returns : tie.Need-returns
 returns c =
-    let a = c .before .before .before .before .before .before .before .args in
-    line-found (a .file .now) (a .at) (c .before .before .before .before .before .limit .result) (c .before .before .before .find-byte .result) (omega arith) (omega arith) (c .before .before .before .find-byte .ensures .0) (omega arith) (c .before .before .if1 .taken) (c .without-cr .result) (c .without-cr .ensures .0) (omega arith)
+    let s = c .before .before .before .before .before .before .before in
+    let f = c .before .before .before .find-byte in
+    let l = c .before .before .before .before .before .limit in
+    line-found (s .args .file .now) (s .args .at) (l .result) (f .result) (s .pre) (l .ensures) (f .ensures .0) (c .before .before .if1 .taken) (c .without-cr .result) (c .without-cr .ensures .0) (c .without-cr .ensures .1)
 
 returns-2 : tie.Need-returns-2
 returns-2 c =
-    let a = c .before .before .before .before .before .before .args in
-    line-past (a .file .now) (a .at) (c .before .before .before .before .limit .result) (c .before .before .find-byte .result) (omega arith) (omega arith) (c .before .before .find-byte .ensures .0) (omega arith) (c .before .if1 .left) (c .if2 .taken)
+    let s = c .before .before .before .before .before .before in
+    let f = c .before .before .find-byte in
+    let l = c .before .before .before .before .limit in
+    line-past (s .args .file .now) (s .args .at) (l .result) (f .result) (s .pre) (l .ensures) (f .ensures .0) (c .before .if1 .left) (c .if2 .taken)
 
 returns-3 : tie.Need-returns-3
 returns-3 c =
-    let a = c .before .before .before .before .before .before .args in
-    line-last (a .file .now) (a .at) (c .before .before .before .before .limit .result) (c .before .before .find-byte .result) (omega arith) (omega arith) (c .before .before .find-byte .ensures .0) (omega arith) (omega arith) (c .before .if1 .left) (c .if2 .left)
+    let s = c .before .before .before .before .before .before in
+    let f = c .before .before .find-byte in
+    let l = c .before .before .before .before .limit in
+    line-last (s .args .file .now) (s .args .at) (l .result) (f .result) (s .pre) (l .ensures) (f .ensures .0) (c .before .if1 .left) (c .if2 .left)
 
 pub line-at-spec : {M : Type 1} → statement M
 line-at-spec =

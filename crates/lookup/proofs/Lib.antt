@@ -1,0 +1,3 @@
+-- Laws on plain lists and on the definitions, for the proofs of this crate.
+pub mod Finding
+pub mod Values

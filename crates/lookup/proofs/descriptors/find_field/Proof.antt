@@ -1,0 +1,50 @@
+-- `lookup::descriptors::find_field` meets its contract: the reading's refusal, or the pass over the lines after line 1.
+-- Assumes nothing.
+use mathlib.Core.Path.{sym, ap, _∙_}
+use borrow.Author.Needs.{needs}
+use Rattle.format.specs.Calls.{findFieldIn}
+use Rattle.header.proofs.Accepted.{was-refused, was-accepted, some-byte}
+use Rattle.lookup.proofs.Finding.{field-start}
+use Rattle.lookup.proofs.descriptors.find_field.Statement.{statement}
+use Rattle.lookup.proofs.descriptors.find_field.Tie as tie
+
+read-header-requires : tie.Need-read-header-requires
+read-header-requires c κs = search needs
+
+nowhere-requires : tie.Need-nowhere-requires
+nowhere-requires c κs = search needs
+
+returns : tie.Need-returns
+returns c =
+    let a = c .before .before .before .before .before .args in
+    let r = c .before .before .before .read-header in
+    c .nowhere .ensures ∙ sym (ap (findFieldIn (a .field)) (was-refused (a .file .now) (r .result) (r .ensures) (c .before .if1 .taken)))
+
+second-line-requires : tie.Need-second-line-requires
+second-line-requires c κs =
+    let r = c .before .before .read-header in
+    some-byte _ (was-accepted _ (r .result) (r .ensures) (c .if1 .left))
+
+sub-first-field : tie.Need-sub-first-field
+sub-first-field c = search needs
+
+first-field-requires : tie.Need-first-field-requires
+first-field-requires c κs =
+    let a = c .before .before .before .before .before .args in
+    let r = c .before .before .before .read-header in
+    field-start (a .file .now) (was-accepted (a .file .now) (r .result) (r .ensures) (c .before .if1 .left)) (c .second-line .ensures) (a .field)
+
+returns-2 : tie.Need-returns-2
+returns-2 c = search needs
+
+pub find-field-spec : {M : Type 1} → statement M
+find-field-spec =
+    tie.close
+    (tie.spec
+    read-header-requires
+    nowhere-requires
+    returns
+    second-line-requires
+    sub-first-field
+    first-field-requires
+    returns-2)

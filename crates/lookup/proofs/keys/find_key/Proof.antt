@@ -1,0 +1,38 @@
+-- `lookup::keys::find_key` meets its contract: the reading's refusal, or the look-up in a header of so many lines.
+-- Assumes nothing.
+use mathlib.Core.Path.{sym, ap, _∙_}
+use borrow.Author.Needs.{needs}
+use Rattle.format.specs.Calls.{findKeyIn}
+use Rattle.header.proofs.Accepted.{was-refused, was-accepted}
+use Rattle.lookup.proofs.keys.find_key.Statement.{statement}
+use Rattle.lookup.proofs.keys.find_key.Tie as tie
+
+read-header-requires : tie.Need-read-header-requires
+read-header-requires c κs = search needs
+
+nowhere-requires : tie.Need-nowhere-requires
+nowhere-requires c κs = search needs
+
+returns : tie.Need-returns
+returns c =
+    let a = c .before .before .before .before .before .before .args in
+    let r = c .before .before .before .read-header in
+    c .nowhere .ensures ∙ sym (ap (findKeyIn (a .key .now)) (was-refused (a .file .now) (r .result) (r .ensures) (c .before .if1 .taken)))
+
+find-key-in-requires : tie.Need-find-key-in-requires
+find-key-in-requires c κs =
+    let r = c .before .before .read-header in
+    was-accepted _ (r .result) (r .ensures) (c .if1 .left)
+
+returns-2 : tie.Need-returns-2
+returns-2 c = search needs
+
+pub find-key-spec : {M : Type 1} → statement M
+find-key-spec =
+    tie.close
+    (tie.spec
+    read-header-requires
+    nowhere-requires
+    returns
+    find-key-in-requires
+    returns-2)

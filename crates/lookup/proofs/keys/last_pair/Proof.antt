@@ -1,0 +1,95 @@
+-- `lookup::keys::last_pair` meets its contract: what the lines left give, or else what was found before them, is the answer.
+-- Assumes nothing.
+use native.Mathlib.Omega.{arith}
+use mathlib.Core.Path.{sym, subst}
+use lib.ListN.{length-take}
+use borrow.Author.Needs.{needs}
+use Rattle.header.specs.Spans.{LineAt, SpanIs}
+use Rattle.lookup.specs.Lookup.{KeyLeft}
+use Rattle.lookup.proofs.Finding.{left-starts, left-short, left-not-past, key-next, key-end}
+use Rattle.lookup.proofs.keys.last_pair.Statement.{statement}
+use Rattle.lookup.proofs.keys.last_pair.Tie as tie
+
+abbrev Inv-loop : tie.InvT-loop
+Inv-loop file key from count found₀ at₀ left₀ found at left = KeyLeft file key at left found
+
+abbrev μ-loop : tie.MeasureT-loop
+μ-loop file key from count found₀ at₀ left₀ found at left = left
+
+-- the line that was found
+lined : (c : tie.After-known-told Inv-loop μ-loop)
+    → LineAt (c .before .before .before .before .before .before .before .before .before .args .file .now)
+    (c .before .before .before .before .before .loop .at) (c .before .e .given .0 .0) (c .before .e .given .0 .1 .0)
+lined c = subst (SpanIs _ (c .before .before .before .before .before .loop .at)) (c .before .e .given .1) (c .before .before .before .line-at .ensures)
+
+absent-requires : tie.Need-absent-requires Inv-loop μ-loop
+absent-requires c κs = search needs
+
+loop-holds : tie.Need-loop-holds Inv-loop μ-loop
+loop-holds c =
+    let s = c .before .before .before in
+    let a = s .args in
+    subst (KeyLeft (a .file .now) (a .key .now) (a .from) (a .count)) (sym (c .absent .ensures)) (s .pre)
+
+line-at-requires : tie.Need-line-at-requires Inv-loop μ-loop
+line-at-requires c κs = let w = c .before .loop .inv in (left-starts w (c .loop-test .taken), left-short w (c .loop-test .taken))
+
+enum-known-e : tie.Need-enum-known-e Inv-loop μ-loop
+enum-known-e c = search needs
+
+sub-with-pair : tie.Need-sub-with-pair Inv-loop μ-loop
+sub-with-pair c = lined c .from
+
+part-with-pair-start : tie.Need-part-with-pair-start Inv-loop μ-loop
+part-with-pair-start c = lined c .from
+
+part-with-pair-end : tie.Need-part-with-pair-end Inv-loop μ-loop
+part-with-pair-end c = let w = lined c in omega (arith, w .to, w .within)
+
+with-pair-requires : tie.Need-with-pair-requires Inv-loop μ-loop
+with-pair-requires c κs =
+    let w = lined (c .before) in simp length-take (omega (arith, w .from, w .to, w .short))
+
+enum-told : tie.Need-enum-told Inv-loop μ-loop
+enum-told c = search needs
+
+returns : tie.Need-returns Inv-loop μ-loop
+returns c =
+    let t = c .before .before .before in
+    let l = t .before .loop in
+    absurd (left-not-past (l .inv) (t .loop-test .taken) (subst (SpanIs _ (l .at)) (c .enum-told .given .1) (c .before .before .line-at .ensures)))
+
+sub-left : tie.Need-sub-left Inv-loop μ-loop
+sub-left c = search needs
+
+loop-less : tie.Need-loop-less Inv-loop μ-loop
+loop-less c = search needs
+
+loop-again : tie.Need-loop-again Inv-loop μ-loop
+loop-again c =
+    let t = c .before .before .before .before .before .before in
+    key-next _ (t .before .loop .inv) (t .loop-test .taken) (lined (c .before .before)) (c .with-pair .result) (c .with-pair .ensures)
+
+returns-2 : tie.Need-returns-2 Inv-loop μ-loop
+returns-2 c = key-end _ (c .before .loop .inv) (omega arith)
+
+pub last-pair-spec : {M : Type 1} → statement M
+last-pair-spec =
+    tie.close
+    (tie.spec
+    Inv-loop
+    μ-loop
+    absent-requires
+    loop-holds
+    line-at-requires
+    enum-known-e
+    sub-with-pair
+    part-with-pair-start
+    part-with-pair-end
+    with-pair-requires
+    enum-told
+    returns
+    sub-left
+    loop-less
+    loop-again
+    returns-2)

@@ -1,0 +1,116 @@
+// Where a key's value lies in a file, and the copy of a value.
+use format::FindAnswer;
+use format::Refusal;
+use format::ValueAnswer;
+use header::lines::Span;
+use text::lines::Mark;
+ghost use mathlib.Core.Path.{_≡_};
+ghost use mathlib.Core.List.{List};
+ghost use Prim.Native.Nat.{ℕ, _+_, _≤_};
+ghost use lib.ListN.{length};
+ghost use Rattle.format.specs.Limits.{maxHeader};
+ghost use Rattle.format.specs.Refusals.{fine};
+ghost use Rattle.format.specs.Header.{Item};
+ghost use Rattle.format.specs.Calls.{noPlace, findKeyCall, copyValueCall};
+ghost use Rattle.header.specs.Accepted.{Headed, IsItem};
+ghost use Rattle.lookup.specs.Lookup.{keyThen, KeyLeft};
+
+// The place of the key's value once a line, which starts at `at`, is passed: in that line, or else as it was before it.
+fn with_pair(t: &[u8], key: &[u8], at: usize, found: FindAnswer) -> FindAnswer
+    requires { ⌜ at + length (now t) ≤ maxHeader ⌝ }
+    ensures { λ r. ⌜ ((i : Item) → IsItem (now (t .entry)) i → r ≡ keyThen (now (key .entry)) at i found) ⌝ }
+{
+    if !header::lines::begins(t) {
+        return found;
+    }
+    match text::lines::find_mark(t) {
+        Mark::Field(_) => found,
+        Mark::Pair(i) => {
+            if text::escapes::means(&t[..i], key) {
+                crate::places::placed(at + (i + 2), t.len() - (i + 2))
+            } else {
+                found
+            }
+        }
+        Mark::Nothing => found,
+    }
+}
+
+// The place of the value in the last line with the key, among `count` lines from `from` on.
+fn last_pair(file: &[u8], key: &[u8], from: usize, count: u32) -> FindAnswer
+    requires { ⌜ KeyLeft (now file) (now key) from count (noPlace fine) ⌝ }
+    ensures { λ r. ⌜ r ≡ findKeyCall (now (file .entry)) (now (key .entry)) ⌝ }
+{
+    let mut found = crate::places::absent();
+    let mut at = from;
+    let mut left = count;
+    while 0 < left {
+        match header::lines::line_at(file, at) {
+            Span::Found(e, next) => {
+                found = with_pair(&file[at..e], key, at, found);
+                at = next;
+            }
+            Span::Past => {
+                return found;
+            }
+        }
+        left -= 1;
+    }
+    found
+}
+
+// Where the value's text of a key lies in a file whose header has so many lines: in the last line with the key.
+pub fn find_key_in(file: &[u8], key: &[u8], lines: u32) -> FindAnswer
+    requires { ⌜ Headed (now file) lines ⌝ }
+    ensures { λ r. ⌜ r ≡ findKeyCall (now (file .entry)) (now (key .entry)) ⌝ }
+{
+    last_pair(file, key, crate::places::second_line(file), lines - 1)
+}
+
+// Where the value's text of a key lies in the file.
+pub fn find_key(file: &[u8], key: &[u8]) -> FindAnswer
+    ensures { λ r. ⌜ r ≡ findKeyCall (now (file .entry)) (now (key .entry)) ⌝ }
+{
+    let read = header::read::read_header(file);
+    let refusal = read.refusal;
+    let count = read.reading.lines;
+    // a refused file has no lines
+    if count == 0 {
+        return crate::places::nowhere(refusal);
+    }
+    find_key_in(file, key, count)
+}
+
+// Writes the value of a key to the front of `out`, escapes resolved. Where `out` is too short nothing is written.
+pub fn copy_value(file: &[u8], key: &[u8], out: &mut [u8]) -> ValueAnswer
+    ensures { λ r. ⌜ _≡_ {A = ValueAnswer × List ℕ} (r, now (out .exit)) (copyValueCall (now (file .entry)) (now (key .entry)) (now (out .entry))) ⌝ }
+{
+    let place = find_key(file, key);
+    let refusal = place.refusal;
+    if !place.found {
+        return ValueAnswer {
+            refusal: refusal,
+            found: false,
+            length: 0,
+        };
+    }
+    let start = place.start as usize;
+    let value = &file[start..start + place.length as usize];
+    let n = text::escapes::unescaped_length(value);
+    if out.len() < n {
+        return ValueAnswer {
+            refusal: Refusal {
+                number: format::LENT_TOO_SHORT,
+                line: 0,
+            },
+            found: false,
+            length: 0,
+        };
+    }
+    text::escapes::unescape_into(value, out);
+    ValueAnswer {
+        refusal: refusal,
+        found: true,
+        length: n as u64,
+    }
+}

@@ -1,0 +1,4 @@
+// The look-up of a key and of a field in a file: a second pass over the lines of its header.
+pub mod descriptors;
+pub mod keys;
+mod places;
