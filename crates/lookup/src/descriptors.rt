@@ -30,8 +30,9 @@ fn descriptor_at(rest: &[u8], field: u32, at: usize) -> FindAnswer
     requires { ⌜ at + length (now rest) ≤ maxHeader ⌝ }
     ensures { λ r. ⌜ r ≡ foundAt (at + (length (now (rest .entry)) - length (fromDescriptor field (now (rest .entry))))) (length (descriptor field (now (rest .entry)))) ⌝ }
 {
-    let d = fields::judge::descriptor_of(field, rest);
-    crate::places::placed(at + fields::judge::text_start(field, rest), d.len())
+    let f = field as usize;
+    let d = fields::judge::descriptor_of(f, rest);
+    crate::places::placed(at + fields::judge::text_start(f, rest), d.len())
 }
 
 // The place of the descriptor that a line, which starts at `at`, gives the field.
