@@ -14,7 +14,7 @@ use Rattle.format.specs.Bytes.{if_then_else_, bytes, SPACE, LF}
 use Rattle.format.specs.Descriptors.{types, sampleType, signed, typeAt, encodings}
 use Rattle.format.specs.Listing.{shown}
 use Rattle.format.specs.Writer.{decimal, spaced, nameAt}
-use Rattle.writer.proofs.Header.{name-short}
+use Rattle.store.proofs.TypeNames.{name-short}
 use Rattle.describe.specs.Shown.{formText, typeText, endianText}
 
 -- ---- names

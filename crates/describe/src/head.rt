@@ -11,11 +11,6 @@ ghost use Rattle.format.specs.Listing.{shown};
 ghost use Rattle.describe.specs.Printed.{Printed, maxPlace};
 ghost use Rattle.describe.specs.Shown.{formText, typeText, endianText, topText, middleText, endText};
 
-// The names of the types, 6 bytes each, and how many of these a name has.
-const NAMES: [u8; 60] = *b"int8  uint8 int16 uint16int32 uint32int64 uint64float double";
-
-const LENGTHS: [usize; 10] = [4, 5, 5, 6, 5, 6, 5, 6, 5, 6];
-
 // The line of the form.
 fn put_form(out: &mut [u8], at: usize, form: u32) -> usize
     requires { ⌜ at + 14 ≤ maxPlace ⌝ }
@@ -35,8 +30,8 @@ fn put_type(out: &mut [u8], at: usize, sampletype: u32) -> usize
     let t = sampletype as usize;
     if t < 10 {
         let a = 6 * t;
-        let e = a + LENGTHS[t];
-        return put::put_line(out, at, b"type ", &NAMES[a..e]);
+        let e = a + store::names::LENGTHS[t];
+        return put::put_line(out, at, b"type ", &store::names::NAMES[a..e]);
     }
     put::put_line(out, at, b"type ", b"int8")
 }

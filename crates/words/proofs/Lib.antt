@@ -4,3 +4,4 @@ pub mod Stores
 pub mod Groups
 pub mod PackedLaws
 pub mod WidthLaws
+pub mod TypeLaws

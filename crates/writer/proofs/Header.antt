@@ -5,8 +5,8 @@ use mathlib.Core.Bool.{Bool, true, false, _||_}
 use mathlib.Core.List.{List, [], _∷_, _++_, append-assoc, append-nil, flatMap}
 use Prim.Native.Nat.{ℕ, zero, suc, _+_, _*_, _-_, _≤_, _<_}
 use native.Mathlib.Omega.{arith}
-use lib.Dec.{eqb, lit≤}
-use lib.ListN.{length, getD, set, take, drop, length-append}
+use lib.Dec.{eqb}
+use lib.ListN.{length, set, take, drop, length-append}
 use lib.Seq.{sets}
 use Rattle.format.specs.Bytes.{if_then_else_, bytes, LF, SPACE}
 use Rattle.format.specs.Descriptors.{typeAt, typeName, encodings, endians, endianNeeded, raw, hex}
@@ -14,8 +14,7 @@ use Rattle.format.specs.Lines.{line, lf, unlines}
 use Rattle.format.specs.Writer.{decimal, spaced, nameAt, fieldLine, endianLines, headerLines}
 use Rattle.writer.specs.Stored.{valueLine, afterSpace, endianText, topText, restText}
 use Rattle.roundtrip.specs.RoundTrip.{headerBytes}
-use Rattle.writer.proofs.Runs.{sets-then}
-use Rattle.writer.proofs.Refuse.{below-10}
+use Rattle.words.proofs.Stores.{sets-then}
 
 -- ---- a line
 
@@ -38,27 +37,9 @@ unfolding flatMap spaced
 space-each n [] = ap (λ (r : List ℕ). SPACE ∷ r) (append-nil (decimal n))
 space-each n (m ∷ ns) = ap (λ (r : List ℕ). SPACE ∷ (decimal n ++ r)) (space-each m ns)
 
--- ---- names
+-- ---- encodings
 
-abbrev names : List ℕ
-names = bytes "int8  uint8 int16 uint16int32 uint32int64 uint64float double"
-
-abbrev lengths : List ℕ
-lengths = 4 ∷ 5 ∷ 5 ∷ 6 ∷ 5 ∷ 6 ∷ 5 ∷ 6 ∷ 5 ∷ 6 ∷ []
-
--- the part of the table at a type is its name, of at most 6 bytes
-pub name-part : (t : ℕ) → t < 10 → take (6 * t + getD lengths t 0 - 6 * t) (drop (6 * t) names) ≡ bytes (typeName (typeAt t))
-unfolding typeAt
-name-part = below-10 (λ t. take (6 * t + getD lengths t 0 - 6 * t) (drop (6 * t) names) ≡ bytes (typeName (typeAt t))) refl refl refl refl refl refl refl refl refl refl
-
-pub part-short : (t : ℕ) → t < 10 → getD lengths t 0 ≤ 6
-part-short = below-10 (λ t. getD lengths t 0 ≤ 6) (lit≤ tt) (lit≤ tt) (lit≤ tt) (lit≤ tt) (lit≤ tt) (lit≤ tt) (lit≤ tt) (lit≤ tt) (lit≤ tt) (lit≤ tt)
-
-pub name-short : (t : ℕ) → t < 10 → length (bytes (typeName (typeAt t))) ≤ 6
-unfolding typeAt
-name-short = below-10 (λ t. length (bytes (typeName (typeAt t))) ≤ 6) (lit≤ tt) (lit≤ tt) (lit≤ tt) (lit≤ tt) (lit≤ tt) (lit≤ tt) (lit≤ tt) (lit≤ tt) (lit≤ tt) (lit≤ tt)
-
--- the same of an encoding
+-- the part of the table at an encoding is its name
 pub encoding-part : (e : ℕ) → e < 3 → take (3 * e + 3 - 3 * e) (drop (3 * e) (bytes "rawtxthex")) ≡ nameAt encodings e
 encoding-part zero h = refl
 encoding-part (suc zero) h = refl

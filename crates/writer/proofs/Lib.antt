@@ -1,7 +1,4 @@
-pub mod Runs
-pub mod Digits
-pub mod Signs
+pub mod Parts
 pub mod Samples
-pub mod Refuse
 pub mod Header
 pub mod Whole

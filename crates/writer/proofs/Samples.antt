@@ -1,30 +1,29 @@
 -- Laws of the data: what the loops over the samples store is the data of the definitions.
 -- Assumes nothing.
 use mathlib.Core.Path.{_≡_, refl, sym, ap, _∙_}
-use mathlib.Core.Bool.{true}
+use mathlib.Core.Bool.{Bool, true, false}
 use mathlib.Core.List.{List, [], _∷_, _++_, flatMap, append-assoc}
 use Prim.Native.Nat.{ℕ, zero, suc, _+_, _*_, _-_, _^_, _/_, _%_, _≤_, _<_}
 use lib.Pow.{pow-add}
 use native.Mathlib.Nat.{pow-suc, one-le-pow, pow-le-pow-right, mul-le-mul, mul-assoc, mul-sub, mul-one, mul-comm, mul-left-comm, mul-suc, suc-mul, zero-mul}
 use native.Mathlib.Omega.{arith}
-use lib.Dec.{lit<}
+use lib.Dec.{ltb, lit<}
 use lib.IntN.{ℤ, pos, negsuc}
-use lib.ListN.{length, getD, drop, length-append, drop-of-length-le}
-use lib.Seq.{slice, length-slice, drop-cons}
-use native.Mathlib.Numerals.{add-one}
+use lib.ListN.{length, drop, length-append}
+use lib.Seq.{slice, length-slice}
 use borrow.Author.Tests.{ltb-true, leb-true, ne-eqb}
-use mathlib.Core.Logic.{⊎-elim}
-use Rattle.format.specs.Bytes.{LF}
+use Rattle.format.specs.Bytes.{if_then_else_, LF}
 use Rattle.format.specs.Descriptors.{NumberKind, signed, unsigned, floating}
-use Rattle.format.specs.Samples.{inType, lowest, highest, toBytes, fromSigned, valueBytes}
-use Rattle.format.specs.Writer.{signedDecimal, hexOfByte, hexText, rawData, textData, dataBytes, allInType}
+use Rattle.format.specs.Samples.{inType, lowest, highest, toBytes, ordered, toSigned, fromSigned, valueBytes}
+use Rattle.format.specs.Writer.{signedDecimal, hexText, rawData, textData, dataBytes, allInType}
 use Rattle.format.proofs.Bytes.{and-left, and-right}
 use Rattle.format.proofs.Samples.{length-to-bytes, length-ordered, length-value-bytes}
-use Rattle.writer.specs.Stored.{lowBytes, textLine, inRange, allInRange}
-use Rattle.words.specs.Widths.{Width}
-use Rattle.writer.proofs.Digits.{at-most-20}
-use Rattle.writer.proofs.Runs.{flat-parts}
 use Rattle.words.proofs.Stores.{flat-length}
+use Rattle.store.specs.Stored.{textLine}
+use Rattle.store.proofs.Digits.{at-most-20}
+use Rattle.store.proofs.HexLaws.{hex-length}
+use Rattle.writer.specs.Stored.{lowBytes}
+use Rattle.writer.proofs.Parts.{flat-parts}
 
 -- ---- text
 
@@ -32,9 +31,6 @@ pub flat-text : (zs : List ℤ) → flatMap textLine zs ≡ textData zs
 unfolding flatMap textData
 flat-text [] = refl
 flat-text (z ∷ zs) = rw (flat-text zs, append-assoc)
-
-pub line-length : (z : ℤ) → length (textLine z) ≡ length (signedDecimal z) + 1
-line-length z = length-append (signedDecimal z) (LF ∷ [])
 
 -- ---- the longest text
 
@@ -73,6 +69,18 @@ pub part-length : (w endian from to : ℕ) (zs : List ℤ) → to ≤ length zs 
 part-length w endian from to zs h = flat-length (lowBytes w endian) w (low-size w endian) (slice from to zs) ∙ mul-comm w (length (slice from to zs)) ∙ ap (λ (k : ℕ). k * w) (length-slice from to zs h)
 
 -- ---- bytes
+
+-- the bytes of a sample are those of its bits x
+module _ (x : ℕ) (l : x < 18446744073709551616) where
+  bits-back : fromSigned 8 (toSigned 8 x) ≡ x
+  bits-back = go (ltb x 9223372036854775808)
+    where
+      go : (t : Bool) → fromSigned 8 (if t then pos x else negsuc (18446744073709551615 - x)) ≡ x
+      go true = refl
+      go false = omega arith
+
+  pub bits-low : (w endian : ℕ) (z : ℤ) → toSigned 8 x ≡ z → ordered endian (toBytes w x) ≡ lowBytes w endian z
+  bits-low w endian z e = ap (λ (k : ℕ). ordered endian (toBytes w k)) (sym bits-back ∙ ap (fromSigned 8) e)
 
 -- the low w bytes do not depend on what is a multiple of 256 to the w
 low-part : (w a q : ℕ) → toBytes w (a + 256 ^ w * q) ≡ toBytes w a
@@ -128,31 +136,10 @@ unfolding hexText
 hex-append [] t = refl
 hex-append (b ∷ s) t = rw (hex-append s t)
 
-module _ (s : List ℕ) (i : ℕ) where
-  pub hex-next : i < length s → hexText (drop i s) ≡ hexOfByte (getD s i 0) ++ hexText (drop (i + 1) s)
-  unfolding hexText
-  hex-next h = rw (add-one i, drop-cons s i 0 h)
-
-  pub hex-over : length s ≤ i → hexText (drop i s) ≡ []
-  unfolding hexText
-  hex-over h = ap hexText (drop-of-length-le s h)
-
 -- the hex of the elements up to e, and of those after them
 pub hex-parts : {A : Type 0} (f : A → List ℕ) (zs : List A) (i e : ℕ) → i ≤ e → e ≤ length zs
     → hexText (flatMap f (drop i zs)) ≡ hexText (flatMap f (slice i e zs)) ++ hexText (flatMap f (drop e zs))
 hex-parts f zs i e h l = ap hexText (flat-parts f zs i e h l) ∙ hex-append (flatMap f (slice i e zs)) (flatMap f (drop e zs))
-
--- ---- the range of a type
-
-range-is : (k : NumberKind) (w : ℕ) (z : ℤ) → inRange (lowest k w) (highest k w) z ≡ inType k w z
-unfolding inType
-range-is k w (pos n) = refl
-range-is k w (negsuc n) = refl
-
-pub all-in-range : (k : NumberKind) (w : ℕ) (zs : List ℤ) → allInRange (lowest k w) (highest k w) zs ≡ allInType k w zs
-unfolding allInRange allInType
-all-in-range k w [] = refl
-all-in-range k w (z ∷ zs) = rw (range-is k w z, all-in-range k w zs)
 
 -- ---- the length of the data
 
@@ -161,11 +148,6 @@ unfolding rawData
 raw-size w endian [] = sym (zero-mul w)
 raw-size w endian (z ∷ zs) =
     length-append (valueBytes w endian z) (rawData w endian zs) ∙ omega (arith, length-value-bytes w endian z, raw-size w endian zs, suc-mul (length zs) w)
-
-pub hex-length : (s : List ℕ) → length (hexText s) ≡ 2 * length s
-unfolding hexText
-hex-length [] = omega arith
-hex-length (b ∷ s) = omega (arith, hex-length s)
 
 pub twice : (n w : ℕ) → n * (2 * w) ≡ 2 * (n * w)
 twice n w = mul-left-comm n 2 w
@@ -199,12 +181,3 @@ pub part-room : (w i e : ℕ) → w ≤ 8 → e ≤ i + 256 → (e - i) * w ≤ 
 part-room w i e h l =
     let k : e - i ≤ 256 = omega arith in
     omega (arith, mul-le-mul k h)
-
--- ---- the width
-
-pub is-eight : (w : ℕ) → Width w → (w ≡ 1 → ⊥) → (w ≡ 2 → ⊥) → (w ≡ 4 → ⊥) → w ≡ 8
-is-eight w d a b c = ⊎-elim (λ e. absurd (a e)) (λ x. ⊎-elim (λ e. absurd (b e)) (λ y. ⊎-elim (λ e. absurd (c e)) (λ e. e) y) x) d
-
-pub width-bounds : (w : ℕ) → Width w → (1 ≤ w) × (w ≤ 8)
-width-bounds w d =
-    ⊎-elim (λ e. (omega arith, omega arith)) (λ x. ⊎-elim (λ e. (omega arith, omega arith)) (λ y. ⊎-elim (λ e. (omega arith, omega arith)) (λ e. (omega arith, omega arith)) y) x) d

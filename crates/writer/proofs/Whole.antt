@@ -4,7 +4,7 @@ use mathlib.Core.Path.{_≡_, refl, sym, ap, _∙_}
 use mathlib.Core.Bool.{Bool, true, false, not, _&&_, and-false}
 use mathlib.Core.List.{List, _++_}
 use Prim.Native.Nat.{ℕ, _+_, _≤_, _<_, min}
-use native.Mathlib.Nat.{zero-add, le-mul-of-pos-right}
+use native.Mathlib.Nat.{zero-add}
 use native.Mathlib.Omega.{arith}
 use lib.Dec.{eqb, leb, ltb}
 use lib.IntN.{ℤ}
@@ -17,10 +17,10 @@ use Rattle.format.specs.Descriptors.{sampleBytes, numberKind, isFloating, produ
 use Rattle.format.specs.Writer.{dataBytes, fileBytes, allInType, writable, writeRefusal}
 use Rattle.format.specs.Calls.{writeCall, writeAnswer}
 use Rattle.roundtrip.specs.RoundTrip.{headerBytes}
-use Rattle.writer.specs.Stored.{earlyRefusal, lateRefusal, answerOf, Ready}
-use Rattle.roundtrip.proofs.Names.{sample-bytes}
-use Rattle.writer.proofs.Runs.{sets-then}
-use Rattle.writer.proofs.Refuse.{early-11}
+use Rattle.words.proofs.Stores.{sets-then}
+use Rattle.writable.specs.Refused.{earlyRefusal, lateRefusal}
+use Rattle.writable.proofs.Refuse.{early-11}
+use Rattle.writer.specs.Stored.{answerOf}
 
 -- ---- the refusals
 
@@ -145,7 +145,3 @@ pub stored-front : (x l run : List ℕ) (n : ℕ) → x ≡ sets l 0 run → n �
 stored-front x l run n e q h =
     let k : 0 + length run ≤ length l = omega arith in
     ap (take n) (e ∙ sets-eq run l 0 k) ∙ take-at run (drop (0 + length run) l) n (sym q)
-
--- the samples are few
-pub few-samples : (version : ℕ) (sizes : List ℕ) (t e endian : ℕ) (zs : List ℤ) → Ready version sizes t e endian zs → length zs ≤ maxExtent
-few-samples version sizes t e endian zs r = omega (arith, r .extent-small, le-mul-of-pos-right (length zs) (sample-bytes t (r .numbers .type-in)))

@@ -6,22 +6,21 @@ ghost use mathlib.Core.Bool.{true};
 ghost use lib.ListN.{length};
 ghost use lib.Seq.{sets, slice};
 ghost use Rattle.format.specs.Writer.{hexText, textData, rawData, dataBytes};
-ghost use Rattle.writer.specs.Stored.{chosen, lowBytes, lateRefusal};
+ghost use Rattle.writable.specs.Refused.{chosen, lateRefusal};
+ghost use Rattle.writer.specs.Stored.{lowBytes};
 ghost use Rattle.words.specs.Widths.{Width};
-use crate::check;
-use crate::put;
-use crate::source;
 
 // How many bytes the samples take as text.
 fn text_length(samples: &[i64], lent: &[u8], packed: bool) -> usize
     requires { ⌜ length (chosen packed (now samples) (now lent)) ≤ 4294967295 ⌝ }
     ensures { λ r. ⌜ (r ≡ length (textData (chosen packed (now (samples .entry)) (now (lent .entry))))) × (r ≤ 22 * length (chosen packed (now (samples .entry)) (now (lent .entry)))) ⌝ }
 {
-    let n = source::count(samples, lent, packed);
+    let n = writable::source::count(samples, lent, packed);
     let mut total: usize = 0;
     let mut i: usize = 0;
     while i < n {
-        total += put::signed_length(source::bits_at(samples, lent, packed, i)) + 1;
+        total += store::samples::signed_length(writable::source::bits_at(samples, lent, packed, i))
+            + 1;
         i += 1;
     }
     total
@@ -33,11 +32,15 @@ fn put_text(out: &mut [u8], at: usize, samples: &[i64], lent: &[u8], packed: boo
     ensures place { λ r. ⌜ r ≡ at + length (textData (chosen packed (now (samples .entry)) (now (lent .entry)))) ⌝ }
     ensures stored { λ _. ⌜ now (out .exit) ≡ sets (now (out .entry)) at (textData (chosen packed (now (samples .entry)) (now (lent .entry)))) ⌝ }
 {
-    let n = source::count(samples, lent, packed);
+    let n = writable::source::count(samples, lent, packed);
     let mut o = at;
     let mut i: usize = 0;
     while i < n {
-        o = put::put_text_line(out, o, source::bits_at(samples, lent, packed, i));
+        o = store::samples::put_text_line(
+            out,
+            o,
+            writable::source::bits_at(samples, lent, packed, i),
+        );
         i += 1;
     }
     o
@@ -62,7 +65,13 @@ fn put_raw(
     let mut o = at;
     let mut i = from;
     while i < to {
-        o = put::put_word(out, o, source::bits_at(samples, lent, packed, i), w, endian);
+        o = store::bytes::put_word(
+            out,
+            o,
+            writable::source::bits_at(samples, lent, packed, i),
+            w,
+            endian,
+        );
         i += 1;
     }
     o
@@ -140,14 +149,14 @@ fn put_hex(
     ensures place { λ r. ⌜ r ≡ at + length (chosen packed (now (samples .entry)) (now (lent .entry))) * (2 * w) ⌝ }
     ensures stored { λ _. ⌜ now (out .exit) ≡ sets (now (out .entry)) at (hexText (flatMap (lowBytes w endian) (chosen packed (now (samples .entry)) (now (lent .entry))))) ⌝ }
 {
-    let n = source::count(samples, lent, packed);
+    let n = writable::source::count(samples, lent, packed);
     let mut part = [0u8; 2048];
     let mut o = at;
     let mut i: usize = 0;
     while i < n {
         let to = part_end(i, n);
         let used = put_sized(&mut part, 0, samples, lent, packed, i, to, w, endian);
-        o = put::put_hex_bytes(out, o, &part[..used]);
+        o = store::bytes::put_hex_bytes(out, o, &part[..used]);
         i = to;
     }
     o
@@ -162,7 +171,7 @@ fn data_length(samples: &[i64], lent: &[u8], packed: bool, encoding: u64, w: usi
     if encoding == 1 {
         return text_length(samples, lent, packed);
     }
-    let size = source::count(samples, lent, packed) * w;
+    let size = writable::source::count(samples, lent, packed) * w;
     if encoding == 0 {
         return size;
     }
@@ -175,7 +184,7 @@ fn any_text_fits(start: usize, n: usize, encoding: u64, room: usize) -> bool
     ensures { λ r. ⌜ (r ≡ true → (encoding ≡ 1) × (0 ≡ lateRefusal (start + 22 * n) room)) ⌝ }
 {
     if encoding == 1 {
-        return check::late_refusal(start + 22 * n, room) == 0;
+        return writable::check::late_refusal(start + 22 * n, room) == 0;
     }
     false
 }
@@ -194,10 +203,15 @@ pub(crate) fn file_refusal(
     requires { ⌜ length (textData (chosen packed (now samples) (now lent))) ≤ 22 * length (chosen packed (now samples) (now lent)) ⌝ }
     ensures { λ r. ⌜ ((endian : ℕ) → r ≡ lateRefusal (start + length (dataBytes encoding w endian (chosen packed (now (samples .entry)) (now (lent .entry))))) room) ⌝ }
 {
-    if any_text_fits(start, source::count(samples, lent, packed), encoding, room) {
+    if any_text_fits(
+        start,
+        writable::source::count(samples, lent, packed),
+        encoding,
+        room,
+    ) {
         return 0;
     }
-    check::late_refusal(
+    writable::check::late_refusal(
         start + data_length(samples, lent, packed, encoding, w),
         room,
     )
@@ -220,7 +234,7 @@ pub(crate) fn put_data(
     ensures stored { λ _. ⌜ now (out .exit) ≡ sets (now (out .entry)) at (dataBytes encoding w endian (chosen packed (now (samples .entry)) (now (lent .entry)))) ⌝ }
 {
     if encoding == 0 {
-        let n = source::count(samples, lent, packed);
+        let n = writable::source::count(samples, lent, packed);
         return put_sized(out, at, samples, lent, packed, 0, n, w, endian);
     }
     if encoding == 1 {

@@ -8,9 +8,8 @@ ghost use Rattle.format.specs.Bytes.{bytes};
 ghost use Rattle.format.specs.Descriptors.{typeAt, typeName, encodings, endianNeeded};
 ghost use Rattle.format.specs.Writer.{decimal, nameAt};
 ghost use Rattle.roundtrip.specs.RoundTrip.{headerBytes};
-ghost use Rattle.writer.specs.Stored.{valueLine, afterSpace, endianText, topText, restText, Numbers};
-use crate::check;
-use crate::put;
+ghost use Rattle.writable.specs.Refused.{Numbers};
+ghost use Rattle.writer.specs.Stored.{valueLine, afterSpace, endianText, topText, restText};
 
 // A name with its mark, a value, and LF.
 fn put_line(out: &mut [u8], at: usize, name: &[u8], value: &[u8]) -> usize
@@ -18,8 +17,8 @@ fn put_line(out: &mut [u8], at: usize, name: &[u8], value: &[u8]) -> usize
     ensures { λ r. ⌜ (r ≡ at + length (valueLine (now (name .entry)) (now (value .entry)))) × (now (out .exit) ≡ sets (now (out .entry)) at (valueLine (now (name .entry)) (now (value .entry)))) ⌝ }
     ensures long { λ r. ⌜ r ≡ at + length (now (name .entry)) + length (now (value .entry)) + 1 ⌝ }
 {
-    let a = put::put_bytes(out, at, name);
-    let e = put::put_bytes(out, a, value);
+    let a = store::bytes::put_bytes(out, at, name);
+    let e = store::bytes::put_bytes(out, a, value);
     out[e] = b'\n';
     e + 1
 }
@@ -30,8 +29,8 @@ fn put_number(out: &mut [u8], at: usize, name: &[u8], n: u64) -> usize
     ensures { λ r. ⌜ (r ≡ at + length (valueLine (now (name .entry)) (decimal n))) × (now (out .exit) ≡ sets (now (out .entry)) at (valueLine (now (name .entry)) (decimal n))) ⌝ }
     ensures long { λ r. ⌜ r ≤ at + length (now (name .entry)) + 21 ⌝ }
 {
-    let a = put::put_bytes(out, at, name);
-    let e = put::put_decimal(out, a, n);
+    let a = store::bytes::put_bytes(out, at, name);
+    let e = store::decimals::put_decimal(out, a, n);
     out[e] = b'\n';
     e + 1
 }
@@ -46,19 +45,11 @@ fn put_spaced(out: &mut [u8], at: usize, ns: &[u64]) -> usize
     let mut i: usize = 0;
     while i < ns.len() {
         out[o] = b' ';
-        o = put::put_decimal(out, o + 1, ns[i]);
+        o = store::decimals::put_decimal(out, o + 1, ns[i]);
         i += 1;
     }
     o
 }
-
-// The names of the types, 6 bytes each, and how many of these a name has.
-const NAMES: [u8; 60] = *b"int8  uint8 int16 uint16int32 uint32int64 uint64float double";
-
-const LENGTHS: [usize; 10] = [4, 5, 5, 6, 5, 6, 5, 6, 5, 6];
-
-// The names of the encodings, 3 bytes each.
-const ENCODINGS: [u8; 9] = *b"rawtxthex";
 
 // The line of the type.
 fn put_type(out: &mut [u8], at: usize, t: usize) -> usize
@@ -67,8 +58,8 @@ fn put_type(out: &mut [u8], at: usize, t: usize) -> usize
     ensures long { λ r. ⌜ r ≤ at + 13 ⌝ }
 {
     let a = 6 * t;
-    let e = a + LENGTHS[t];
-    put_line(out, at, b"type: ", &NAMES[a..e])
+    let e = a + store::names::LENGTHS[t];
+    put_line(out, at, b"type: ", &store::names::NAMES[a..e])
 }
 
 // The line of the encoding.
@@ -79,7 +70,7 @@ fn put_encoding(out: &mut [u8], at: usize, encoding: usize) -> usize
 {
     let a = 3 * encoding;
     let e = a + 3;
-    put_line(out, at, b"encoding: ", &ENCODINGS[a..e])
+    put_line(out, at, b"encoding: ", &store::names::ENCODINGS[a..e])
 }
 
 // Whether the order of a sample's bytes matters.
@@ -90,7 +81,7 @@ fn needs_endian(sampletype: u64, encoding: u64) -> bool
     if encoding == 1 {
         return false;
     }
-    1 < check::width_of(sampletype)
+    1 < writable::check::width_of(sampletype)
 }
 
 // The line of the endian, where it is needed.
@@ -114,7 +105,7 @@ fn put_sizes(out: &mut [u8], at: usize, sizes: &[u64]) -> usize
     ensures { λ r. ⌜ (r ≡ at + length (valueLine (bytes "sizes:") (flatMap afterSpace (now (sizes .entry))))) × (now (out .exit) ≡ sets (now (out .entry)) at (valueLine (bytes "sizes:") (flatMap afterSpace (now (sizes .entry))))) ⌝ }
     ensures long { λ r. ⌜ r ≤ at + 7 + 21 * length (now (sizes .entry)) ⌝ }
 {
-    let a = put::put_bytes(out, at, b"sizes:");
+    let a = store::bytes::put_bytes(out, at, b"sizes:");
     let e = put_spaced(out, a, sizes);
     out[e] = b'\n';
     e + 1

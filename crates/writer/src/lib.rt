@@ -5,13 +5,11 @@ ghost use Prim.Native.Nat.{ℕ};
 ghost use Rattle.format.specs.declared.WriteAnswer.{WriteAnswer};
 ghost use Rattle.format.specs.Boundary.{numbersOf, samplesLent};
 ghost use Rattle.format.specs.Calls.{writeCall};
-ghost use Rattle.writer.specs.Stored.{chosen, answerOf};
+ghost use Rattle.writable.specs.Refused.{chosen};
+ghost use Rattle.writer.specs.Stored.{answerOf};
 
 mod body;
-mod check;
 mod head;
-mod put;
-mod source;
 
 use format::Refusal;
 use format::WriteAnswer;
@@ -43,7 +41,7 @@ fn write_chosen(
 ) -> WriteAnswer
     ensures { λ r. ⌜ _≡_ {A = WriteAnswer × List ℕ} (r, now (out .exit)) (writeCall version (now (sizes .entry)) sampletype encoding endian (chosen packed (now (samples .entry)) (now (lent .entry))) (now (out .entry))) ⌝ }
 {
-    let early = check::early_refusal(
+    let early = writable::check::early_refusal(
         version,
         sizes,
         sampletype,
@@ -58,12 +56,12 @@ fn write_chosen(
     }
     let mut head = [0u8; 512];
     let start = head::put_header(&mut head, version, sizes, sampletype, encoding, endian);
-    let w = check::width_of(sampletype) as usize;
+    let w = writable::check::width_of(sampletype) as usize;
     let late = body::file_refusal(start, samples, lent, packed, encoding, w, out.len());
     if late != 0 {
         return answer(late, 0);
     }
-    put::put_bytes(out, 0, &head[..start]);
+    store::bytes::put_bytes(out, 0, &head[..start]);
     let end = body::put_data(out, start, samples, lent, packed, encoding, w, endian);
     answer(0, end)
 }

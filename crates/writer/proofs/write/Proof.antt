@@ -1,6 +1,6 @@
 -- `writer::write` meets its contract. Assumes nothing.
 use borrow.Author.Needs.{needs}
-use Rattle.writer.specs.Stored.{chosen}
+use Rattle.writable.specs.Refused.{chosen}
 use Rattle.writer.proofs.write.Statement.{statement}
 use Rattle.writer.proofs.write.Tie as tie
 

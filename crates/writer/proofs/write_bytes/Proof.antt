@@ -8,7 +8,7 @@ use lib.ListN.{length, take}
 use lib.Seq.{length-take-le}
 use Rattle.format.specs.Boundary.{numbersOf, samplesLent}
 use Rattle.words.proofs.Groups.{length-numbers}
-use Rattle.writer.specs.Stored.{chosen}
+use Rattle.writable.specs.Refused.{chosen}
 use Rattle.writer.proofs.Whole.{put-front, first-sizes}
 use Rattle.writer.proofs.write_bytes.Statement.{statement}
 use Rattle.writer.proofs.write_bytes.Tie as tie

@@ -9,9 +9,11 @@ use lib.ListN.{length, take}
 use Rattle.format.specs.Descriptors.{numberKind}
 use Rattle.format.specs.Writer.{allInType}
 use Rattle.roundtrip.specs.RoundTrip.{headerBytes}
-use Rattle.writer.specs.Stored.{chosen}
-use Rattle.writer.proofs.Samples.{low-data, text-bound, width-bounds}
-use Rattle.writer.proofs.Whole.{early-call, late-call, fits, full-call, stored-front, few-samples}
+use Rattle.writable.specs.Refused.{chosen}
+use Rattle.words.proofs.WidthLaws.{width-le}
+use Rattle.writer.proofs.Samples.{low-data, text-bound}
+use Rattle.writable.proofs.Refuse.{few-samples}
+use Rattle.writer.proofs.Whole.{early-call, late-call, fits, full-call, stored-front}
 use Rattle.writer.proofs.write_chosen.Statement.{statement}
 use Rattle.writer.proofs.write_chosen.Tie as tie
 
@@ -47,7 +49,7 @@ file-refusal-requires c κs =
     let w = c .width-of in
     let r = e .ensures .1 z in
     let t : allInType (numberKind (a .sampletype)) (w .result) zs ≡ true = rw (w .ensures .0) (r .in-type) in
-    ((h .ensures .1, few-samples (a .version) (now (a .sizes)) (a .sampletype) (a .encoding) (a .endian) zs r, omega (arith, r .extent-small, ap (λ (k : ℕ). length zs * k) (w .ensures .0))), text-bound (w .result) (width-bounds (w .result) (w .ensures .1) .1) (numberKind (a .sampletype)) zs t)
+    ((h .ensures .1, few-samples (a .version) (now (a .sizes)) (a .sampletype) (a .encoding) (a .endian) zs r, omega (arith, r .extent-small, ap (λ (k : ℕ). length zs * k) (w .ensures .0))), text-bound (w .result) (width-le (w .result) (w .ensures .1)) (numberKind (a .sampletype)) zs t)
 
 answer-requires-2 : tie.Need-answer-requires-2
 answer-requires-2 c κs = search needs
@@ -98,7 +100,7 @@ put-data-requires c κs =
     let k = fits (a .version) (now (a .sizes)) (a .sampletype) (a .encoding) (a .endian) zs (now (a .out)) (e .result) (e .ensures .0) z (h .result) (w .result) (h .ensures .0 .0) (w .ensures .0) (r .result) (r .ensures (a .endian)) (c .before .before .before .before .before .before .if2 .left) in
     let y = e .ensures .1 z in
     let t : allInType (numberKind (a .sampletype)) (w .result) zs ≡ true = rw (w .ensures .0) (y .in-type) in
-    ((w .ensures .1, y .numbers .endian-in, low-data (w .result) (width-bounds (w .result) (w .ensures .1) .1) (numberKind (a .sampletype)) (a .endian) zs t), omega (arith, k, c .before .before .before .put-bytes .kept .0))
+    ((w .ensures .1, y .numbers .endian-in, low-data (w .result) (width-le (w .result) (w .ensures .1)) (numberKind (a .sampletype)) (a .endian) zs t), omega (arith, k, c .before .before .before .put-bytes .kept .0))
 
 answer-requires-3 : tie.Need-answer-requires-3
 answer-requires-3 c κs = search needs

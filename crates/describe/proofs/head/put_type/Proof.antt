@@ -5,7 +5,7 @@ use Prim.Native.Nat.{_<_}
 use native.Mathlib.Omega.{arith}
 use mathlib.Core.Path.{ap}
 use Rattle.format.specs.Listing.{shown}
-use Rattle.writer.proofs.Header.{name-part, part-short, name-short}
+use Rattle.store.proofs.TypeNames.{name-part, part-short, name-short}
 use Rattle.describe.proofs.Printing.{printed-is, printed-more, printed-short}
 use Rattle.describe.proofs.Names.{type-past, type-short}
 use Rattle.describe.proofs.head.put_type.Statement.{statement}

@@ -3,7 +3,7 @@
 use borrow.Author.Needs.{needs}
 use native.Mathlib.Omega.{arith}
 use mathlib.Core.Path.{sym}
-use Rattle.writer.proofs.Digits.{decimal-one, decimal-more, length-more, at-most-20}
+use Rattle.store.proofs.Digits.{decimal-one, decimal-more, length-more, at-most-20}
 use Rattle.describe.proofs.Printing.{printed-then, printed-is, printed-short}
 use Prim.Native.Nat.{ℕ, _<_}
 use borrow.Fn.Kinds.{In}

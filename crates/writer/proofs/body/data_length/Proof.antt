@@ -5,7 +5,7 @@ use mathlib.Core.Path.{sym, ap, _∙_}
 use native.Mathlib.Omega.{arith}
 use denote.Ref.{now}
 use lib.ListN.{length}
-use Rattle.writer.specs.Stored.{chosen}
+use Rattle.writable.specs.Refused.{chosen}
 use Rattle.writer.proofs.Samples.{raw-is-long, text-is, hex-is-long}
 use Rattle.writer.proofs.body.data_length.Statement.{statement}
 use Rattle.writer.proofs.body.data_length.Tie as tie

@@ -6,7 +6,7 @@ use native.Mathlib.Omega.{arith}
 use denote.Ref.{now}
 use lib.ListN.{length}
 use Rattle.format.specs.Writer.{dataBytes}
-use Rattle.writer.specs.Stored.{chosen, lateRefusal}
+use Rattle.writable.specs.Refused.{chosen, lateRefusal}
 use Rattle.writer.proofs.Samples.{text-is}
 use Rattle.writer.proofs.Whole.{late-less}
 use Rattle.writer.proofs.body.file_refusal.Statement.{statement}

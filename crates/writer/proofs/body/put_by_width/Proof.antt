@@ -1,6 +1,6 @@
 -- `writer::body::put_by_width` meets its contract. Assumes nothing.
 use borrow.Author.Needs.{needs}
-use Rattle.writer.proofs.Samples.{is-eight}
+use Rattle.words.proofs.WidthLaws.{width-eight}
 use Rattle.writer.proofs.body.put_by_width.Statement.{statement}
 use Rattle.writer.proofs.body.put_by_width.Tie as tie
 
@@ -32,13 +32,13 @@ returns-3 : tie.Need-returns-3
 returns-3 c = rw (c .before .before .before .before .if3 .taken) (c .before .before .put-raw3 .ensures)
 
 put-raw-requires-4 : tie.Need-put-raw-requires-4
-put-raw-requires-4 c κs = (c .before .before .before .before .before .before .pre .1, c .before .before .before .before .before .before .pre .2, rw (is-eight (c .before .before .before .before .before .before .args .w) (c .before .before .before .before .before .before .pre .0) (c .before .before .before .if1 .left) (c .before .before .if2 .left) (c .before .if3 .left)) at (c .before .before .before .before .before .before .pre .3))
+put-raw-requires-4 c κs = (c .before .before .before .before .before .before .pre .1, c .before .before .before .before .before .before .pre .2, rw (width-eight (c .before .before .before .before .before .before .args .w) (c .before .before .before .if1 .left) (c .before .before .if2 .left) (c .before .if3 .left) (c .before .before .before .before .before .before .pre .0)) at (c .before .before .before .before .before .before .pre .3))
 
 same-length-4 : tie.Need-same-length-4
 same-length-4 c = search needs
 
 returns-4 : tie.Need-returns-4
-returns-4 c = rw (is-eight (c .before .before .before .before .before .before .before .before .before .args .w) (c .before .before .before .before .before .before .before .before .before .pre .0) (c .before .before .before .before .before .before .if1 .left) (c .before .before .before .before .before .if2 .left) (c .before .before .before .before .if3 .left)) (c .before .before .put-raw4 .ensures)
+returns-4 c = rw (width-eight (c .before .before .before .before .before .before .before .before .before .args .w) (c .before .before .before .before .before .before .if1 .left) (c .before .before .before .before .before .if2 .left) (c .before .before .before .before .if3 .left) (c .before .before .before .before .before .before .before .before .before .pre .0)) (c .before .before .put-raw4 .ensures)
 
 pub put-by-width-spec : {M : Type 1} → statement M
 put-by-width-spec =

@@ -10,8 +10,9 @@ use lib.ListN.{length, set, take}
 use lib.Seq.{sets, take-length}
 use Rattle.format.specs.Bytes.{LF}
 use Rattle.format.specs.Writer.{hexText}
-use Rattle.writer.specs.Stored.{chosen, lowBytes}
-use Rattle.writer.proofs.Runs.{sets-then}
+use Rattle.writable.specs.Refused.{chosen}
+use Rattle.writer.specs.Stored.{lowBytes}
+use Rattle.words.proofs.Stores.{sets-then}
 use Rattle.writer.proofs.Samples.{raw-is, raw-is-long, text-is, hex-is, hex-is-long, hex-whole, twice}
 use Rattle.writer.proofs.body.put_data.Statement.{statement}
 use Rattle.writer.proofs.body.put_data.Tie as tie

@@ -8,9 +8,13 @@ use denote.Ref.{now}
 use lib.ListN.{length, take, drop}
 use lib.Seq.{slice}
 use Rattle.format.specs.Writer.{hexText}
-use Rattle.writer.specs.Stored.{chosen, lowBytes}
-use Rattle.writer.proofs.Runs.{Putting, putting-none, putting-room, putting-more, putting-done, putting-end, flat-over}
-use Rattle.writer.proofs.Samples.{width-bounds, part-room, part-length, hex-parts, hex-length, hex-whole}
+use Rattle.writable.specs.Refused.{chosen}
+use Rattle.writer.specs.Stored.{lowBytes}
+use Rattle.store.proofs.Runs.{Putting, putting-none, putting-room, putting-more, putting-done, putting-end}
+use Rattle.writer.proofs.Parts.{flat-over}
+use Rattle.words.proofs.WidthLaws.{width-le}
+use Rattle.store.proofs.HexLaws.{hex-length}
+use Rattle.writer.proofs.Samples.{part-room, part-length, hex-parts, hex-whole}
 use Rattle.writer.proofs.Whole.{stored-front}
 use Rattle.writer.proofs.body.put_hex.Statement.{statement}
 use Rattle.writer.proofs.body.put_hex.Tie as tie
@@ -43,14 +47,14 @@ put-sized-requires c κs =
     let i = c .before .before .before .loop .i in
     let to = c .before .part-end .result in
     let h = c .before .part-end .ensures in
-    (c .before .before .before .before .before .before .before .pre .0, omega arith, omega (arith, c .before .before .before .before .count .ensures), omega (arith, c .before .before .before .loop .inv .2, part-room (a .w) i to (width-bounds (a .w) (c .before .before .before .before .before .before .before .pre .0) .1) (h .2)), c .before .before .before .before .before .before .before .pre .2)
+    (c .before .before .before .before .before .before .before .pre .0, omega arith, omega (arith, c .before .before .before .before .count .ensures), omega (arith, c .before .before .before .loop .inv .2, part-room (a .w) i to (width-le (a .w) (c .before .before .before .before .before .before .before .pre .0)) (h .2)), c .before .before .before .before .before .before .before .pre .2)
 
 array-share-prefix-part : tie.Need-array-share-prefix-part Inv-loop μ-loop
 array-share-prefix-part c =
     let a = c .before .before .before .before .before .before .before .before .before .before .args in
     let i = c .before .before .before .before .before .before .loop .i in
     let to = c .before .before .before .before .part-end .result in
-    omega (arith, c .before .before .put-sized .ensures .0, part-room (a .w) i to (width-bounds (a .w) (c .before .before .before .before .before .before .before .before .before .before .pre .0) .1) (c .before .before .before .before .part-end .ensures .2))
+    omega (arith, c .before .before .put-sized .ensures .0, part-room (a .w) i to (width-le (a .w) (c .before .before .before .before .before .before .before .before .before .before .pre .0)) (c .before .before .before .before .part-end .ensures .2))
 
 slice-aggregate-put-hex-bytes : tie.Need-slice-aggregate-put-hex-bytes Inv-loop μ-loop
 slice-aggregate-put-hex-bytes c =
@@ -63,7 +67,7 @@ slice-aggregate-put-hex-bytes c =
     let m : to ≤ length zs = omega (arith, c .before .before .before .before .before .before .before .before .count .ensures) in
     let p = c .before .before .before .put-sized in
     let r : p .result ≡ length (flatMap f (slice (l .i) to zs)) = omega (arith, p .ensures .0, part-length (a .w) (a .endian) (l .i) to zs m) in
-    let n : p .result ≤ 2048 = omega (arith, p .ensures .0, part-room (a .w) (l .i) to (width-bounds (a .w) (c .before .before .before .before .before .before .before .before .before .before .before .pre .0) .1) (h .2)) in
+    let n : p .result ≤ 2048 = omega (arith, p .ensures .0, part-room (a .w) (l .i) to (width-le (a .w) (c .before .before .before .before .before .before .before .before .before .before .before .pre .0)) (h .2)) in
     let s : take (p .result) (p .last .0) ≡ flatMap f (slice (l .i) to zs) = stored-front (p .last .0) (l .part) (flatMap f (slice (l .i) to zs)) (p .result) (p .ensures .1) r (omega (arith, l .inv .2)) in
     rw s r
 
@@ -78,7 +82,7 @@ put-hex-bytes-requires c κs =
     let m : to ≤ length zs = omega (arith, c .before .before .before .before .before .before .before .before .count .ensures) in
     let p = c .before .before .before .put-sized in
     let r : p .result ≡ length (flatMap f (slice (l .i) to zs)) = omega (arith, p .ensures .0, part-length (a .w) (a .endian) (l .i) to zs m) in
-    let n : p .result ≤ 2048 = omega (arith, p .ensures .0, part-room (a .w) (l .i) to (width-bounds (a .w) (c .before .before .before .before .before .before .before .before .before .before .before .pre .0) .1) (h .2)) in
+    let n : p .result ≤ 2048 = omega (arith, p .ensures .0, part-room (a .w) (l .i) to (width-le (a .w) (c .before .before .before .before .before .before .before .before .before .before .before .pre .0)) (h .2)) in
     let s : take (p .result) (p .last .0) ≡ flatMap f (slice (l .i) to zs) = stored-front (p .last .0) (l .part) (flatMap f (slice (l .i) to zs)) (p .result) (p .ensures .1) r (omega (arith, l .inv .2)) in
     let k = putting-room (l .inv .0) (hexText (flatMap f (slice (l .i) to zs))) (hexText (flatMap f (drop to zs))) (hex-parts f zs (l .i) to (omega (arith, h .0)) m) in
     rw s (omega (arith, l .inv .0 .long, c .before .before .before .before .before .before .before .before .before .before .before .pre .1, k, hex-length (flatMap f (slice (l .i) to zs)), hex-whole (a .w) (a .endian) zs))
@@ -97,7 +101,7 @@ loop-again c =
     let m : to ≤ length zs = omega (arith, c .before .before .before .before .before .before .before .before .before .before .before .count .ensures) in
     let p = c .before .before .before .before .before .before .put-sized in
     let r : p .result ≡ length (flatMap f (slice (l .i) to zs)) = omega (arith, p .ensures .0, part-length (a .w) (a .endian) (l .i) to zs m) in
-    let n : p .result ≤ 2048 = omega (arith, p .ensures .0, part-room (a .w) (l .i) to (width-bounds (a .w) (c .before .before .before .before .before .before .before .before .before .before .before .before .before .before .pre .0) .1) (h .2)) in
+    let n : p .result ≤ 2048 = omega (arith, p .ensures .0, part-room (a .w) (l .i) to (width-le (a .w) (c .before .before .before .before .before .before .before .before .before .before .before .before .before .before .pre .0)) (h .2)) in
     let s : take (p .result) (p .last .0) ≡ flatMap f (slice (l .i) to zs) = stored-front (p .last .0) (l .part) (flatMap f (slice (l .i) to zs)) (p .result) (p .ensures .1) r (omega (arith, l .inv .2)) in
     let q = c .before .before .put-hex-bytes in (
       putting-more (l .inv .0) (hexText (flatMap f (slice (l .i) to zs))) (hexText (flatMap f (drop to zs))) (hex-parts f zs (l .i) to (omega (arith, h .0)) m) _ _

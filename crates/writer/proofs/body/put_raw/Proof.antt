@@ -8,10 +8,12 @@ use denote.Ref.{now}
 use lib.IntN.{pos}
 use lib.ListN.{getD}
 use lib.Seq.{sets, slice}
-use Rattle.writer.specs.Stored.{chosen, lowBytes}
-use Rattle.writer.proofs.Runs.{Putting, putting-none, putting-room, putting-more, putting-done, putting-end, part-next, part-over}
+use Rattle.writable.specs.Refused.{chosen}
+use Rattle.writer.specs.Stored.{lowBytes}
+use Rattle.store.proofs.Runs.{Putting, putting-none, putting-room, putting-more, putting-done, putting-end}
+use Rattle.writer.proofs.Parts.{part-next, part-over}
 use Rattle.writer.proofs.Samples.{low-size, part-length}
-use Rattle.writer.proofs.Signs.{bits-low}
+use Rattle.writer.proofs.Samples.{bits-low}
 use Rattle.writer.proofs.body.put_raw.Statement.{statement}
 use Rattle.writer.proofs.body.put_raw.Tie as tie
 

@@ -7,8 +7,10 @@ use denote.Ref.{now}
 use lib.IntN.{pos}
 use lib.ListN.{length, getD, drop}
 use Rattle.format.specs.Writer.{textData}
-use Rattle.writer.specs.Stored.{chosen, textLine}
-use Rattle.writer.proofs.Runs.{Putting, putting-none, putting-room, putting-more, putting-done, putting-end, flat-next, flat-over}
+use Rattle.store.specs.Stored.{textLine}
+use Rattle.writable.specs.Refused.{chosen}
+use Rattle.store.proofs.Runs.{Putting, putting-none, putting-room, putting-more, putting-done, putting-end}
+use Rattle.writer.proofs.Parts.{flat-next, flat-over}
 use Rattle.writer.proofs.Samples.{flat-text}
 use Rattle.writer.proofs.body.put_text.Statement.{statement}
 use Rattle.writer.proofs.body.put_text.Tie as tie

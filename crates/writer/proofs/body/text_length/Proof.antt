@@ -7,9 +7,11 @@ use native.Mathlib.Omega.{arith}
 use denote.Ref.{now}
 use lib.IntN.{pos}
 use lib.ListN.{length, getD, drop}
-use Rattle.writer.specs.Stored.{chosen, textLine}
-use Rattle.writer.proofs.Runs.{flat-next-length, flat-over}
-use Rattle.writer.proofs.Samples.{flat-text, line-length}
+use Rattle.store.specs.Stored.{textLine}
+use Rattle.writable.specs.Refused.{chosen}
+use Rattle.writer.proofs.Parts.{flat-next-length, flat-over}
+use Rattle.store.proofs.Signs.{line-length}
+use Rattle.writer.proofs.Samples.{flat-text}
 use Rattle.writer.proofs.body.text_length.Statement.{statement}
 use Rattle.writer.proofs.body.text_length.Tie as tie
 

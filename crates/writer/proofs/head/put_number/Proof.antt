@@ -8,7 +8,7 @@ use denote.Ref.{now}
 use lib.ListN.{set, length-set}
 use lib.Seq.{sets}
 use Rattle.format.specs.Writer.{decimal}
-use Rattle.writer.proofs.Digits.{at-most-20}
+use Rattle.store.proofs.Digits.{at-most-20}
 use Rattle.writer.proofs.Header.{value-length, value-stored}
 use Rattle.writer.proofs.head.put_number.Statement.{statement}
 use Rattle.writer.proofs.head.put_number.Tie as tie

@@ -1,7 +1,7 @@
 -- `writer::head::put_type` meets its contract. Assumes nothing.
 use borrow.Author.Needs.{needs}
 use native.Mathlib.Omega.{arith}
-use Rattle.writer.proofs.Header.{name-part, part-short, name-short}
+use Rattle.store.proofs.TypeNames.{name-part, part-short, name-short}
 use Rattle.writer.proofs.head.put_type.Statement.{statement}
 use Rattle.writer.proofs.head.put_type.Tie as tie
 

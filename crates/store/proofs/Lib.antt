@@ -1,0 +1,5 @@
+pub mod Runs
+pub mod Digits
+pub mod Signs
+pub mod HexLaws
+pub mod TypeNames

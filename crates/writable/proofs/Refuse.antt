@@ -1,0 +1,190 @@
+-- Laws of the refusals: the tests of the numbers, the capped product, and the samples in range.
+-- Assumes nothing.
+use mathlib.Core.Path.{_≡_, refl, sym, ap, _∙_}
+use mathlib.Core.Bool.{Bool, true, false, _&&_, _||_, not, and-assoc}
+use mathlib.Core.List.{List, [], _∷_}
+use Prim.Native.Nat.{ℕ, zero, suc, _+_, _*_, _≤_, _<_, min}
+use native.Mathlib.Nat.{mul-le-mul, mul-assoc, mul-comm, zero-mul, mul-zero, le-mul-of-pos-right}
+use native.Mathlib.Numerals.{add-one}
+use native.Mathlib.Omega.{arith}
+use lib.Dec.{eqb, ltb, leb, lit≤}
+use lib.IntN.{ℤ, pos, negsuc}
+use lib.ListN.{length, getD, drop, drop-of-length-le}
+use lib.Seq.{drop-cons}
+use borrow.Author.Tests.{ltb-true, ltb-false, lt-ltb, le-ltb, le-leb, lt-leb, eq-eqb, ne-eqb}
+use Rattle.format.specs.Bytes.{if_then_else_, isIn}
+use Rattle.format.specs.Limits.{maxExtent}
+use Rattle.format.specs.Descriptors.{NumberKind, typeAt, sampleBytes, numberKind, isFloating, product, extent}
+use Rattle.format.specs.Samples.{inType, lowest, highest}
+use Rattle.format.specs.Writer.{allInType, writable}
+use Rattle.writable.specs.Refused.{inRange, allInRange, earlyRefusal, Numbers, Ready}
+use Rattle.words.proofs.TypeLaws.{below-10}
+
+-- ---- a 0 among the numbers
+
+module _ (ns : List ℕ) (i : ℕ) where
+  module _ (h : i < length ns) where
+    zero-next : isIn 0 (drop i ns) ≡ (eqb 0 (getD ns i 0) || isIn 0 (drop (i + 1) ns))
+    unfolding isIn
+    zero-next = rw (add-one i, drop-cons ns i 0 h)
+
+    pub zero-found : getD ns i 0 ≡ 0 → isIn 0 (drop i ns) ≡ true
+    zero-found e = zero-next ∙ ap (λ (n : ℕ). eqb 0 n || isIn 0 (drop (i + 1) ns)) e
+
+    pub zero-passed : (getD ns i 0 ≡ 0 → ⊥) → isIn 0 (drop i ns) ≡ isIn 0 (drop (i + 1) ns)
+    zero-passed n = zero-next ∙ rw (ne-eqb 0 (getD ns i 0) (λ e. n (sym e)))
+
+  pub zero-none : length ns ≤ i → isIn 0 (drop i ns) ≡ false
+  unfolding isIn
+  zero-none h = ap (isIn 0) (drop-of-length-le ns h)
+
+-- ---- products that stop at 2 to the 32
+
+abbrev top : ℕ
+top = 4294967296
+
+-- a factor above the top, or a product
+pub times-fits : (x y : ℕ) → x ≤ 4294967296 → y < 4294967296 → x * y < 18446744073709551616
+times-fits x y h l =
+    let k : y ≤ 4294967295 = omega arith in
+    omega (arith, mul-le-mul h k)
+
+pub times-none : (x y : ℕ) → x ≡ 0 → 0 ≡ min (x * y) 4294967296
+times-none x y e = omega (arith, ap (λ (k : ℕ). k * y) e, zero-mul y)
+
+pub times-over : (x y : ℕ) → (x ≡ 0 → ⊥) → 4294967296 ≤ y → 4294967296 ≡ min (x * y) 4294967296
+times-over x y n h =
+    let p : 1 ≤ x = omega arith in
+    omega (arith, le-mul-of-pos-right y p, mul-comm x y)
+
+-- to stop early changes nothing
+pub capped : (a b : ℕ) → min (min a 4294967296 * b) 4294967296 ≡ min (a * b) 4294967296
+capped a zero = rw (mul-zero a, mul-zero (min a 4294967296))
+capped a (suc b) = go (ltb a top) refl
+  where
+    go : (t : Bool) → ltb a top ≡ t → min (min a top * suc b) top ≡ min (a * suc b) top
+    go true q =
+        let e : min a top ≡ a = omega (arith, ltb-true a top q) in
+        rw e
+    go false q =
+        let l : top ≤ a = ltb-false a top q in
+        let e : min a top ≡ top = omega arith in
+        let p : 1 ≤ suc b = omega arith in
+        rw e (omega (arith, le-mul-of-pos-right top p, le-mul-of-pos-right a p))
+
+module _ (ns : List ℕ) (i : ℕ) where
+  pub product-next : (x x′ : ℕ) → i < length ns → x′ ≡ min (x * getD ns i 0) 4294967296
+      → min (x′ * product (drop (i + 1) ns)) 4294967296 ≡ min (x * product (drop i ns)) 4294967296
+  unfolding product
+  product-next x x′ h e =
+      let n : ℕ = getD ns i 0 in
+      let r : ℕ = product (drop (i + 1) ns) in
+      let s : product (drop i ns) ≡ n * r = rw (add-one i, drop-cons ns i 0 h) in
+      ap (λ (k : ℕ). min (k * r) 4294967296) e ∙ capped (x * n) r ∙ ap (λ (k : ℕ). min k 4294967296) (mul-assoc x n r ∙ ap (λ (k : ℕ). x * k) (sym s))
+
+  pub product-end : (x : ℕ) → length ns ≤ i → x * product (drop i ns) ≡ x
+  unfolding product
+  product-end x h = ap (λ (l : List ℕ). x * product l) (drop-of-length-le ns h) ∙ omega arith
+
+-- ---- samples in a range
+
+module _ (low high : ℕ) (zs : List ℤ) (i : ℕ) where
+  pub range-next : (fine one : Bool) → i < length zs → one ≡ inRange low high (getD zs i (pos 0)) → allInRange low high zs ≡ (fine && allInRange low high (drop i zs))
+      → allInRange low high zs ≡ ((fine && one) && allInRange low high (drop (i + 1) zs))
+  unfolding allInRange
+  range-next fine one h e p =
+      let s : allInRange low high (drop i zs) ≡ (one && allInRange low high (drop (i + 1) zs)) = rw (e, add-one i, drop-cons zs i (pos 0) h) in
+      p ∙ ap (λ (b : Bool). fine && b) s ∙ sym (and-assoc fine one (allInRange low high (drop (i + 1) zs)))
+
+  pub range-end : length zs ≤ i → allInRange low high (drop i zs) ≡ true
+  unfolding allInRange
+  range-end h = ap (allInRange low high) (drop-of-length-le zs h)
+
+-- ---- the range of a type
+
+range-is : (k : NumberKind) (w : ℕ) (z : ℤ) → inRange (lowest k w) (highest k w) z ≡ inType k w z
+unfolding inType
+range-is k w (pos n) = refl
+range-is k w (negsuc n) = refl
+
+pub all-in-range : (k : NumberKind) (w : ℕ) (zs : List ℤ) → allInRange (lowest k w) (highest k w) zs ≡ allInType k w zs
+unfolding allInRange allInType
+all-in-range k w [] = refl
+all-in-range k w (z ∷ zs) = rw (range-is k w z, all-in-range k w zs)
+
+-- ---- the types
+
+-- a sample has a byte or more
+sample-bytes : (t : ℕ) → t < 10 → 1 ≤ sampleBytes t
+unfolding typeAt
+sample-bytes = below-10 (λ t. 1 ≤ sampleBytes t) (lit≤ tt) (lit≤ tt) (lit≤ tt) (lit≤ tt) (lit≤ tt) (lit≤ tt) (lit≤ tt) (lit≤ tt) (lit≤ tt) (lit≤ tt)
+
+-- the types from 8 on are the floating ones
+floating-is : (t : ℕ) → t < 10 → isFloating (numberKind t) ≡ leb 8 t
+unfolding typeAt
+floating-is = below-10 (λ t. isFloating (numberKind t) ≡ leb 8 t) refl refl refl refl refl refl refl refl refl refl
+
+-- ---- the early refusals, from what the code knows where it returns each
+
+pub early-11 : (version : ℕ) (sizes : List ℕ) (t e endian : ℕ) (zs : List ℤ) (b : Bool) → b ≡ writable version sizes t e endian → b ≡ false → 11 ≡ earlyRefusal version sizes t e endian zs
+unfolding earlyRefusal
+early-11 version sizes t e endian zs b eb q = rw (sym eb, q)
+
+module _ {version : ℕ} {sizes : List ℕ} {t e endian : ℕ} (zs : List ℤ) where
+  module _ {b : Bool} (eb : b ≡ writable version sizes t e endian) (yes : b ≡ true) (known : Numbers version sizes t e endian) {n m w x : ℕ}
+      (en : n ≡ min (product sizes) 4294967296) (em : m ≡ length zs) (ew : w ≡ sampleBytes t) (ex : x ≡ min (n * w) 4294967296) where
+    ok : writable version sizes t e endian ≡ true
+    ok = sym eb ∙ yes
+
+    size : x ≡ min (extent sizes t) 4294967296
+    size = ex ∙ ap (λ (k : ℕ). min (k * w) 4294967296) en ∙ ap (λ (k : ℕ). min (min (product sizes) 4294967296 * k) 4294967296) ew ∙ capped (product sizes) (sampleBytes t)
+
+    pub early-15 : maxExtent < x → 15 ≡ earlyRefusal version sizes t e endian zs
+    unfolding earlyRefusal
+    early-15 h = rw (ok, lt-ltb maxExtent (extent sizes t) (omega (arith, size)))
+
+    module _ (small : x ≤ maxExtent) where
+      within : extent sizes t ≤ maxExtent
+      within = omega (arith, size)
+
+      pub early-19 : 8 ≤ t → 19 ≡ earlyRefusal version sizes t e endian zs
+      unfolding earlyRefusal
+      early-19 h = rw (ok, le-ltb maxExtent (extent sizes t) within, floating-is t (known .type-in), le-leb 8 t h)
+
+      module _ (integer : t < 8) where
+        exact : n ≡ product sizes
+        exact = omega (arith, en, within, le-mul-of-pos-right (product sizes) (sample-bytes t (known .type-in)))
+
+        pub early-27 : (m ≡ n → ⊥) → 27 ≡ earlyRefusal version sizes t e endian zs
+        unfolding earlyRefusal
+        early-27 h =
+            rw (ok, le-ltb maxExtent (extent sizes t) within, floating-is t (known .type-in), lt-leb 8 t integer, ne-eqb (length zs) (product sizes) (λ q. h (em ∙ q ∙ sym exact)))
+
+        module _ (count : m ≡ n) {low high : ℕ} (el : low ≡ lowest (numberKind t) (sampleBytes t)) (eh : high ≡ highest (numberKind t) (sampleBytes t))
+            {fine : Bool} (ef : fine ≡ allInRange low high zs) where
+          all-is : allInType (numberKind t) (sampleBytes t) zs ≡ fine
+          all-is = sym (ef ∙ ap (λ (k : ℕ). allInRange k high zs) el ∙ ap (λ (k : ℕ). allInRange (lowest (numberKind t) (sampleBytes t)) k zs) eh ∙ all-in-range (numberKind t) (sampleBytes t) zs)
+
+          tests : earlyRefusal version sizes t e endian zs ≡ (if not fine then 20 else 0)
+          unfolding earlyRefusal
+          tests =
+              rw (ok, le-ltb maxExtent (extent sizes t) within, floating-is t (known .type-in), lt-leb 8 t integer, eq-eqb (length zs) (product sizes) (sym em ∙ count ∙ exact), all-is)
+
+          pub early-20 : fine ≡ false → 20 ≡ earlyRefusal version sizes t e endian zs
+          early-20 h = sym (tests ∙ ap (λ (b : Bool). if not b then 20 else 0) h)
+
+          pub early-0 : fine ≡ true → 0 ≡ earlyRefusal version sizes t e endian zs
+          early-0 h = sym (tests ∙ ap (λ (b : Bool). if not b then 20 else 0) h)
+
+          pub ready : fine ≡ true → Ready version sizes t e endian zs
+          ready h = record {
+            numbers = known;
+            extent-small = omega (arith, ap (λ (k : ℕ). k * sampleBytes t) (sym em ∙ count ∙ exact), within);
+            in-type = all-is ∙ h;
+          }
+
+-- ---- what is known where none is met
+
+-- the samples are few
+pub few-samples : (version : ℕ) (sizes : List ℕ) (t e endian : ℕ) (zs : List ℤ) → Ready version sizes t e endian zs → length zs ≤ maxExtent
+few-samples version sizes t e endian zs r = omega (arith, r .extent-small, le-mul-of-pos-right (length zs) (sample-bytes t (r .numbers .type-in)))

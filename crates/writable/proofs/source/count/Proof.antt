@@ -1,0 +1,18 @@
+-- `writable::source::count` meets its contract. Assumes nothing.
+use mathlib.Core.Path.{sym}
+use denote.Ref.{now}
+use Rattle.words.proofs.Groups.{length-samples}
+use Rattle.writable.specs.Refused.{chosen}
+use Rattle.writable.proofs.source.count.Statement.{statement}
+use Rattle.writable.proofs.source.count.Tie as tie
+
+returns : tie.Need-returns
+unfolding chosen
+returns c = rw (c .if1 .taken) (sym (length-samples (now (c .before .args .lent))))
+
+returns-2 : tie.Need-returns-2
+unfolding chosen
+returns-2 c = rw (c .if1 .left)
+
+pub count-spec : {M : Type 1} → statement M
+count-spec = tie.close (tie.spec returns returns-2)

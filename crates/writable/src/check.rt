@@ -1,0 +1,213 @@
+// What the writer refuses.
+ghost use mathlib.Core.Path.{_≡_};
+ghost use mathlib.Core.Bool.{true};
+ghost use Prim.Native.Nat.{_*_, _≤_, _<_, min};
+ghost use Rattle.format.specs.Bytes.{isIn};
+ghost use Rattle.format.specs.Descriptors.{product, sampleBytes, numberKind};
+ghost use Rattle.format.specs.Samples.{lowest, highest, toSigned};
+ghost use Rattle.format.specs.Writer.{writable};
+ghost use Rattle.writable.specs.Refused.{chosen, inRange, allInRange, earlyRefusal, lateRefusal, Numbers, Ready};
+ghost use Rattle.words.specs.Widths.{Width};
+use crate::source;
+
+// Whether one of the numbers is 0.
+fn has_zero(ns: &[u64]) -> bool
+    ensures { λ r. ⌜ r ≡ isIn 0 (now (ns .entry)) ⌝ }
+{
+    let mut i: usize = 0;
+    while i < ns.len() {
+        if ns[i] == 0 {
+            return true;
+        }
+        i += 1;
+    }
+    false
+}
+
+// Whether version, type, encoding, endian and sizes can be written (refusal 11).
+fn is_writable(version: u64, sizes: &[u64], sampletype: u64, encoding: u64, endian: u64) -> bool
+    ensures is { λ r. ⌜ r ≡ writable version (now (sizes .entry)) sampletype encoding endian ⌝ }
+    ensures known { λ r. ⌜ (r ≡ true → Numbers version (now (sizes .entry)) sampletype encoding endian) ⌝ }
+{
+    if version < 1 {
+        return false;
+    }
+    if format::MAX_VERSION < version {
+        return false;
+    }
+    if 10 <= sampletype {
+        return false;
+    }
+    if 3 <= encoding {
+        return false;
+    }
+    if 2 <= endian {
+        return false;
+    }
+    if sizes.len() < 1 {
+        return false;
+    }
+    if 16 < sizes.len() {
+        return false;
+    }
+    !has_zero(sizes)
+}
+
+// x, or 2 to the 32 for all that are above it.
+fn cap(x: u64) -> u64
+    ensures { λ r. ⌜ r ≡ min x 4294967296 ⌝ }
+{
+    if x < 4294967296 { x } else { 4294967296 }
+}
+
+// A product, or 2 to the 32 for all that are above it.
+fn times(x: u64, y: u64) -> u64
+    requires { ⌜ x ≤ 4294967296 ⌝ }
+    ensures { λ r. ⌜ r ≡ min (x * y) 4294967296 ⌝ }
+{
+    if y < 4294967296 {
+        return cap(x * y);
+    }
+    if x == 0 {
+        return 0;
+    }
+    4294967296
+}
+
+// The product of the numbers, or 2 to the 32 for all that are above it.
+fn product(ns: &[u64]) -> u64
+    ensures { λ r. ⌜ r ≡ min (product (now (ns .entry))) 4294967296 ⌝ }
+{
+    let mut x: u64 = 1;
+    let mut i: usize = 0;
+    while i < ns.len() {
+        x = times(x, ns[i]);
+        i += 1;
+    }
+    x
+}
+
+// Whether the sample of the bits x lies from -low to high. The range of every type begins and ends so that one test does.
+fn in_range(x: u64, low: u64, high: u64) -> bool
+    requires { ⌜ (low ≤ 9223372036854775808) × (high < 9223372036854775808) ⌝ }
+    ensures { λ r. ⌜ r ≡ inRange low high (toSigned 8 x) ⌝ }
+{
+    std::num::wrapping_add_u64(x, low) <= low + high
+}
+
+// Whether all samples do. There is no early exit.
+fn all_in_range(samples: &[i64], lent: &[u8], packed: bool, low: u64, high: u64) -> bool
+    requires { ⌜ (low ≤ 9223372036854775808) × (high < 9223372036854775808) ⌝ }
+    ensures { λ r. ⌜ r ≡ allInRange low high (chosen packed (now (samples .entry)) (now (lent .entry))) ⌝ }
+{
+    let n = source::count(samples, lent, packed);
+    let mut fine = true;
+    let mut i: usize = 0;
+    while i < n {
+        fine = fine & in_range(source::bits_at(samples, lent, packed, i), low, high);
+        i += 1;
+    }
+    fine
+}
+
+// The bytes of a sample of each type.
+const WIDTHS: [u64; 10] = [1, 1, 2, 2, 4, 4, 8, 8, 4, 8];
+
+// The least value of each type, without its sign.
+const LOWEST: [u64; 10] = [
+    128,
+    0,
+    32768,
+    0,
+    2147483648,
+    0,
+    9223372036854775808,
+    0,
+    0,
+    0,
+];
+
+// The greatest value of each type.
+const HIGHEST: [u64; 10] = [
+    127,
+    255,
+    32767,
+    65535,
+    2147483647,
+    4294967295,
+    9223372036854775807,
+    9223372036854775807,
+    0,
+    0,
+];
+
+// The bytes of a sample.
+pub fn width_of(t: u64) -> u64
+    requires { ⌜ t < 10 ⌝ }
+    ensures { λ r. ⌜ (r ≡ sampleBytes t) × Width r ⌝ }
+{
+    WIDTHS[t as usize]
+}
+
+fn lowest_of(t: u64) -> u64
+    requires { ⌜ t < 10 ⌝ }
+    ensures { λ r. ⌜ (r ≡ lowest (numberKind t) (sampleBytes t)) × (r ≤ 9223372036854775808) ⌝ }
+{
+    LOWEST[t as usize]
+}
+
+fn highest_of(t: u64) -> u64
+    requires { ⌜ t < 10 ⌝ }
+    ensures { λ r. ⌜ (r ≡ highest (numberKind t) (sampleBytes t)) × (r < 9223372036854775808) ⌝ }
+{
+    HIGHEST[t as usize]
+}
+
+// The first refusal that the samples and their numbers meet, before the file's length is known; 0 where there is none.
+pub fn early_refusal(
+    version: u64,
+    sizes: &[u64],
+    sampletype: u64,
+    encoding: u64,
+    endian: u64,
+    samples: &[i64],
+    lent: &[u8],
+    packed: bool,
+) -> u32
+    ensures is { λ r. ⌜ r ≡ earlyRefusal version (now (sizes .entry)) sampletype encoding endian (chosen packed (now (samples .entry)) (now (lent .entry))) ⌝ }
+    ensures known { λ r. ⌜ (r ≡ 0 → Ready version (now (sizes .entry)) sampletype encoding endian (chosen packed (now (samples .entry)) (now (lent .entry)))) ⌝ }
+{
+    if !is_writable(version, sizes, sampletype, encoding, endian) {
+        return format::BAD_DESCRIPTOR;
+    }
+    let n = product(sizes);
+    let count = source::count(samples, lent, packed) as u64;
+    if format::MAX_EXTENT < times(n, width_of(sampletype)) {
+        return format::EXTENT_TOO_LARGE;
+    }
+    if 8 <= sampletype {
+        return format::FLOAT_SAMPLES;
+    }
+    if count != n {
+        return format::WRONG_COUNT;
+    }
+    let low = lowest_of(sampletype);
+    let high = highest_of(sampletype);
+    if !all_in_range(samples, lent, packed, low, high) {
+        return format::BAD_SAMPLE;
+    }
+    0
+}
+
+// The refusal of a file of `total` bytes in a buffer of `room` bytes; 0 where there is none.
+pub fn late_refusal(total: usize, room: usize) -> u32
+    ensures { λ r. ⌜ r ≡ lateRefusal total room ⌝ }
+{
+    if format::MAX_FILE < total {
+        return format::FILE_TOO_LONG;
+    }
+    if room < total {
+        return format::LENT_TOO_SHORT;
+    }
+    0
+}
