@@ -1,50 +1,74 @@
 -- Laws of the lines of a reading: names by their numbers, and sizes one after the other.
 -- Assumes nothing.
-use Prim.Native.Nat.{ℕ, zero, suc, _+_, _-_, _≤_, _<_}
+use Prim.Native.Nat.{ℕ, zero, suc, _+_, _*_, _-_, _≤_, _<_}
 use native.Mathlib.Numerals.{add-one}
 use native.Mathlib.Omega.{arith}
 use mathlib.Core.Path.{_≡_, refl, sym, _∙_}
 use mathlib.Core.Bool.{Bool, true, false}
 use mathlib.Core.List.{List, [], _∷_, _++_, append-nil, append-assoc}
-use lib.Dec.{ltb}
-use lib.ListN.{length, drop, getD, length-append, length-drop, List·getD-eq-default}
+use lib.Dec.{ltb, lit≤}
+use lib.ListN.{length, take, drop, getD, length-drop, List·getD-eq-default}
 use lib.Seq.{drop-cons}
-use borrow.Author.Tests.{lt-ltb, le-ltb, ne-eqb}
-use Rattle.format.specs.Bytes.{if_then_else_, bytes, SPACE, LF}
+use borrow.Author.Tests.{lt-ltb, le-ltb, ltb-true, ltb-false, ne-eqb}
+use Rattle.format.specs.Bytes.{if_then_else_, bytes, SPACE}
 use Rattle.format.specs.Descriptors.{types, sampleType, signed, typeAt, encodings}
-use Rattle.format.specs.Listing.{shown}
 use Rattle.format.specs.Writer.{decimal, spaced, nameAt}
-use Rattle.store.proofs.TypeNames.{name-short}
-use Rattle.describe.specs.Shown.{formText, typeText, endianText}
+use Rattle.describe.specs.Shown.{rowFor, formText, typeText, endianText}
 
 -- ---- names
 
-pub form-detached : (f : ℕ) → f ≡ 1 → bytes "detached" ≡ formText f
-form-detached f e = rw e
+-- the row of a table of names at a, with a name of n bytes
+pub record Row (names : List ℕ) (a n most : ℕ) (name : List ℕ) : Type 0 where
+  pub few : n ≤ most
+  pub ended : a + n ≤ length names
+  pub is : take (a + n - a) (drop a names) ≡ name
+  pub short : length name ≤ most
 
-pub form-attached : (f : ℕ) → (f ≡ 1 → ⊥) → bytes "attached" ≡ formText f
-form-attached f n = rw (ne-eqb f 1 n)
+-- the last of 4 rows
+row-last : (n : ℕ) → 3 ≤ n → rowFor n 4 3 ≡ 3
+row-last n h = go (ltb n 4) refl
+  where
+    go : (b : Bool) → ltb n 4 ≡ b → (if b then n else 3) ≡ 3
+    go true e = omega (arith, ltb-true n 4 e)
+    go false e = refl
 
--- a type past the list
-pub type-past : (t : ℕ) → 10 ≤ t → bytes "int8" ≡ typeText t
+pub form-row : (n t : ℕ) → t ≡ rowFor n 2 0 → take (8 * t + 8 - 8 * t) (drop (8 * t) (bytes "attacheddetached")) ≡ formText n
+form-row zero t q = rw q
+form-row (suc zero) t q = rw q
+form-row (suc (suc n)) t q =
+    let e : t ≡ 0 = q ∙ rw (le-ltb (suc (suc n)) 2 (omega arith)) in
+    rw (e, ne-eqb (suc (suc n)) 1 (λ k. absurd (omega arith)))
+
+-- a type past the list stands for the first
+pub type-row : (n t : ℕ) → t ≡ rowFor n 10 0 → typeText t ≡ typeText n
 unfolding typeAt
-type-past t h = rw (List·getD-eq-default types (sampleType "int8" 1 signed []) h)
+type-row n t q = go (ltb n 10) refl q
+  where
+    go : (b : Bool) → ltb n 10 ≡ b → t ≡ (if b then n else 0) → typeText t ≡ typeText n
+    go true e r = rw r
+    go false e r = rw (r, List·getD-eq-default types (sampleType "int8" 1 signed []) (ltb-false n 10 e))
 
--- the line of a type is short
-pub type-short : (t : ℕ) → t < 10 → length (shown "type" (typeText t)) ≤ 12
-type-short t h = omega (arith, length-append (typeText t) (LF ∷ []), name-short t h)
+abbrev encodingLengths : List ℕ
+encodingLengths = 3 ∷ 3 ∷ 3 ∷ 0 ∷ []
 
-pub encoding-past : (e : ℕ) → (e ≡ 0 → ⊥) → (e ≡ 1 → ⊥) → (e ≡ 2 → ⊥) → [] ≡ nameAt encodings e
-encoding-past zero a b c = absurd (a refl)
-encoding-past (suc zero) a b c = absurd (b refl)
-encoding-past (suc (suc zero)) a b c = absurd (c refl)
-encoding-past (suc (suc (suc e))) a b c = refl
+pub encoding-row : (n t : ℕ) → t ≡ rowFor n 4 3 → Row (bytes "rawtxthex") (3 * t) (getD encodingLengths t 0) 3 (nameAt encodings n)
+encoding-row zero t q = rw q (record { few = lit≤ tt; ended = lit≤ tt; is = refl; short = lit≤ tt })
+encoding-row (suc zero) t q = rw q (record { few = lit≤ tt; ended = lit≤ tt; is = refl; short = lit≤ tt })
+encoding-row (suc (suc zero)) t q = rw q (record { few = lit≤ tt; ended = lit≤ tt; is = refl; short = lit≤ tt })
+encoding-row (suc (suc (suc n))) t q =
+    let e : t ≡ 3 = q ∙ row-last (suc (suc (suc n))) (omega arith) in
+    rw e (record { few = lit≤ tt; ended = lit≤ tt; is = refl; short = lit≤ tt })
 
-pub endian-past : (e : ℕ) → (e ≡ 0 → ⊥) → (e ≡ 1 → ⊥) → (e ≡ 2 → ⊥) → [] ≡ endianText e
-endian-past zero a b c = absurd (a refl)
-endian-past (suc zero) a b c = absurd (b refl)
-endian-past (suc (suc zero)) a b c = absurd (c refl)
-endian-past (suc (suc (suc e))) a b c = rw (ne-eqb (suc (suc (suc e))) 2 c)
+abbrev endianLengths : List ℕ
+endianLengths = 6 ∷ 3 ∷ 4 ∷ 0 ∷ []
+
+pub endian-row : (n t : ℕ) → t ≡ rowFor n 4 3 → Row (bytes "littlebig   none  ") (6 * t) (getD endianLengths t 0) 6 (endianText n)
+endian-row zero t q = rw q (record { few = lit≤ tt; ended = lit≤ tt; is = refl; short = lit≤ tt })
+endian-row (suc zero) t q = rw q (record { few = lit≤ tt; ended = lit≤ tt; is = refl; short = lit≤ tt })
+endian-row (suc (suc zero)) t q = rw q (record { few = lit≤ tt; ended = lit≤ tt; is = refl; short = lit≤ tt })
+endian-row (suc (suc (suc n))) t q =
+    let e : t ≡ 3 = q ∙ row-last (suc (suc (suc n))) (omega arith) in
+    rw (e, ne-eqb (suc (suc (suc n))) 2 (λ k. absurd (omega arith))) (record { few = lit≤ tt; ended = lit≤ tt; is = refl; short = lit≤ tt })
 
 -- ---- sizes
 

@@ -24,6 +24,10 @@ listingCall file out = writeAnswer (if ltb (length out) (length (listing file)) 
 
 -- ---- the lines of a reading, by its numbers
 
+-- the row of a table for a number, and a row for the numbers that have none
+abbrev pub rowFor : ℕ → ℕ → ℕ → ℕ
+rowFor n rows past = if ltb n rows then n else past
+
 abbrev pub formText : ℕ → List ℕ
 formText form = if eqb form 1 then bytes "detached" else bytes "attached"
 

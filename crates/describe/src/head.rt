@@ -1,39 +1,48 @@
 // The lines of a reading, all but those of its keys. Each function returns the place after its lines.
 use crate::put;
 use format::Reading;
+ghost use mathlib.Core.Path.{_≡_};
 ghost use mathlib.Core.List.{_++_, _∷_, []};
-ghost use Prim.Native.Nat.{_+_, _*_, _≤_};
+ghost use Prim.Native.Nat.{_+_, _*_, _≤_, _<_};
 ghost use lib.ListN.{length};
 ghost use Rattle.format.specs.Bytes.{if_then_else_, SPACE};
 ghost use Rattle.format.specs.Descriptors.{encodings};
 ghost use Rattle.format.specs.Writer.{decimal, spaced, nameAt};
 ghost use Rattle.format.specs.Listing.{shown};
 ghost use Rattle.describe.specs.Printed.{Printed, maxPlace};
-ghost use Rattle.describe.specs.Shown.{formText, typeText, endianText, topText, middleText, endText};
+ghost use Rattle.describe.specs.Shown.{rowFor, formText, typeText, endianText, topText, middleText, endText};
+
+// The row of a table for a number, and the row `past` for a number that the table does not have.
+fn row(number: u32, rows: u32, past: usize) -> usize
+    requires { ⌜ past < rows ⌝ }
+    ensures { λ r. ⌜ r ≡ rowFor number rows past ⌝ }
+    ensures within { λ r. ⌜ r < rows ⌝ }
+{
+    if number < rows { number as usize } else { past }
+}
+
+// The names of the forms, 8 bytes each.
+const FORMS: [u8; 16] = *b"attacheddetached";
 
 // The line of the form.
 fn put_form(out: &mut [u8], at: usize, form: u32) -> usize
     requires { ⌜ at + 14 ≤ maxPlace ⌝ }
     ensures { λ r. ⌜ Printed 14 (now (out .entry)) at (shown "form" (formText form)) (now (out .exit)) r ⌝ }
 {
-    if form == 1 {
-        return put::put_line(out, at, b"form ", b"detached");
-    }
-    put::put_line(out, at, b"form ", b"attached")
+    let a = 8 * row(form, 2, 0);
+    let e = a + 8;
+    put::put_line(out, at, b"form ", &FORMS[a..e])
 }
 
-// The line of the type.
+// The line of the type. A number past the list stands for the first.
 fn put_type(out: &mut [u8], at: usize, sampletype: u32) -> usize
     requires { ⌜ at + 12 ≤ maxPlace ⌝ }
     ensures { λ r. ⌜ Printed 12 (now (out .entry)) at (shown "type" (typeText sampletype)) (now (out .exit)) r ⌝ }
 {
-    let t = sampletype as usize;
-    if t < 10 {
-        let a = 6 * t;
-        let e = a + store::names::LENGTHS[t];
-        return put::put_line(out, at, b"type ", &store::names::NAMES[a..e]);
-    }
-    put::put_line(out, at, b"type ", b"int8")
+    let t = row(sampletype, 10, 0);
+    let a = 6 * t;
+    let e = a + store::names::LENGTHS[t];
+    put::put_line(out, at, b"type ", &store::names::NAMES[a..e])
 }
 
 // A size, and a space if there are more.
@@ -72,38 +81,34 @@ fn put_sizes(out: &mut [u8], at: usize, ns: &[u64]) -> usize
     put::put_bytes(out, e, b"\n")
 }
 
+// How many bytes the name of an encoding has. A number past the list has no name: that is the last row.
+const ENCODING_LENGTHS: [usize; 4] = [3, 3, 3, 0];
+
 // The line of the encoding.
 fn put_encoding(out: &mut [u8], at: usize, encoding: u32) -> usize
     requires { ⌜ at + 13 ≤ maxPlace ⌝ }
     ensures { λ r. ⌜ Printed 13 (now (out .entry)) at (shown "encoding" (nameAt encodings encoding)) (now (out .exit)) r ⌝ }
 {
-    if encoding == 0 {
-        return put::put_line(out, at, b"encoding ", b"raw");
-    }
-    if encoding == 1 {
-        return put::put_line(out, at, b"encoding ", b"txt");
-    }
-    if encoding == 2 {
-        return put::put_line(out, at, b"encoding ", b"hex");
-    }
-    put::put_line(out, at, b"encoding ", b"")
+    let t = row(encoding, 4, 3);
+    let a = 3 * t;
+    let e = a + ENCODING_LENGTHS[t];
+    put::put_line(out, at, b"encoding ", &store::names::ENCODINGS[a..e])
 }
+
+// The names of the endians, 6 bytes each, and how many of these a name has.
+const ENDIANS: [u8; 18] = *b"littlebig   none  ";
+
+const ENDIAN_LENGTHS: [usize; 4] = [6, 3, 4, 0];
 
 // The line of the endian.
 fn put_endian(out: &mut [u8], at: usize, endian: u32) -> usize
     requires { ⌜ at + 14 ≤ maxPlace ⌝ }
     ensures { λ r. ⌜ Printed 14 (now (out .entry)) at (shown "endian" (endianText endian)) (now (out .exit)) r ⌝ }
 {
-    if endian == 0 {
-        return put::put_line(out, at, b"endian ", b"little");
-    }
-    if endian == 1 {
-        return put::put_line(out, at, b"endian ", b"big");
-    }
-    if endian == 2 {
-        return put::put_line(out, at, b"endian ", b"none");
-    }
-    put::put_line(out, at, b"endian ", b"")
+    let t = row(endian, 4, 3);
+    let a = 6 * t;
+    let e = a + ENDIAN_LENGTHS[t];
+    put::put_line(out, at, b"endian ", &ENDIANS[a..e])
 }
 
 // The lines of the version, the form and the type, at the front.

@@ -1,18 +1,34 @@
--- `describe::head::put_form` meets its contract.
+-- `describe::head::put_form` meets its contract: `form-row` of Names.antt.
 -- Assumes nothing.
 use borrow.Author.Needs.{needs}
+use native.Mathlib.Omega.{arith}
 use mathlib.Core.Path.{ap}
 use Rattle.format.specs.Listing.{shown}
-use Rattle.describe.proofs.Printing.{printed-is}
-use Rattle.describe.proofs.Names.{form-detached, form-attached}
+use Rattle.describe.proofs.Printing.{printed-more, printed-is}
+use Rattle.describe.proofs.Names.{form-row}
 use Rattle.describe.proofs.head.put_form.Statement.{statement}
 use Rattle.describe.proofs.head.put_form.Tie as tie
+
+row-requires : tie.Need-row-requires
+row-requires c κs = search needs
+
+mul-a : tie.Need-mul-a
+mul-a c = search needs
+
+add-e : tie.Need-add-e
+add-e c = search needs
 
 slice-aggregate-put-line : tie.Need-slice-aggregate-put-line
 slice-aggregate-put-line c = search needs
 
-slice-aggregate-put-line-2 : tie.Need-slice-aggregate-put-line-2
-slice-aggregate-put-line-2 c = search needs
+sub-put-line : tie.Need-sub-put-line
+sub-put-line c = search needs
+
+part-put-line-start : tie.Need-part-put-line-start
+part-put-line-start c = search needs
+
+part-put-line-end : tie.Need-part-put-line-end
+part-put-line-end c = search needs
 
 put-line-requires : tie.Need-put-line-requires
 put-line-requires c κs = search needs
@@ -22,35 +38,20 @@ same-length c = search needs
 
 returns : tie.Need-returns
 returns c =
-    printed-is (c .before .before .put-line .ensures) (ap (shown "form") (form-detached _ (c .before .before .before .before .before .before .if1 .taken)))
-
-slice-aggregate-put-line-3 : tie.Need-slice-aggregate-put-line-3
-slice-aggregate-put-line-3 c = search needs
-
-slice-aggregate-put-line-4 : tie.Need-slice-aggregate-put-line-4
-slice-aggregate-put-line-4 c = search needs
-
-put-line-requires-2 : tie.Need-put-line-requires-2
-put-line-requires-2 c κs = search needs
-
-same-length-2 : tie.Need-same-length-2
-same-length-2 c = search needs
-
-returns-2 : tie.Need-returns-2
-returns-2 c =
-    printed-is (c .before .before .put-line2 .ensures) (ap (shown "form") (form-attached _ (c .before .before .before .before .before .before .if1 .left)))
+    let e = form-row (c .before .before .before .before .before .before .before .before .before .args .form) (c .before .before .before .before .before .before .before .row .result) (c .before .before .before .before .before .before .before .row .ensures .0) in
+    printed-is (printed-more (c .before .before .put-line .ensures) 14 (omega arith)) (ap (shown "form") e)
 
 pub put-form-spec : {M : Type 1} → statement M
 put-form-spec =
     tie.close
     (tie.spec
+    row-requires
+    mul-a
+    add-e
     slice-aggregate-put-line
-    slice-aggregate-put-line-2
+    sub-put-line
+    part-put-line-start
+    part-put-line-end
     put-line-requires
     same-length
-    returns
-    slice-aggregate-put-line-3
-    slice-aggregate-put-line-4
-    put-line-requires-2
-    same-length-2
-    returns-2)
+    returns)

@@ -1,15 +1,18 @@
--- `describe::head::put_type` meets its contract.
+-- `describe::head::put_type` meets its contract: `type-row` of Names.antt, and the laws of the table.
 -- Assumes nothing.
 use borrow.Author.Needs.{needs}
-use Prim.Native.Nat.{_<_}
 use native.Mathlib.Omega.{arith}
-use mathlib.Core.Path.{ap}
+use mathlib.Core.Path.{ap, _∙_}
+use lib.ListN.{length}
 use Rattle.format.specs.Listing.{shown}
 use Rattle.store.proofs.TypeNames.{name-part, part-short, name-short}
-use Rattle.describe.proofs.Printing.{printed-is, printed-more, printed-short}
-use Rattle.describe.proofs.Names.{type-past, type-short}
+use Rattle.describe.proofs.Printing.{printed-is, printed-more}
+use Rattle.describe.proofs.Names.{type-row}
 use Rattle.describe.proofs.head.put_type.Statement.{statement}
 use Rattle.describe.proofs.head.put_type.Tie as tie
+
+row-requires : tie.Need-row-requires
+row-requires c κs = search needs
 
 mul-a : tie.Need-mul-a
 mul-a c = search needs
@@ -21,7 +24,7 @@ array-read-e : tie.Need-array-read-e
 array-read-e c = search needs
 
 add-e : tie.Need-add-e
-add-e c = omega (arith, part-short (c .before .before .args .sampletype) (c .if1 .taken))
+add-e c = omega (arith, part-short (c .row .result) (c .row .ensures .1))
 
 slice-aggregate-put-line : tie.Need-slice-aggregate-put-line
 slice-aggregate-put-line c = search needs
@@ -33,43 +36,27 @@ part-put-line-start : tie.Need-part-put-line-start
 part-put-line-start c = search needs
 
 part-put-line-end : tie.Need-part-put-line-end
-part-put-line-end c = omega (arith, part-short (c .before .before .before .before .before .args .sampletype) (c .before .before .before .if1 .taken))
+part-put-line-end c = omega (arith, part-short (c .before .before .before .row .result) (c .before .before .before .row .ensures .1))
 
 put-line-requires : tie.Need-put-line-requires
 put-line-requires c κs =
-    let t = c .before .before .before .before .before .before .args .sampletype in
-    let h : t < 10 = c .before .before .before .before .if1 .taken in
-    rw (name-part t h) (omega (arith, name-short t h))
+    let t = c .before .before .before .before .row in
+    omega (arith, ap length (name-part (t .result) (t .ensures .1)), name-short (t .result) (t .ensures .1), c .before .before .before .before .before .before .pre)
 
 same-length : tie.Need-same-length
 same-length c = search needs
 
 returns : tie.Need-returns
 returns c =
-    let t = c .before .before .before .before .before .before .before .before .before .args .sampletype in
-    let h : t < 10 = c .before .before .before .before .before .before .before .if1 .taken in
-    printed-short (printed-is (c .before .before .put-line .ensures) (ap (shown "type") (name-part t h))) 12 (type-short t h)
-
-slice-aggregate-put-line-2 : tie.Need-slice-aggregate-put-line-2
-slice-aggregate-put-line-2 c = search needs
-
-slice-aggregate-put-line-3 : tie.Need-slice-aggregate-put-line-3
-slice-aggregate-put-line-3 c = search needs
-
-put-line-requires-2 : tie.Need-put-line-requires-2
-put-line-requires-2 c κs = search needs
-
-same-length-2 : tie.Need-same-length-2
-same-length-2 c = search needs
-
-returns-2 : tie.Need-returns-2
-returns-2 c =
-    printed-more (printed-is (c .before .before .put-line2 .ensures) (ap (shown "type") (type-past (c .before .before .before .before .before .before .before .before .args .sampletype) (c .before .before .before .before .before .before .if1 .left)))) 12 (omega arith)
+    let t = c .before .before .before .before .before .before .before .row in
+    let e = name-part (t .result) (t .ensures .1) in
+    printed-is (printed-more (c .before .before .put-line .ensures) 12 (omega (arith, ap length e, name-short (t .result) (t .ensures .1)))) (ap (shown "type") (e ∙ type-row (c .before .before .before .before .before .before .before .before .before .args .sampletype) (t .result) (t .ensures .0)))
 
 pub put-type-spec : {M : Type 1} → statement M
 put-type-spec =
     tie.close
     (tie.spec
+    row-requires
     mul-a
     mul-e
     array-read-e
@@ -80,9 +67,4 @@ put-type-spec =
     part-put-line-end
     put-line-requires
     same-length
-    returns
-    slice-aggregate-put-line-2
-    slice-aggregate-put-line-3
-    put-line-requires-2
-    same-length-2
-    returns-2)
+    returns)
