@@ -1,4 +1,5 @@
 pub mod Bytes
+pub mod Stores
 pub mod Lines
 pub mod Pairs
 pub mod Header

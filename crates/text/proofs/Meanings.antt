@@ -1,7 +1,7 @@
 -- Laws of what an escaped text means, byte by byte.
 -- Assumes nothing.
-use Prim.Native.Nat.{ℕ, suc, _+_, _-_, _≤_, _<_}
-use native.Mathlib.Nat.{add-zero, zero-add}
+use Prim.Native.Nat.{ℕ, _+_, _-_, _≤_, _<_}
+use native.Mathlib.Nat.{zero-add}
 use native.Mathlib.Omega.{arith}
 use mathlib.Core.Path.{_≡_, refl, sym, ap, _∙_}
 use mathlib.Core.Bool.{Bool, true, false}
@@ -13,6 +13,7 @@ use lib.Seq.{sets, sets-eq, append-snoc}
 use borrow.Author.Tests.{eqb-true, eqb-false, eq-eqb, ne-eqb}
 use Rattle.format.specs.Bytes.{same, isSome, onto, LF, BACKSLASH}
 use Rattle.format.specs.Pairs.{unescapeFrom, unescape}
+use Rattle.format.proofs.Stores.{sets-then}
 use Rattle.text.specs.Meanings.{meansKey, First}
 use Rattle.text.proofs.Places.{drop-next}
 
@@ -170,15 +171,9 @@ module _ (s d : List ℕ) (i : ℕ) (p : Passed s i d) where
 
 -- ---- bytes stored at the front of a list
 
-sets-snoc : (d l : List ℕ) (i b : ℕ) → set (sets l i d) (i + length d) b ≡ sets l i (d ++ (b ∷ []))
-sets-snoc [] l i b = rw (add-zero i)
-sets-snoc (x ∷ d) l i b =
-    let e : i + suc (length d) ≡ suc i + length d = omega arith in
-    rw e (sets-snoc d (set l i x) (suc i) b)
-
 -- one byte more is stored after them
 pub sets-next : (l o d : List ℕ) (n b : ℕ) → o ≡ sets l 0 d → length d ≡ n → set o n b ≡ sets l 0 (d ++ (b ∷ []))
-sets-next l o d n b e h = rw (e, ← h) (rw zero-add at (sets-snoc d l 0 b))
+sets-next l o d n b e h = ap (λ (r : List ℕ). set r n b) e ∙ sets-then l d (b ∷ []) 0 n (omega arith)
 
 -- where they fit, they stand before what is left of the list
 pub sets-front : (l o d t : List ℕ) → o ≡ sets l 0 d → t ≡ d → length t ≤ length l → o ≡ t ++ drop (length t) l

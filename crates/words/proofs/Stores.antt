@@ -1,29 +1,20 @@
 -- Laws of lists that are written from a place or from the front on.
 -- Assumes nothing.
 use Prim.Native.Nat.{ℕ, zero, suc, _+_, _*_, _≤_, _<_, min}
-use native.Mathlib.Nat.{zero-add, add-zero, add-suc, suc-add, mul-zero, mul-suc}
-use native.Mathlib.Numerals.{add-one}
+use native.Mathlib.Nat.{zero-add, suc-add, mul-zero, mul-suc}
 use native.Mathlib.Omega.{arith}
 use mathlib.Core.Path.{_≡_, refl, sym, ap, _∙_}
 use mathlib.Core.Bool.{Bool, true, false}
 use mathlib.Core.List.{List, [], _∷_, _++_, append-nil, append-assoc, flatMap}
 use lib.Dec.{leb}
 use lib.ListN.{length, take, drop, getD, set, length-append, length-set}
-use lib.Seq.{sets, sets-eq, take-suc, take-all, drop-at, length-take-le}
+use lib.Seq.{sets, sets-eq, take-all, drop-at, length-take-le}
 use borrow.Author.Tests.{leb-true, leb-false}
 use Rattle.format.specs.Bytes.{over}
+use Rattle.format.proofs.Stores.{take-more}
+pub use Rattle.format.proofs.Stores.{sets-then}
 
 module _ {ℓ} {A : Type ℓ} where
-  -- a run and the run that follows it
-  pub sets-append : (u v l : List A) (i : ℕ) → sets l i (u ++ v) ≡ sets (sets l i u) (i + length u) v
-  sets-append [] v l i = ap (λ (k : ℕ). sets l k v) (sym (add-zero i))
-  sets-append (x ∷ u) v l i =
-      sets-append u v (set l i x) (suc i) ∙ ap (λ (k : ℕ). sets (sets (set l i x) (suc i) u) k v) (suc-add i (length u) ∙ sym (add-suc i (length u)))
-
-  -- the same, where the second run begins at a place known by an equation
-  pub sets-then : (l u v : List A) (i k : ℕ) → k ≡ i + length u → sets (sets l i u) k v ≡ sets l i (u ++ v)
-  sets-then l u v i k e = ap (λ (j : ℕ). sets (sets l i u) j v) e ∙ sym (sets-append u v l i)
-
   -- a run past a front
   sets-suc : (x : A) (l v : List A) (i : ℕ) → sets (x ∷ l) (suc i) v ≡ x ∷ sets l i v
   sets-suc x l [] i = refl
@@ -46,10 +37,6 @@ module _ {ℓ} {A : Type ℓ} where
       ap (λ (r : List A). sets r i v) (sym (sets-over p d (omega arith)))
       ∙ sets-then d p v 0 i (omega arith)
       ∙ sets-over (p ++ v) d (omega (arith, length-append p v))
-
-  -- the first i + 1 elements of ns, after the first i
-  pub take-more : (ns : List A) (i : ℕ) (z : A) → i < length ns → take (i + 1) ns ≡ take i ns ++ (getD ns i z ∷ [])
-  take-more ns i z h = rw (add-one i) (take-suc ns i z h)
 
   -- one turn of a loop that copies ns to the front of t
   pub over-more : (ns t t₀ : List A) (i : ℕ) (v z : A) → t ≡ over (take i ns) t₀ → v ≡ getD ns i z → i < length ns → i < length t₀ → set t i v ≡ over (take (i + 1) ns) t₀
