@@ -11,8 +11,9 @@ use Rattle.format.specs.Bytes.{over}
 use Rattle.format.specs.Refusals.{lentTooShort, refusal}
 use Rattle.format.specs.Settings.{pairText, refilled, setKey}
 use Rattle.format.specs.Calls.{setKeyCall}
+use Rattle.splice.specs.Edited.{edited}
 use Rattle.settings.specs.declared.plan.Plan.{Plan}
-use Rattle.settings.specs.Edits.{edited, shifted, Shiftable, Ready, Planned}
+use Rattle.settings.specs.Edits.{shifted, Shiftable, Ready, Planned}
 
 module _ (buf : List ℕ) (used : ℕ) (table : List ℕ) (count : ℕ) (k v : List ℕ) where
   -- the used length passes the buffer

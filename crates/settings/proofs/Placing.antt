@@ -26,9 +26,10 @@ use Rattle.format.proofs.Header.{header-sound, magic-line}
 use Rattle.header.specs.Lookup.{Headed, IsItem, Items}
 use Rattle.header.specs.Spans.{LineAt, PastAt}
 use Rattle.header.proofs.Finding.{items}
-use Rattle.settings.specs.declared.edit.Place.{Place}
-use Rattle.settings.specs.Edits.{edited, movedBy, shifted, FirstAt, Placed}
-use Rattle.settings.proofs.Escapes.{length-pair}
+use Rattle.pairs.proofs.Escapes.{length-pair}
+use Rattle.splice.specs.Edited.{edited}
+use Rattle.settings.specs.declared.place.Place.{Place}
+use Rattle.settings.specs.Edits.{movedBy, shifted, FirstAt, Placed}
 use Rattle.settings.proofs.Shifting.{moved-below, cons, starts-moved}
 
 -- ---- the texts of pairs are those that `pairText` gives

@@ -23,10 +23,11 @@ use Rattle.format.proofs.Header.{header-sound}
 use Rattle.header.specs.Lookup.{Headed}
 use Rattle.header.proofs.Finding.{was-refused, was-accepted}
 use Rattle.header.proofs.Numbered.{NumberedOutcome, header-numbered}
-use Rattle.settings.specs.declared.edit.Place.{Place}
+use Rattle.splice.specs.Edited.{edited}
+use Rattle.splice.proofs.Held.{length-edited}
+use Rattle.settings.specs.declared.place.Place.{Place}
 use Rattle.settings.specs.declared.plan.Plan.{Plan}
-use Rattle.settings.specs.Edits.{edited, Placed, Small, askedNumber, noPlan, fitted, movedBy, shifted, Shiftable, Ready, Planned}
-use Rattle.settings.proofs.Held.{length-edited}
+use Rattle.settings.specs.Edits.{Placed, Small, askedNumber, noPlan, fitted, movedBy, shifted, Shiftable, Ready, Planned}
 use Rattle.settings.proofs.Shifting.{moved-within, start-within, fine-many, fine-is}
 
 -- ---- what was read

@@ -14,9 +14,9 @@ use Rattle.format.specs.Bytes.{same, over}
 use Rattle.format.specs.Lines.{Line, size, unlines, starts}
 use Rattle.format.specs.Settings.{tableFine}
 use Rattle.format.proofs.Bytes.{and-left, and-right, same-true}
+use Rattle.format.proofs.Stores.{set-sets}
 use Rattle.format.proofs.Lines.{starts-at, length-unlines-append}
 use Rattle.settings.specs.Edits.{movedBy, shifted}
-use Rattle.settings.proofs.Sets.{set-sets}
 
 -- ---- one entry
 

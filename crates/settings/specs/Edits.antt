@@ -2,9 +2,9 @@
 use Prim.Native.Nat.{ℕ, zero, suc, _+_, _-_, _≤_, _<_}
 use mathlib.Core.Path.{_≡_}
 use mathlib.Core.Bool.{Bool, not, _||_}
-use mathlib.Core.List.{List, [], _∷_, _++_, map}
+use mathlib.Core.List.{List, [], _∷_, map}
 use lib.Dec.{ltb}
-use lib.ListN.{length, take, drop, getD}
+use lib.ListN.{length, take, getD}
 use Rattle.format.specs.declared.Refusal.{Refusal}
 use Rattle.format.specs.Bytes.{if_then_else_, over}
 use Rattle.format.specs.Limits.{maxFile, maxHeader, maxLines}
@@ -13,12 +13,9 @@ use Rattle.format.specs.Lines.{Line, text, size, lines, unlines, starts}
 use Rattle.format.specs.Fields.{pairsSince}
 use Rattle.format.specs.Header.{Entry, linesOf, header, headerLength, tableOf}
 use Rattle.format.specs.Settings.{pairText, newLines, lent, kept, changed, refilled, setRead}
-use Rattle.settings.specs.declared.edit.Place.{Place}
+use Rattle.splice.specs.Edited.{edited}
+use Rattle.settings.specs.declared.place.Place.{Place}
 use Rattle.settings.specs.declared.plan.Plan.{Plan}
-
--- a file with its bytes before `from`, new ones, and its bytes from `to` on
-unfoldable pub edited : List ℕ → ℕ → ℕ → List ℕ → List ℕ
-edited f from to new = take from f ++ (new ++ drop to f)
 
 -- where a line that started at x starts, once what ended at `to` ends at `front`
 unfoldable pub movedBy : ℕ → ℕ → ℕ → ℕ

@@ -1,5 +1,5 @@
 // The refusals of a setting, in order, and the numbers of its edit. Nothing is stored.
-use crate::edit::Place;
+use crate::place::Place;
 use format::Refusal;
 ghost use mathlib.Core.Path.{_≡_};
 ghost use mathlib.Core.List.{List};
@@ -66,10 +66,10 @@ fn asked(
     if version < 2 {
         return format::NOT_IN_VERSION;
     }
-    if !crate::texts::key_fine(key) {
+    if !pairs::key_fine(key) {
         return format::BAD_KEY;
     }
-    if !crate::texts::value_fine(value) {
+    if !pairs::value_fine(value) {
         return format::BAD_VALUE;
     }
     if !crate::tables::table_fine(file, lines, table, count) {
@@ -139,8 +139,8 @@ pub(crate) fn prepare(
     if number != 0 {
         return refuse(number);
     }
-    let place = crate::edit::find_place(file, read.reading.lines, key);
-    let m = crate::texts::pair_length(key, value);
+    let place = crate::place::find_place(file, read.reading.lines, key);
+    let m = pairs::pair_length(key, value);
     fit(
         place,
         m,

@@ -46,7 +46,7 @@ pub fn set_key(
         return answer(refusal, used, count);
     }
     let length = plan.length;
-    crate::edit::splice_pair(buf, used, plan.from, plan.to, length, key, value);
+    splice::splice_pair(buf, used, plan.from, plan.to, length, key, value);
     crate::tables::shift_table(table, count, plan.more, plan.from, plan.to, plan.front);
     answer(refusal, length, plan.count)
 }
