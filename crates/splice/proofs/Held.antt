@@ -26,7 +26,7 @@ length-edited f new from to h k = simp (length-append, length-take, length-drop)
 
 module _ (b new : List ℕ) (used from to end : ℕ) (h₁ : from ≤ used) (h₂ : to ≤ used) (h₃ : used ≤ length b) (h₄ : end ≤ length b)
     (e : end ≡ from + length new + (used - to)) where
-  pub splice-eq : sets (sets (sets b (end - (used - to)) (take (used - to) (drop to b))) from new) end (replicate (used - end) 0)
+  splice-eq : sets (sets (sets b (end - (used - to)) (take (used - to) (drop to b))) from new) end (replicate (used - end) 0)
       ≡ refilled b used (edited (take used b) from to new)
   unfolding edited refilled
   splice-eq =
@@ -46,3 +46,12 @@ module _ (b new : List ℕ) (used from to end : ℕ) (h₁ : from ≤ used) (h�
       ∙ sets-eq (new ++ tail ++ z) b from (simp (length-append, length-replicate) (omega arith))
       ∙ ap (λ (k : ℕ). take from b ++ (new ++ tail ++ z) ++ drop k b) e₂
       ∙ rw (e₃, take-take, drop-take) (simp append-assoc)
+
+  -- the same of the lists b₁, b₂ and b₃ that the three calls leave
+  pub splice-done : (b₁ b₂ b₃ : List ℕ) (n : ℕ) → b₁ ≡ sets b (end - (used - to)) (take (used - to) (drop to b)) → b₂ ≡ sets b₁ from new
+      → n ≡ used - end → b₃ ≡ sets b₂ end (replicate n 0) → b₃ ≡ refilled b used (edited (take used b) from to new)
+  splice-done b₁ b₂ b₃ n p q r s =
+      s
+      ∙ ap (λ (k : ℕ). sets b₂ end (replicate k 0)) r
+      ∙ ap (λ (d : List ℕ). sets d end (replicate (used - end) 0)) (q ∙ ap (λ (d : List ℕ). sets d from new) p)
+      ∙ splice-eq

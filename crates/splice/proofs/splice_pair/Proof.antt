@@ -1,6 +1,6 @@
 -- `splice::splice_pair` meets its contract: the move, the text and the zeros are three runs of stores.
 -- Assumes nothing.
-use Rattle.splice.proofs.Held.{splice-eq}
+use Rattle.splice.proofs.Held.{splice-done}
 use Rattle.format.specs.Settings.{pairText}
 use denote.Ref.{now}
 use borrow.Author.Needs.{needs}
@@ -33,7 +33,10 @@ returns c =
     let s = c .before .before .before .before .before .before .before .before .before .before .before .before .before .before .before .before in
     let a = s .args in
     let p = s .pre in
-    cc (splice-eq (now (a .buf)) (pairText (now (a .key)) (now (a .value))) (a .used) (a .from) (a .to) (a .end) (p .0 .0) (p .0 .1) (p .0 .2) (p .0 .3) (p .1), c .before .before .zero .ensures, c .before .before .before .less .ensures, c .before .before .before .before .before .before .before .put-pair .ensures, c .before .before .before .before .before .before .before .before .before .before .before .slide .ensures)
+    let moved = c .before .before .before .before .before .before .before .before .before .before .before .slide in
+    let put = c .before .before .before .before .before .before .before .put-pair in
+    let zeros = c .before .before .before .less in
+    splice-done (now (a .buf)) (pairText (now (a .key)) (now (a .value))) (a .used) (a .from) (a .to) (a .end) (p .0 .0) (p .0 .1) (p .0 .2) (p .0 .3) (p .1) _ _ _ (zeros .result) (moved .ensures) (put .ensures) (zeros .ensures) (c .before .before .zero .ensures)
 
 pub splice-pair-spec : {M : Type 1} → statement M
 splice-pair-spec =
