@@ -66,7 +66,11 @@ fn byte_length(c: u8) -> usize
 fn capped(n: usize) -> usize
     ensures { λ r. ⌜ r ≡ min n (maxHeader + 1) ⌝ }
 {
-    if n < 65536 { n } else { 65536 }
+    if n <= format::MAX_HEADER {
+        n
+    } else {
+        format::MAX_HEADER + 1
+    }
 }
 
 // How many bytes a line takes for the text, capped.

@@ -92,15 +92,15 @@ fn fit(
     ensures { λ r. ⌜ r ≡ fitted place m bytes count used room slots ⌝ }
 {
     let front = place.from + m;
-    if 65535 < front + (bytes - place.to) {
+    if format::MAX_HEADER < front + (bytes - place.to) {
         return refuse(format::HEADER_TOO_LONG);
     }
     let lines = count + place.more;
-    if 1024 < lines {
+    if (format::MAX_LINES as usize) < lines {
         return refuse(format::TOO_MANY_LINES);
     }
     let length = front + (used - place.to);
-    if 4294967295 < length {
+    if format::MAX_FILE < length {
         return refuse(format::FILE_TOO_LONG);
     }
     if (room < length) | (slots < lines) {

@@ -1,6 +1,7 @@
 -- `settings::plan::fit` meets its contract: the tests before each answer decide those of the definition.
 -- Assumes nothing.
 use borrow.Author.Tests.{lt-ltb, le-ltb}
+use Rattle.format.specs.Limits.{maxFile, maxHeader, maxLines}
 use Rattle.settings.specs.Edits.{fitted}
 use borrow.Author.Needs.{needs}
 use Rattle.settings.proofs.plan.fit.Statement.{statement}
@@ -20,10 +21,13 @@ refuse-requires c κs = search needs
 
 returns : tie.Need-returns
 unfolding fitted
-returns c = simp (lt-ltb _ _ (c .before .if1 .taken)) (c .refuse .ensures)
+returns c = simp (lt-ltb maxHeader _ (c .before .if1 .taken)) (c .refuse .ensures)
 
 add-lines : tie.Need-add-lines
 add-lines c = search needs
+
+cast-if2 : tie.Need-cast-if2
+cast-if2 c = search needs
 
 refuse-requires-2 : tie.Need-refuse-requires-2
 refuse-requires-2 c κs = search needs
@@ -31,7 +35,7 @@ refuse-requires-2 c κs = search needs
 returns-2 : tie.Need-returns-2
 unfolding fitted
 returns-2 c =
-    simp (le-ltb _ _ (c .before .before .before .if1 .left), lt-ltb _ _ (c .before .if2 .taken)) (c .refuse2 .ensures)
+    simp (le-ltb maxHeader _ (c .before .before .before .if1 .left), lt-ltb maxLines _ (c .before .if2 .taken)) (c .refuse2 .ensures)
 
 sub-length : tie.Need-sub-length
 sub-length c = search needs
@@ -45,7 +49,7 @@ refuse-requires-3 c κs = search needs
 returns-3 : tie.Need-returns-3
 unfolding fitted
 returns-3 c =
-    simp (le-ltb _ _ (c .before .before .before .before .before .if1 .left), le-ltb _ _ (c .before .before .before .if2 .left), lt-ltb _ _ (c .before .if3 .taken)) (c .refuse3 .ensures)
+    simp (le-ltb maxHeader _ (c .before .before .before .before .before .if1 .left), le-ltb maxLines _ (c .before .before .before .if2 .left), lt-ltb maxFile _ (c .before .if3 .taken)) (c .refuse3 .ensures)
 
 refuse-requires-4 : tie.Need-refuse-requires-4
 refuse-requires-4 c κs = search needs
@@ -53,12 +57,12 @@ refuse-requires-4 c κs = search needs
 returns-4 : tie.Need-returns-4
 unfolding fitted
 returns-4 c =
-    simp (le-ltb _ _ (c .before .before .before .before .before .before .if1 .left), le-ltb _ _ (c .before .before .before .before .if2 .left), le-ltb _ _ (c .before .before .if3 .left), c .before .if4 .taken) (c .refuse4 .ensures)
+    simp (le-ltb maxHeader _ (c .before .before .before .before .before .before .if1 .left), le-ltb maxLines _ (c .before .before .before .before .if2 .left), le-ltb maxFile _ (c .before .before .if3 .left), c .before .if4 .taken) (c .refuse4 .ensures)
 
 returns-5 : tie.Need-returns-5
 unfolding fitted
 returns-5 c =
-    simp (le-ltb _ _ (c .before .before .before .before .before .if1 .left), le-ltb _ _ (c .before .before .before .if2 .left), le-ltb _ _ (c .before .if3 .left), c .if4 .left)
+    simp (le-ltb maxHeader _ (c .before .before .before .before .before .if1 .left), le-ltb maxLines _ (c .before .before .before .if2 .left), le-ltb maxFile _ (c .before .if3 .left), c .if4 .left)
 
 pub fit-spec : {M : Type 1} → statement M
 fit-spec =
@@ -70,6 +74,7 @@ fit-spec =
     refuse-requires
     returns
     add-lines
+    cast-if2
     refuse-requires-2
     returns-2
     sub-length
