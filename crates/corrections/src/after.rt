@@ -88,7 +88,7 @@ fn holds(out: &[u8; 65536], a: ValueAnswer, value: &[u8]) -> bool {
 // Whether the value of the key is the one given.
 fn value_right(file: &[u8], key: &[u8], value: &[u8]) -> bool {
     let mut out = [0u8; 65536];
-    let a = header::find::copy_value(file, key, &mut out);
+    let a = lookup::keys::copy_value(file, key, &mut out);
     holds(&out, a, value)
 }
 

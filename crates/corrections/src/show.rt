@@ -41,7 +41,7 @@ fn print_value(out: &[u8; 65536], a: ValueAnswer) {
 // Prints a key with its value.
 fn print_key(file: &[u8], key: &[u8]) {
     let mut out = [0u8; 65536];
-    let a = header::find::copy_value(file, key, &mut out);
+    let a = lookup::keys::copy_value(file, key, &mut out);
     io::write_all(STDOUT_FILENO, b"  ");
     print_escaped(key);
     io::write_all(STDOUT_FILENO, b" = ");

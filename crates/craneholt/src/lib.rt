@@ -56,7 +56,7 @@ pub extern "C" fn craneholt_read(file: &[u8], table: &mut [u8]) -> ReadAnswer
 pub extern "C" fn craneholt_find_field(file: &[u8], field: u32) -> FindAnswer
     ensures { λ r. ⌜ r ≡ findFieldCall (now (file .entry)) field ⌝ }
 {
-    header::find::find_field(file, field)
+    lookup::descriptors::find_field(file, field)
 }
 
 // Where the value's text of a key lies in the file.
@@ -64,7 +64,7 @@ pub extern "C" fn craneholt_find_field(file: &[u8], field: u32) -> FindAnswer
 pub extern "C" fn craneholt_find_key(file: &[u8], key: &[u8]) -> FindAnswer
     ensures { λ r. ⌜ r ≡ findKeyCall (now (file .entry)) (now (key .entry)) ⌝ }
 {
-    header::find::find_key(file, key)
+    lookup::keys::find_key(file, key)
 }
 
 // The value of a key to the front of `out`, escapes resolved.
@@ -72,7 +72,7 @@ pub extern "C" fn craneholt_find_key(file: &[u8], key: &[u8]) -> FindAnswer
 pub extern "C" fn craneholt_copy_value(file: &[u8], key: &[u8], out: &mut [u8]) -> ValueAnswer
     ensures { λ r. ⌜ _≡_ {A = ValueAnswer × List ℕ} (r, now (out .exit)) (copyValueCall (now (file .entry)) (now (key .entry)) (now (out .entry))) ⌝ }
 {
-    header::find::copy_value(file, key, out)
+    lookup::keys::copy_value(file, key, out)
 }
 
 // Where the data lies: in the file or in the second one.

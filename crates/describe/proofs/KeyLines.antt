@@ -17,7 +17,7 @@ use Rattle.text.specs.declared.lines.Mark.the-variants.{Field, Pair, Nothing}
 use Rattle.text.specs.Places.{markPlace}
 use Rattle.text.proofs.Places.{mark-split-pair}
 use Rattle.header.specs.Spans.{LineAt, PastAt}
-use Rattle.header.proofs.Finding.{rest-of}
+use Rattle.header.proofs.LineCuts.{rest-of}
 use Rattle.describe.specs.Shown.{markOf, isKey, isLater, keyText, shownMark, shownLines, linesFrom, Within}
 
 -- ---- the mark of a line

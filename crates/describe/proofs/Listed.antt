@@ -31,9 +31,9 @@ use Rattle.format.specs.Listing.{shown, shownRefusal, shownItem, shownKeys, sho
 use Rattle.format.proofs.Bytes.{same-refl, same-true}
 use Rattle.format.proofs.Pairs.{mark-of-pair, begins-of-pair, pair-line, escape-injective}
 use Rattle.format.proofs.Header.{header-sound}
-use Rattle.header.specs.Lookup.{IsItem, Items}
+use Rattle.header.specs.Accepted.{IsItem, Items}
 use Rattle.header.proofs.Numbered.{NumberedOutcome, header-numbered}
-use Rattle.header.proofs.Finding.{items}
+use Rattle.header.proofs.Accepted.{items}
 use Rattle.volume.specs.Places.{IsReading}
 use Rattle.volume.proofs.Headers.{header-axes, header-sizes}
 use Rattle.describe.specs.Shown.{listingCall, formText, typeText, endianText, topText, middleText, endText, markOf, isKey, isLater, shownMark, shownLines, linesFrom, Within, readingText}

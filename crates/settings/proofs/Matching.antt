@@ -19,7 +19,7 @@ use Rattle.format.specs.Header.{Entry, lineOf, linesOf, accepted, header, table
 use Rattle.format.specs.Settings.{tableFine}
 use Rattle.format.proofs.Lines.{length-unlines-cons, length-lines-le, length-starts}
 use Rattle.format.proofs.Header.{header-sound}
-use Rattle.header.specs.Lookup.{Headed}
+use Rattle.header.specs.Accepted.{Headed}
 use Rattle.header.specs.Spans.{LineAt, PastAt}
 use Rattle.header.specs.Tables.{Tabled, startsOf}
 

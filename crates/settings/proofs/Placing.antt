@@ -23,9 +23,9 @@ use Rattle.format.proofs.Bytes.{same-true}
 use Rattle.format.proofs.Lines.{size-line}
 use Rattle.format.proofs.Pairs.{pair-line}
 use Rattle.format.proofs.Header.{header-sound, magic-line}
-use Rattle.header.specs.Lookup.{Headed, IsItem, Items}
+use Rattle.header.specs.Accepted.{Headed, IsItem, Items}
 use Rattle.header.specs.Spans.{LineAt, PastAt}
-use Rattle.header.proofs.Finding.{items}
+use Rattle.header.proofs.Accepted.{items}
 use Rattle.pairs.proofs.Escapes.{length-pair}
 use Rattle.splice.specs.Edited.{edited}
 use Rattle.settings.specs.declared.place.Place.{Place}

@@ -20,8 +20,8 @@ use Rattle.format.specs.Settings.{keyFine, valueFine, pairText, newLines, table
 use Rattle.format.specs.Calls.{readAnswer, readHeaderCall, readingOf}
 use Rattle.format.proofs.Lines.{length-starts}
 use Rattle.format.proofs.Header.{header-sound}
-use Rattle.header.specs.Lookup.{Headed}
-use Rattle.header.proofs.Finding.{was-refused, was-accepted}
+use Rattle.header.specs.Accepted.{Headed}
+use Rattle.header.proofs.Accepted.{was-refused, was-accepted}
 use Rattle.header.proofs.Numbered.{NumberedOutcome, header-numbered}
 use Rattle.splice.specs.Edited.{edited}
 use Rattle.splice.proofs.Held.{length-edited}

@@ -7,7 +7,7 @@ ghost use lib.ListN.{length};
 ghost use Rattle.format.specs.Lines.{Line};
 ghost use Rattle.format.specs.Fields.{Given};
 ghost use Rattle.format.specs.Header.{Entry, accepted, header};
-ghost use Rattle.header.specs.Lookup.{Headed};
+ghost use Rattle.header.specs.Accepted.{Headed};
 ghost use Rattle.settings.specs.Edits.{FirstAt, Placed};
 
 // The pair's text goes between the bytes before `from` and those from `to` on. With a new line `to` is below `from`: the ending of line 1
@@ -43,7 +43,7 @@ pub(crate) fn find_place(file: &[u8], lines: u32, key: &[u8]) -> Place
     requires { ⌜ Headed (now file) lines ⌝ }
     ensures { λ r. ⌜ ((es : List Entry) (gs : List Given) (ls : List Line) → header (now (file .entry)) ≡ accepted es gs ls → Placed (now (key .entry)) es r) ⌝ }
 {
-    let found = header::find::find_key_in(file, key, lines);
+    let found = lookup::keys::find_key_in(file, key, lines);
     if !found.found {
         return after_first(file);
     }

@@ -10,7 +10,7 @@ ghost use Rattle.format.specs.Lines.{Line};
 ghost use Rattle.format.specs.Fields.{Given};
 ghost use Rattle.format.specs.Header.{Entry, accepted, header, tableOf};
 ghost use Rattle.format.specs.Settings.{keyFine, valueFine, tableFine};
-ghost use Rattle.header.specs.Lookup.{Headed};
+ghost use Rattle.header.specs.Accepted.{Headed};
 ghost use Rattle.settings.specs.Edits.{Small, askedNumber, noPlan, fitted, Planned};
 
 // A refusal, or the edit: the pair's text between `from` and `to`, where it ends, how many lines more there are, and the new file's bytes and

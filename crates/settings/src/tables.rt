@@ -10,7 +10,7 @@ ghost use Rattle.format.specs.Lines.{Line};
 ghost use Rattle.format.specs.Fields.{Given};
 ghost use Rattle.format.specs.Header.{Entry, accepted, header, tableOf};
 ghost use Rattle.format.specs.Settings.{tableFine};
-ghost use Rattle.header.specs.Lookup.{Headed};
+ghost use Rattle.header.specs.Accepted.{Headed};
 ghost use Rattle.header.specs.Tables.{Tabled, startsOf};
 ghost use Rattle.settings.specs.Edits.{movedBy, shifted, Shiftable};
 

@@ -120,7 +120,7 @@ fn fields_right(file: &[u8], refusal: Refusal, s: &[u8], from: usize) -> Step {
     let mut right = true;
     let mut field: u32 = 0;
     while field < 30 {
-        let a = header::find::find_field(file, field);
+        let a = lookup::descriptors::find_field(file, field);
         right = right & place_right(a, refusal, file, s, at);
         at = text_end(s, at);
         field += 1;
@@ -150,9 +150,9 @@ fn holds(out: &[u8; 65536], value: &[u8]) -> bool {
 // The answer of `copy_value` where the first `room` bytes of the buffer are lent, all where it has fewer.
 fn copy_to(file: &[u8], key: &[u8], out: &mut [u8], room: usize) -> ValueAnswer {
     if room < out.len() {
-        return header::find::copy_value(file, key, &mut out[..room]);
+        return lookup::keys::copy_value(file, key, &mut out[..room]);
     }
-    header::find::copy_value(file, key, out)
+    lookup::keys::copy_value(file, key, out)
 }
 
 // Whether a copy of the key's value to `room` bytes answers the refusal and this value, and writes nothing else.
@@ -195,7 +195,7 @@ fn key_right(file: &[u8], refusal: Refusal, s: &[u8], at: usize) -> bool {
     let key = run_at(s, at);
     let text = run_end(s, at);
     let value = run_at(s, text_end(s, text));
-    let a = header::find::find_key(file, key);
+    let a = lookup::keys::find_key(file, key);
     place_right(a, refusal, file, s, text)
         & value_right(file, key, refusal, text_given(s, text), value)
 }

@@ -2,7 +2,7 @@
 -- Assumes nothing.
 use Rattle.settings.proofs.Placing.{absent-placed, found-safe, found-placed}
 use Rattle.format.specs.Limits.{maxHeader}
-use Rattle.header.proofs.Finding.{some-byte}
+use Rattle.header.proofs.Accepted.{some-byte}
 use borrow.Author.Tests.{not-true, not-false}
 use Prim.Native.Nat.{_+_, _≤_}
 use native.Mathlib.Omega.{arith}
