@@ -34,7 +34,7 @@ use Rattle.header.specs.Spans.{LineAt, PastAt}
 use Rattle.header.specs.Accepted.{Headed, IsItem, Items}
 use Rattle.header.proofs.LineCuts.{rest-of}
 use Rattle.header.proofs.Accepted.{items}
-use Rattle.lookup.specs.Lookup.{Left, keyThen, keyElse, KeyLeft, FieldLeft, isField, SecondAt}
+use Rattle.lookup.specs.Lookup.{Left, latestOf, keyThen, keyElse, KeyLeft, FieldLeft, isField, SecondAt}
 
 -- ---- what a judged line is
 
@@ -113,6 +113,20 @@ seen {t} {i} h w = go t h (w .judged)
         plainly false e = absurd (not-right e)
 
 -- ---- a key's value, in one line
+
+-- what a line gives the key, put before what was found, is what is found once the line is passed
+key-latest : (k : List ℕ) (at : ℕ) (i : Item) (found : FindAnswer) → latestOf found (keyThen k at i (noPlace fine)) ≡ keyThen k at i found
+key-latest k at (magic n) found = refl
+key-latest k at comment found = refl
+key-latest k at (field f d) found = refl
+key-latest k at (pair j v) found = go (same k j)
+  where
+    go : (x : Bool)
+        → latestOf found (if isSome (if x then some v else none) then valuePlace at (pair j v) else noPlace fine)
+        ≡ (if isSome (if x then some v else none) then valuePlace at (pair j v) else found)
+    go true = refl
+    go false = refl
+key-latest k at closing found = refl
 
 -- what a pair gives the key
 pair-then : (k j v : List ℕ) (at a n : ℕ) (found : FindAnswer) → a ≡ length (escape j) + 2 → n ≡ length (escape v)
@@ -346,12 +360,15 @@ module _ {P : List Entry → Type 0} {file : List ℕ} {at count : ℕ} (w : Lef
   left-next {e} {next} x Q f = passed P Q file at count e next x (w .entries) (w .after) (w .split) (w .items) (w .short) (w .many) (w .holds) more f
 
 -- a line is passed, and its pair is kept
-module _ {file : List ℕ} (k : List ℕ) {at count : ℕ} {found : FindAnswer} (w : KeyLeft file k at count found) where
-  pub key-next : 0 < count → {e next : ℕ} → LineAt file at e next → (r : FindAnswer)
-      → ((i : Item) → IsItem (take (e - at) (drop at file)) i → r ≡ keyThen k at i found) → KeyLeft file k next (count - 1) r
-  key-next more {e} {next} x r h =
+module _ {file : List ℕ} (k : List ℕ) {at count : ℕ} (found : FindAnswer) (w : KeyLeft file k at count found) where
+  -- one more line is passed: `place` is that of the value in it, or `absent` where it has none
+  pub key-next : 0 < count → {e next : ℕ} → LineAt file at e next → (absent place r : FindAnswer) → absent ≡ noPlace fine
+      → ((i : Item) → IsItem (take (e - at) (drop at file)) i → place ≡ keyThen k at i absent) → r ≡ latestOf found place → KeyLeft file k next (count - 1) r
+  key-next more {e} {next} x absent place r z h q =
       left-next w more x (λ es. findKeyCall file k ≡ keyElse k next es r) λ l i es t n j p.
-      p ∙ key-turn k at l i es found ∙ rw (n, h i (subst (λ u. IsItem u i) t j))
+      let g : r ≡ keyThen k at i found =
+      q ∙ ap (latestOf found) (h i (subst (λ u. IsItem u i) t j) ∙ ap (keyThen k at i) z) ∙ key-latest k at i found in
+      p ∙ key-turn k at l i es found ∙ rw (n, g)
 
   pub key-end : count ≡ 0 → found ≡ findKeyCall file k
   key-end e = sym (w .holds ∙ key-none k at (w .entries) found (w .many ∙ e))

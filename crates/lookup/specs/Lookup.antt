@@ -25,6 +25,10 @@ pub record Left (P : List Entry → Type 0) (file : List ℕ) (at count : ℕ) :
   pub many : length entries ≡ count
   pub holds : P entries
 
+-- what a line has, or else what was found before it
+abbrev pub latestOf : FindAnswer → FindAnswer → FindAnswer
+latestOf before here = if here .found then here else before
+
 -- the place of the key's value once a line that starts at `at` is passed: in that line, or else as it was before it
 abbrev pub keyThen : List ℕ → ℕ → Item → FindAnswer → FindAnswer
 keyThen k at i found = if isSome (valueIn k i) then valuePlace at i else found

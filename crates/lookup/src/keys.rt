@@ -13,27 +13,37 @@ ghost use Rattle.format.specs.Refusals.{fine};
 ghost use Rattle.format.specs.Header.{Item};
 ghost use Rattle.format.specs.Calls.{noPlace, findKeyCall, copyValueCall};
 ghost use Rattle.header.specs.Accepted.{Headed, IsItem};
-ghost use Rattle.lookup.specs.Lookup.{keyThen, KeyLeft};
+ghost use Rattle.lookup.specs.Lookup.{keyThen, latestOf, KeyLeft};
 
-// The place of the key's value once a line, which starts at `at`, is passed: in that line, or else as it was before it.
-fn with_pair(t: &[u8], key: &[u8], at: usize, found: FindAnswer) -> FindAnswer
+// The place of the key's value in a line, which starts at `at`; `none` where the line has no value for it.
+fn pair_in(t: &[u8], key: &[u8], at: usize, none: FindAnswer) -> FindAnswer
     requires { ⌜ at + length (now t) ≤ maxHeader ⌝ }
-    ensures { λ r. ⌜ ((i : Item) → IsItem (now (t .entry)) i → r ≡ keyThen (now (key .entry)) at i found) ⌝ }
+    ensures { λ r. ⌜ ((i : Item) → IsItem (now (t .entry)) i → r ≡ keyThen (now (key .entry)) at i none) ⌝ }
 {
     if !header::lines::begins(t) {
-        return found;
+        return none;
     }
     match text::lines::find_mark(t) {
-        Mark::Field(_) => found,
+        Mark::Field(_) => none,
         Mark::Pair(i) => {
             if text::escapes::means(&t[..i], key) {
                 crate::places::placed(at + (i + 2), t.len() - (i + 2))
             } else {
-                found
+                none
             }
         }
-        Mark::Nothing => found,
+        Mark::Nothing => none,
     }
+}
+
+// What a line has, or else what was found before it: of several pairs with the key the last counts.
+fn latest(before: FindAnswer, here: FindAnswer) -> FindAnswer
+    ensures { λ r. ⌜ r ≡ latestOf before here ⌝ }
+{
+    if here.found {
+        return here;
+    }
+    before
 }
 
 // The place of the value in the last line with the key, among `count` lines from `from` on.
@@ -41,13 +51,15 @@ fn last_pair(file: &[u8], key: &[u8], from: usize, count: u32) -> FindAnswer
     requires { ⌜ KeyLeft (now file) (now key) from count (noPlace fine) ⌝ }
     ensures { λ r. ⌜ r ≡ findKeyCall (now (file .entry)) (now (key .entry)) ⌝ }
 {
-    let mut found = crate::places::absent();
+    let none = crate::places::absent();
+    let mut found = none;
     let mut at = from;
     let mut left = count;
     while 0 < left {
         match header::lines::line_at(file, at) {
             Span::Found(e, next) => {
-                found = with_pair(&file[at..e], key, at, found);
+                let here = pair_in(&file[at..e], key, at, none);
+                found = latest(found, here);
                 at = next;
             }
             Span::Past => {

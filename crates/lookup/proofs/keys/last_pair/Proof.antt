@@ -11,10 +11,10 @@ use Rattle.lookup.proofs.keys.last_pair.Statement.{statement}
 use Rattle.lookup.proofs.keys.last_pair.Tie as tie
 
 abbrev Inv-loop : tie.InvT-loop
-Inv-loop file key from count found₀ at₀ left₀ found at left = KeyLeft file key at left found
+Inv-loop file key from count none found₀ at₀ left₀ found at left = KeyLeft file key at left found
 
 abbrev μ-loop : tie.MeasureT-loop
-μ-loop file key from count found₀ at₀ left₀ found at left = left
+μ-loop file key from count none found₀ at₀ left₀ found at left = left
 
 -- the line that was found
 lined : (c : tie.After-known-told Inv-loop μ-loop)
@@ -37,18 +37,21 @@ line-at-requires c κs = let w = c .before .loop .inv in (left-starts w (c .loop
 enum-known-e : tie.Need-enum-known-e Inv-loop μ-loop
 enum-known-e c = search needs
 
-sub-with-pair : tie.Need-sub-with-pair Inv-loop μ-loop
-sub-with-pair c = lined c .from
+sub-pair-in : tie.Need-sub-pair-in Inv-loop μ-loop
+sub-pair-in c = lined c .from
 
-part-with-pair-start : tie.Need-part-with-pair-start Inv-loop μ-loop
-part-with-pair-start c = lined c .from
+part-pair-in-start : tie.Need-part-pair-in-start Inv-loop μ-loop
+part-pair-in-start c = lined c .from
 
-part-with-pair-end : tie.Need-part-with-pair-end Inv-loop μ-loop
-part-with-pair-end c = let w = lined c in omega (arith, w .to, w .within)
+part-pair-in-end : tie.Need-part-pair-in-end Inv-loop μ-loop
+part-pair-in-end c = let w = lined c in omega (arith, w .to, w .within)
 
-with-pair-requires : tie.Need-with-pair-requires Inv-loop μ-loop
-with-pair-requires c κs =
+pair-in-requires : tie.Need-pair-in-requires Inv-loop μ-loop
+pair-in-requires c κs =
     let w = lined (c .before) in simp length-take (omega (arith, w .from, w .to, w .short))
+
+latest-requires : tie.Need-latest-requires Inv-loop μ-loop
+latest-requires c κs = search needs
 
 enum-told : tie.Need-enum-told Inv-loop μ-loop
 enum-told c = search needs
@@ -67,11 +70,13 @@ loop-less c = search needs
 
 loop-again : tie.Need-loop-again Inv-loop μ-loop
 loop-again c =
-    let t = c .before .before .before .before .before .before in
-    key-next _ (t .before .loop .inv) (t .loop-test .taken) (lined (c .before .before)) (c .with-pair .result) (c .with-pair .ensures)
+    let t = c .before .before .before .before .before .before .before in
+    let l = t .before .loop in
+    key-next _ (l .found) (l .inv) (t .loop-test .taken) (lined (c .before .before .before)) _ (c .before .pair-in .result) (c .latest .result)
+    (t .before .before .absent .ensures) (c .before .pair-in .ensures) (c .latest .ensures)
 
 returns-2 : tie.Need-returns-2 Inv-loop μ-loop
-returns-2 c = key-end _ (c .before .loop .inv) (omega arith)
+returns-2 c = key-end _ (c .before .loop .found) (c .before .loop .inv) (omega arith)
 
 pub last-pair-spec : {M : Type 1} → statement M
 last-pair-spec =
@@ -83,10 +88,11 @@ last-pair-spec =
     loop-holds
     line-at-requires
     enum-known-e
-    sub-with-pair
-    part-with-pair-start
-    part-with-pair-end
-    with-pair-requires
+    sub-pair-in
+    part-pair-in-start
+    part-pair-in-end
+    pair-in-requires
+    latest-requires
     enum-told
     returns
     sub-left

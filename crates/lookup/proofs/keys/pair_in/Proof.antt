@@ -1,4 +1,4 @@
--- `lookup::keys::with_pair` meets its contract: each return is one law of what the line gives the key.
+-- `lookup::keys::pair_in` meets its contract: each return is one law of what the line gives the key.
 -- Assumes nothing.
 use Prim.Native.Nat.{_+_, _≤_}
 use native.Mathlib.Omega.{arith}
@@ -14,8 +14,8 @@ use Rattle.text.specs.declared.lines.Mark.the-variants.{Pair}
 use Rattle.text.specs.Places.{markPlace}
 use Rattle.text.proofs.Places.{mark-split-pair}
 use Rattle.lookup.proofs.Finding.{key-bare, key-field, key-pair, key-unmarked}
-use Rattle.lookup.proofs.keys.with_pair.Statement.{statement}
-use Rattle.lookup.proofs.keys.with_pair.Tie as tie
+use Rattle.lookup.proofs.keys.pair_in.Statement.{statement}
+use Rattle.lookup.proofs.keys.pair_in.Tie as tie
 
 -- the line is neither empty nor a comment
 begun : (c : tie.Else1) → beginsFine (c .before .before .before .before .args .t .now) ≡ true
@@ -36,7 +36,7 @@ begins-requires c κs = search needs
 returns : tie.Need-returns
 returns c =
     let a = c .before .before .before .before .args in
-    λ i w. key-bare (a .key .now) (a .at) (a .found) (sym (c .before .begins .ensures) ∙ not-true (c .before .begins .result) (c .if1 .taken)) w
+    λ i w. key-bare (a .key .now) (a .at) (a .none) (sym (c .before .begins .ensures) ∙ not-true (c .before .begins .result) (c .if1 .taken)) w
 
 find-mark-requires : tie.Need-find-mark-requires
 find-mark-requires c κs = search needs
@@ -75,30 +75,30 @@ returns-2 : tie.Need-returns-2
 returns-2 c =
     let b = c .before .before .before in
     let a = b .before .before .before .before .args in
-    λ i w. key-field (a .key .now) (a .at) (a .found) (begun b) w _ (sym (c .before .before .find-mark .ensures) ∙ c .enum-told .given .1)
+    λ i w. key-field (a .key .now) (a .at) (a .none) (begun b) w _ (sym (c .before .before .find-mark .ensures) ∙ c .enum-told .given .1)
 
 returns-3 : tie.Need-returns-3
 returns-3 c =
     let p = c .before .before .before .before in
     let b = p .before .before .before .before in
     let a = b .before .before .before .before .args in
-    λ i w. c .placed .ensures ∙ key-pair (a .key .now) (a .at) (a .found) (begun b) w _ (paired p) true (sym (c .before .before .means .ensures) ∙ c .before .if2 .taken)
+    λ i w. c .placed .ensures ∙ key-pair (a .key .now) (a .at) (a .none) (begun b) w _ (paired p) true (sym (c .before .before .means .ensures) ∙ c .before .if2 .taken)
 
 returns-4 : tie.Need-returns-4
 returns-4 c =
     let p = c .before .before .before in
     let b = p .before .before .before .before in
     let a = b .before .before .before .before .args in
-    λ i w. key-pair (a .key .now) (a .at) (a .found) (begun b) w _ (paired p) false (sym (c .before .means .ensures) ∙ c .if2 .left)
+    λ i w. key-pair (a .key .now) (a .at) (a .none) (begun b) w _ (paired p) false (sym (c .before .means .ensures) ∙ c .if2 .left)
 
 returns-5 : tie.Need-returns-5
 returns-5 c =
     let b = c .before .before .before in
     let a = b .before .before .before .before .args in
-    λ i w. key-unmarked (a .key .now) (a .at) (a .found) (begun b) w (sym (c .before .before .find-mark .ensures) ∙ c .enum-told2 .given .1)
+    λ i w. key-unmarked (a .key .now) (a .at) (a .none) (begun b) w (sym (c .before .before .find-mark .ensures) ∙ c .enum-told2 .given .1)
 
-pub with-pair-spec : {M : Type 1} → statement M
-with-pair-spec =
+pub pair-in-spec : {M : Type 1} → statement M
+pair-in-spec =
     tie.close
     (tie.spec
     begins-requires
