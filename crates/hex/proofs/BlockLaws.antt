@@ -181,9 +181,25 @@ module _ (s : List ℕ) where
       pub gathering-more : (d′ : List ℕ) (i′ o′ : ℕ) → o′ ≤ m → i′ ≤ length s → length d′ ≡ length d → (digitsRefusal (m - o) (digitsAt s i) ≡ 0 → Moved s i i′ d o d′ o′) → Gathering d′ i′ o′
       gathering-more d′ i′ o′ h e n p = record { few = h; within = e; long = n ∙ g .long; same = λ f. p (left-fine f) ∙ g .same f }
 
+-- where 32 digits more are stored, which stand in w + 1 bytes
+module _ (n at w k m o : ℕ) (h : at + suc w ≤ n) (p : 32 ≤ m - o) where
+  pub more-fit : m ≤ k → o + 32 ≤ k
+  more-fit q = omega arith
+
+  pub more-end : (at < at + suc w) × ((at + suc w ≤ n) × ((o ≤ o + 32) × (o + 32 ≤ m)))
+  more-end = (omega arith, (h, (omega arith, omega arith)))
+
 -- at most 25 bytes of those that are left, and of those that may be stored
-pub few-bytes : (a b l c : ℕ) → l ≡ min a b → c ≡ min 25 l → 0 < a → 0 < b → (0 < c) × ((c ≤ a) × (c ≤ b))
-few-bytes a b l c p q h k = (omega arith, (omega arith, omega arith))
+module _ (n at k m o l c : ℕ) (h : at < n) (p : o < m) (q : m ≤ k) (e : l ≡ min (n - at) (m - o)) (g : c ≡ min 25 l) where
+  pub few-fit : (at + c ≤ n) × (o + c ≤ k)
+  few-fit = (omega arith, omega arith)
+
+  pub few-wanted : c ≤ m - o
+  few-wanted = omega arith
+
+  -- the digits of that many end at r
+  pub few-end : (r : ℕ) → (o ≤ r) × (r ≤ o + c) → (at < at + c) × ((at + c ≤ n) × ((o ≤ r) × (r ≤ m)))
+  few-end r w = (omega arith, (omega arith, (w .0, omega arith)))
 
 -- ---- a list that becomes another, element by element
 
