@@ -8,8 +8,8 @@ use native.Mathlib.Nat.{add-zero, add-suc, suc-add, le-step, ne-of-gt, sub-zero}
 use native.Mathlib.Numerals.{add-one}
 use native.Mathlib.Omega.{arith}
 use lib.Dec.{eqb}
-use lib.ListN.{length, getD, set, drop, length-append, length-set, length-reverse}
-use lib.Seq.{sets, length-sets, set-comm, set-set, drop-cons}
+use lib.ListN.{length, getD, set, take, drop, length-append, length-set, length-reverse}
+use lib.Seq.{sets, sets-eq, take-at, length-sets, set-comm, set-set, drop-cons}
 use Rattle.format.specs.Bytes.{if_then_else_}
 use Rattle.format.specs.Descriptors.{big}
 use Rattle.format.specs.Samples.{toBytes, ordered}
@@ -39,6 +39,12 @@ module _ {ℓ} {A : Type ℓ} where
   pub set-under : (l v : List A) (i : ℕ) (a : A) → 1 ≤ length v → sets (set l i a) i v ≡ sets l i v
   set-under l [] i a h = absurd (omega arith)
   set-under l (b ∷ v) i a h = ap (λ (m : List A). sets m (suc i) v) (set-set l i a b)
+
+-- what stands at the front of a list where a run was stored
+pub stored-front : (x l run : List ℕ) (n : ℕ) → x ≡ sets l 0 run → n ≡ length run → n ≤ length l → take n x ≡ run
+stored-front x l run n e q h =
+    let k : 0 + length run ≤ length l = omega arith in
+    ap (take n) (e ∙ sets-eq run l 0 k) ∙ take-at run (drop (0 + length run) l) n (sym q)
 
 -- ---- the elements of zs from i on
 

@@ -1,4 +1,2 @@
-pub mod Parts
-pub mod Samples
 pub mod Header
 pub mod Whole

@@ -10,7 +10,7 @@ use lib.Dec.{eqb, leb, ltb}
 use lib.IntN.{ℤ}
 use lib.ListN.{length, take, drop, length-append, length-take}
 use lib.Seq.{sets, sets-eq, take-all, take-at}
-use borrow.Author.Tests.{ne-eqb, ltb-false, le-ltb, lt-leb, leb-true, leb-false}
+use borrow.Author.Tests.{ne-eqb, ltb-false, lt-leb, leb-true, leb-false}
 use Rattle.format.specs.Bytes.{if_then_else_, between, isIn, over}
 use Rattle.format.specs.Limits.{maxFile, maxExtent, maxVersion}
 use Rattle.format.specs.Descriptors.{sampleBytes, numberKind, isFloating, product, extent}
@@ -23,15 +23,6 @@ use Rattle.writable.proofs.Refuse.{early-11}
 use Rattle.writer.specs.Stored.{answerOf}
 
 -- ---- the refusals
-
--- what is no longer than a file that is not refused is not refused
-pub late-less : (a b room : ℕ) → a ≤ b → 0 ≡ lateRefusal b room → 0 ≡ lateRefusal a room
-late-less a b room h e = go (ltb maxFile b) (ltb room b) refl refl e
-  where
-    go : (s t : Bool) → ltb maxFile b ≡ s → ltb room b ≡ t → _≡_ {A = ℕ} 0 (if s then 1 else if t then 22 else 0) → 0 ≡ lateRefusal a room
-    go true t k l r = absurd (omega arith)
-    go false true k l r = absurd (omega arith)
-    go false false k l r = rw (le-ltb maxFile a (omega (arith, ltb-false maxFile b k)), le-ltb room a (omega (arith, ltb-false room b l)))
 
 module _ (version : ℕ) (sizes : List ℕ) (t e endian : ℕ) (zs : List ℤ) where
   abbrev file : List ℕ
@@ -139,9 +130,3 @@ module _ (version : ℕ) (t e endian : ℕ) (zs : List ℤ) (out : List ℕ) whe
 -- what stands at the front of a list where numbers were put
 pub put-front : (x l run : List ℕ) (n : ℕ) → x ≡ over run l → length run ≡ n → take n x ≡ run
 put-front x l run n e q = ap (take n) e ∙ take-at run (drop (length run) l) n q
-
--- what stands at the front of a list where a run was stored
-pub stored-front : (x l run : List ℕ) (n : ℕ) → x ≡ sets l 0 run → n ≡ length run → n ≤ length l → take n x ≡ run
-stored-front x l run n e q h =
-    let k : 0 + length run ≤ length l = omega arith in
-    ap (take n) (e ∙ sets-eq run l 0 k) ∙ take-at run (drop (0 + length run) l) n (sym q)

@@ -1,17 +1,11 @@
 -- What the writer's parts store, in the words of their contracts. Each is tied to the definitions of `format` by a law of proofs/.
 use Prim.Native.Nat.{ℕ}
 use mathlib.Core.List.{List, [], _∷_, _++_, flatMap}
-use lib.IntN.{ℤ}
 use Rattle.format.specs.Bytes.{if_then_else_, bytes, LF, SPACE}
 use Rattle.format.specs.declared.WriteAnswer.{WriteAnswer}
 use Rattle.format.specs.Refusals.{refusal}
 use Rattle.format.specs.Descriptors.{typeAt, typeName, encodings, endians, endianNeeded}
-use Rattle.format.specs.Samples.{toBytes, ordered, fromSigned}
 use Rattle.format.specs.Writer.{decimal, nameAt}
-
--- the low w bytes of a sample's 64 bits
-abbrev pub lowBytes : ℕ → ℕ → ℤ → List ℕ
-lowBytes w endian z = ordered endian (toBytes w (fromSigned 8 z))
 
 -- a number after a space
 abbrev pub afterSpace : ℕ → List ℕ

@@ -8,7 +8,6 @@ ghost use Rattle.format.specs.Calls.{writeCall};
 ghost use Rattle.writable.specs.Refused.{chosen};
 ghost use Rattle.writer.specs.Stored.{answerOf};
 
-mod body;
 mod head;
 
 use format::Refusal;

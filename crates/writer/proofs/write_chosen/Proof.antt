@@ -11,9 +11,10 @@ use Rattle.format.specs.Writer.{allInType}
 use Rattle.roundtrip.specs.RoundTrip.{headerBytes}
 use Rattle.writable.specs.Refused.{chosen}
 use Rattle.words.proofs.WidthLaws.{width-le}
-use Rattle.writer.proofs.Samples.{low-data, text-bound}
+use Rattle.body.proofs.Samples.{low-data, text-bound}
+use Rattle.store.proofs.Runs.{stored-front}
 use Rattle.writable.proofs.Refuse.{few-samples}
-use Rattle.writer.proofs.Whole.{early-call, late-call, fits, full-call, stored-front}
+use Rattle.writer.proofs.Whole.{early-call, late-call, fits, full-call}
 use Rattle.writer.proofs.write_chosen.Statement.{statement}
 use Rattle.writer.proofs.write_chosen.Tie as tie
 

@@ -10,7 +10,7 @@ use Rattle.format.specs.Writer.{decimal}
 use Rattle.writer.specs.Stored.{afterSpace}
 use Rattle.store.proofs.Digits.{at-most-20}
 use Rattle.store.proofs.Runs.{Putting, putting-none, putting-more, putting-done, putting-end, set-then}
-use Rattle.writer.proofs.Parts.{flat-next, flat-over}
+use Rattle.body.proofs.Parts.{flat-next, flat-over}
 use Rattle.writer.proofs.head.put_spaced.Statement.{statement}
 use Rattle.writer.proofs.head.put_spaced.Tie as tie
 

@@ -1,10 +1,10 @@
--- `writer::body::any_text_fits` meets its contract. Assumes nothing.
+-- `body::any_text_fits` meets its contract. Assumes nothing.
 use borrow.Author.Needs.{needs}
 use mathlib.Core.Path.{sym, _∙_}
 use mathlib.Core.Bool.{false≢true}
 use borrow.Author.Tests.{eqb-true}
-use Rattle.writer.proofs.body.any_text_fits.Statement.{statement}
-use Rattle.writer.proofs.body.any_text_fits.Tie as tie
+use Rattle.body.proofs.any_text_fits.Statement.{statement}
+use Rattle.body.proofs.any_text_fits.Tie as tie
 
 mul-late-refusal : tie.Need-mul-late-refusal
 mul-late-refusal c = search needs

@@ -1,8 +1,8 @@
--- `writer::body::put_by_width` meets its contract. Assumes nothing.
+-- `body::put_by_width` meets its contract. Assumes nothing.
 use borrow.Author.Needs.{needs}
 use Rattle.words.proofs.WidthLaws.{width-eight}
-use Rattle.writer.proofs.body.put_by_width.Statement.{statement}
-use Rattle.writer.proofs.body.put_by_width.Tie as tie
+use Rattle.body.proofs.put_by_width.Statement.{statement}
+use Rattle.body.proofs.put_by_width.Tie as tie
 
 put-raw-requires : tie.Need-put-raw-requires
 put-raw-requires c κs = (c .before .before .before .before .pre .1, c .before .before .before .before .pre .2, rw (c .before .if1 .taken) at (c .before .before .before .before .pre .3))

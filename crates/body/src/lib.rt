@@ -7,7 +7,7 @@ ghost use lib.ListN.{length};
 ghost use lib.Seq.{sets, slice};
 ghost use Rattle.format.specs.Writer.{hexText, textData, rawData, dataBytes};
 ghost use Rattle.writable.specs.Refused.{chosen, lateRefusal};
-ghost use Rattle.writer.specs.Stored.{lowBytes};
+ghost use Rattle.body.specs.LowBytes.{lowBytes};
 ghost use Rattle.words.specs.Widths.{Width};
 
 // How many bytes the samples take as text.
@@ -190,7 +190,7 @@ fn any_text_fits(start: usize, n: usize, encoding: u64, room: usize) -> bool
 }
 
 // The refusal of a file whose data starts at `start`. The length of text is worked out only where its lines might not fit.
-pub(crate) fn file_refusal(
+pub fn file_refusal(
     start: usize,
     samples: &[i64],
     lent: &[u8],
@@ -218,7 +218,7 @@ pub(crate) fn file_refusal(
 }
 
 // The data. The samples are those of a type of w bytes: the low bytes of each are its bytes.
-pub(crate) fn put_data(
+pub fn put_data(
     out: &mut [u8],
     at: usize,
     samples: &[i64],

@@ -1,4 +1,4 @@
--- `writer::body::put_raw` meets its contract: `Putting` of Runs.antt. Assumes nothing.
+-- `body::put_raw` meets its contract: `Putting` of Runs.antt. Assumes nothing.
 use borrow.Author.Needs.{needs}
 use Prim.Native.Nat.{_+_, _-_, _≤_}
 use mathlib.Core.Path.{refl, ap, _∙_}
@@ -9,13 +9,13 @@ use lib.IntN.{pos}
 use lib.ListN.{getD}
 use lib.Seq.{sets, slice}
 use Rattle.writable.specs.Refused.{chosen}
-use Rattle.writer.specs.Stored.{lowBytes}
+use Rattle.body.specs.LowBytes.{lowBytes}
 use Rattle.store.proofs.Runs.{Putting, putting-none, putting-room, putting-more, putting-done, putting-end}
-use Rattle.writer.proofs.Parts.{part-next, part-over}
-use Rattle.writer.proofs.Samples.{low-size, part-length}
-use Rattle.writer.proofs.Samples.{bits-low}
-use Rattle.writer.proofs.body.put_raw.Statement.{statement}
-use Rattle.writer.proofs.body.put_raw.Tie as tie
+use Rattle.body.proofs.Parts.{part-next, part-over}
+use Rattle.body.proofs.Samples.{low-size, part-length}
+use Rattle.body.proofs.Samples.{bits-low}
+use Rattle.body.proofs.put_raw.Statement.{statement}
+use Rattle.body.proofs.put_raw.Tie as tie
 
 abbrev Inv-loop : tie.InvT-loop
 Inv-loop out₀ at samples lent packed from to w endian o₀ i₀ out o i = Putting (flatMap (lowBytes w endian) (slice from to (chosen packed samples lent))) out₀ at out o (flatMap (lowBytes w endian) (slice i to (chosen packed samples lent))) × (i ≤ to)

@@ -1,4 +1,4 @@
--- `writer::body::data_length` meets its contract. Assumes nothing.
+-- `body::data_length` meets its contract. Assumes nothing.
 use borrow.Author.Needs.{needs}
 use Prim.Native.Nat.{ℕ, _*_}
 use mathlib.Core.Path.{sym, ap, _∙_}
@@ -6,9 +6,9 @@ use native.Mathlib.Omega.{arith}
 use denote.Ref.{now}
 use lib.ListN.{length}
 use Rattle.writable.specs.Refused.{chosen}
-use Rattle.writer.proofs.Samples.{raw-is-long, text-is, hex-is-long}
-use Rattle.writer.proofs.body.data_length.Statement.{statement}
-use Rattle.writer.proofs.body.data_length.Tie as tie
+use Rattle.body.proofs.Samples.{raw-is-long, text-is, hex-is-long}
+use Rattle.body.proofs.data_length.Statement.{statement}
+use Rattle.body.proofs.data_length.Tie as tie
 
 text-length-requires : tie.Need-text-length-requires
 text-length-requires c κs = search needs

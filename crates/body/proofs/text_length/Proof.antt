@@ -1,4 +1,4 @@
--- `writer::body::text_length` meets its contract. The loop's invariant: what is counted and the text of the samples from i on are as long as all the text. Assumes nothing.
+-- `body::text_length` meets its contract. The loop's invariant: what is counted and the text of the samples from i on are as long as all the text. Assumes nothing.
 use borrow.Author.Needs.{needs}
 use Prim.Native.Nat.{_+_, _*_, _-_, _≤_}
 use mathlib.Core.Path.{_≡_, ap}
@@ -9,11 +9,11 @@ use lib.IntN.{pos}
 use lib.ListN.{length, getD, drop}
 use Rattle.store.specs.Stored.{textLine}
 use Rattle.writable.specs.Refused.{chosen}
-use Rattle.writer.proofs.Parts.{flat-next-length, flat-over}
+use Rattle.body.proofs.Parts.{flat-next-length, flat-over}
 use Rattle.store.proofs.Signs.{line-length}
-use Rattle.writer.proofs.Samples.{flat-text}
-use Rattle.writer.proofs.body.text_length.Statement.{statement}
-use Rattle.writer.proofs.body.text_length.Tie as tie
+use Rattle.body.proofs.Samples.{flat-text}
+use Rattle.body.proofs.text_length.Statement.{statement}
+use Rattle.body.proofs.text_length.Tie as tie
 
 abbrev Inv-loop : tie.InvT-loop
 Inv-loop samples lent packed n total₀ i₀ total i = (i ≤ length (chosen packed samples lent)) × (total + length (flatMap textLine (drop i (chosen packed samples lent))) ≡ length (flatMap textLine (chosen packed samples lent))) × (total ≤ 22 * i)

@@ -1,4 +1,4 @@
--- `writer::body::put_text` meets its contract: `Putting` of Runs.antt. Assumes nothing.
+-- `body::put_text` meets its contract: `Putting` of Runs.antt. Assumes nothing.
 use borrow.Author.Needs.{needs}
 use Prim.Native.Nat.{_+_, _-_, _≤_}
 use mathlib.Core.List.{flatMap}
@@ -10,10 +10,10 @@ use Rattle.format.specs.Writer.{textData}
 use Rattle.store.specs.Stored.{textLine}
 use Rattle.writable.specs.Refused.{chosen}
 use Rattle.store.proofs.Runs.{Putting, putting-none, putting-room, putting-more, putting-done, putting-end}
-use Rattle.writer.proofs.Parts.{flat-next, flat-over}
-use Rattle.writer.proofs.Samples.{flat-text}
-use Rattle.writer.proofs.body.put_text.Statement.{statement}
-use Rattle.writer.proofs.body.put_text.Tie as tie
+use Rattle.body.proofs.Parts.{flat-next, flat-over}
+use Rattle.body.proofs.Samples.{flat-text}
+use Rattle.body.proofs.put_text.Statement.{statement}
+use Rattle.body.proofs.put_text.Tie as tie
 
 abbrev Inv-loop : tie.InvT-loop
 Inv-loop out₀ at samples lent packed n o₀ i₀ out o i = Putting (textData (chosen packed samples lent)) out₀ at out o (flatMap textLine (drop i (chosen packed samples lent))) × (i ≤ length (chosen packed samples lent))

@@ -1,9 +1,9 @@
--- `writer::body::put_sized` meets its contract. Assumes nothing.
+-- `body::put_sized` meets its contract. Assumes nothing.
 use borrow.Author.Needs.{needs}
 use mathlib.Core.Path.{_≡_}
 use native.Mathlib.Omega.{arith}
-use Rattle.writer.proofs.body.put_sized.Statement.{statement}
-use Rattle.writer.proofs.body.put_sized.Tie as tie
+use Rattle.body.proofs.put_sized.Statement.{statement}
+use Rattle.body.proofs.put_sized.Tie as tie
 
 put-by-width-requires : tie.Need-put-by-width-requires
 put-by-width-requires c κs = search needs

@@ -1,4 +1,4 @@
--- `writer::body::put_data` meets its contract. Assumes nothing.
+-- `body::put_data` meets its contract. Assumes nothing.
 use borrow.Author.Needs.{needs}
 use Prim.Native.Nat.{ℕ, _+_, _*_}
 use mathlib.Core.Path.{_≡_, sym, ap, _∙_}
@@ -11,11 +11,11 @@ use lib.Seq.{sets, take-length}
 use Rattle.format.specs.Bytes.{LF}
 use Rattle.format.specs.Writer.{hexText}
 use Rattle.writable.specs.Refused.{chosen}
-use Rattle.writer.specs.Stored.{lowBytes}
+use Rattle.body.specs.LowBytes.{lowBytes}
 use Rattle.words.proofs.Stores.{sets-then}
-use Rattle.writer.proofs.Samples.{raw-is, raw-is-long, text-is, hex-is, hex-is-long, hex-whole, twice}
-use Rattle.writer.proofs.body.put_data.Statement.{statement}
-use Rattle.writer.proofs.body.put_data.Tie as tie
+use Rattle.body.proofs.Samples.{raw-is, raw-is-long, text-is, hex-is, hex-is-long, hex-whole, twice}
+use Rattle.body.proofs.put_data.Statement.{statement}
+use Rattle.body.proofs.put_data.Tie as tie
 
 count-requires : tie.Need-count-requires
 count-requires c κs = search needs

@@ -1,4 +1,4 @@
--- `writer::body::file_refusal` meets its contract. Assumes nothing.
+-- `body::file_refusal` meets its contract. Assumes nothing.
 use borrow.Author.Needs.{needs}
 use Prim.Native.Nat.{ℕ, _+_, _*_}
 use mathlib.Core.Path.{ap, _∙_}
@@ -7,10 +7,10 @@ use denote.Ref.{now}
 use lib.ListN.{length}
 use Rattle.format.specs.Writer.{dataBytes}
 use Rattle.writable.specs.Refused.{chosen, lateRefusal}
-use Rattle.writer.proofs.Samples.{text-is}
-use Rattle.writer.proofs.Whole.{late-less}
-use Rattle.writer.proofs.body.file_refusal.Statement.{statement}
-use Rattle.writer.proofs.body.file_refusal.Tie as tie
+use Rattle.body.proofs.Samples.{text-is}
+use Rattle.body.proofs.Samples.{late-less}
+use Rattle.body.proofs.file_refusal.Statement.{statement}
+use Rattle.body.proofs.file_refusal.Tie as tie
 
 count-requires : tie.Need-count-requires
 count-requires c κs = search needs

@@ -1,4 +1,4 @@
--- `writer::body::put_hex` meets its contract: `Putting` of Runs.antt, a part of the samples at a time. Assumes nothing.
+-- `body::put_hex` meets its contract: `Putting` of Runs.antt, a part of the samples at a time. Assumes nothing.
 use borrow.Author.Needs.{needs}
 use Prim.Native.Nat.{_-_, _≤_}
 use mathlib.Core.Path.{_≡_, refl, sym, ap}
@@ -9,15 +9,15 @@ use lib.ListN.{length, take, drop}
 use lib.Seq.{slice}
 use Rattle.format.specs.Writer.{hexText}
 use Rattle.writable.specs.Refused.{chosen}
-use Rattle.writer.specs.Stored.{lowBytes}
+use Rattle.body.specs.LowBytes.{lowBytes}
 use Rattle.store.proofs.Runs.{Putting, putting-none, putting-room, putting-more, putting-done, putting-end}
-use Rattle.writer.proofs.Parts.{flat-over}
+use Rattle.body.proofs.Parts.{flat-over}
 use Rattle.words.proofs.WidthLaws.{width-le}
 use Rattle.store.proofs.HexLaws.{hex-length}
-use Rattle.writer.proofs.Samples.{part-room, part-length, hex-parts, hex-whole}
-use Rattle.writer.proofs.Whole.{stored-front}
-use Rattle.writer.proofs.body.put_hex.Statement.{statement}
-use Rattle.writer.proofs.body.put_hex.Tie as tie
+use Rattle.body.proofs.Samples.{part-room, part-length, hex-parts, hex-whole}
+use Rattle.store.proofs.Runs.{stored-front}
+use Rattle.body.proofs.put_hex.Statement.{statement}
+use Rattle.body.proofs.put_hex.Tie as tie
 
 abbrev Inv-loop : tie.InvT-loop
 Inv-loop out₀ at samples lent packed w endian n part₀ o₀ i₀ out part o i = Putting (hexText (flatMap (lowBytes w endian) (chosen packed samples lent))) out₀ at out o (hexText (flatMap (lowBytes w endian) (drop i (chosen packed samples lent)))) × (i ≤ length (chosen packed samples lent)) × (2048 ≡ length part)

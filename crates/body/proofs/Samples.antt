@@ -11,8 +11,9 @@ use lib.Dec.{ltb, lit<}
 use lib.IntN.{ℤ, pos, negsuc}
 use lib.ListN.{length, drop, length-append}
 use lib.Seq.{slice, length-slice}
-use borrow.Author.Tests.{ltb-true, leb-true, ne-eqb}
+use borrow.Author.Tests.{ltb-true, ltb-false, le-ltb, leb-true, ne-eqb}
 use Rattle.format.specs.Bytes.{if_then_else_, LF}
+use Rattle.format.specs.Limits.{maxFile}
 use Rattle.format.specs.Descriptors.{NumberKind, signed, unsigned, floating}
 use Rattle.format.specs.Samples.{inType, lowest, highest, toBytes, ordered, toSigned, fromSigned, valueBytes}
 use Rattle.format.specs.Writer.{signedDecimal, hexText, rawData, textData, dataBytes, allInType}
@@ -22,8 +23,9 @@ use Rattle.words.proofs.Stores.{flat-length}
 use Rattle.store.specs.Stored.{textLine}
 use Rattle.store.proofs.Digits.{at-most-20}
 use Rattle.store.proofs.HexLaws.{hex-length}
-use Rattle.writer.specs.Stored.{lowBytes}
-use Rattle.writer.proofs.Parts.{flat-parts}
+use Rattle.writable.specs.Refused.{lateRefusal}
+use Rattle.body.specs.LowBytes.{lowBytes}
+use Rattle.body.proofs.Parts.{flat-parts}
 
 -- ---- text
 
@@ -181,3 +183,14 @@ pub part-room : (w i e : ℕ) → w ≤ 8 → e ≤ i + 256 → (e - i) * w ≤ 
 part-room w i e h l =
     let k : e - i ≤ 256 = omega arith in
     omega (arith, mul-le-mul k h)
+
+-- ---- the refusal by length
+
+-- what is no longer than a file that is not refused is not refused
+pub late-less : (a b room : ℕ) → a ≤ b → 0 ≡ lateRefusal b room → 0 ≡ lateRefusal a room
+late-less a b room h e = go (ltb maxFile b) (ltb room b) refl refl e
+  where
+    go : (s t : Bool) → ltb maxFile b ≡ s → ltb room b ≡ t → _≡_ {A = ℕ} 0 (if s then 1 else if t then 22 else 0) → 0 ≡ lateRefusal a room
+    go true t k l r = absurd (omega arith)
+    go false true k l r = absurd (omega arith)
+    go false false k l r = rw (le-ltb maxFile a (omega (arith, ltb-false maxFile b k)), le-ltb room a (omega (arith, ltb-false room b l)))
