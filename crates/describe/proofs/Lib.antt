@@ -1,4 +1,2 @@
-pub mod Printing
-pub mod Names
 pub mod KeyLines
 pub mod Listed

@@ -36,7 +36,8 @@ use Rattle.header.proofs.Numbered.{NumberedOutcome, header-numbered}
 use Rattle.header.proofs.Accepted.{items}
 use Rattle.volume.specs.Places.{IsReading}
 use Rattle.volume.proofs.Headers.{header-axes, header-sizes}
-use Rattle.describe.specs.Shown.{listingCall, formText, typeText, endianText, topText, middleText, endText, markOf, isKey, isLater, shownMark, shownLines, linesFrom, Within, readingText}
+use Rattle.printed.specs.Lines.{formText, typeText, endianText, topText, middleText, endText}
+use Rattle.describe.specs.Shown.{listingCall, markOf, isKey, isLater, shownMark, shownLines, linesFrom, Within, readingText}
 
 -- ---- the mark of a judged line
 

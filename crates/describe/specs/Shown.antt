@@ -1,4 +1,4 @@
--- The call that lists a file, and its parts: the lines of a reading by its numbers, and the lines of keys by the lines of the header.
+-- The call that lists a file, and its parts: the lines of keys by the lines of the header, and all lines of a reading.
 use Prim.Native.Nat.{ℕ, _+_, _≤_}
 use mathlib.Core.Bool.{Bool, false, _||_}
 use mathlib.Core.List.{List, [], _∷_, _++_}
@@ -6,15 +6,14 @@ use lib.Dec.{eqb, ltb}
 use lib.ListN.{length, take, drop}
 use Rattle.format.specs.declared.Reading.{Reading}
 use Rattle.format.specs.declared.WriteAnswer.{WriteAnswer}
-use Rattle.format.specs.Bytes.{if_then_else_, bytes, same, HASH, EQUALS}
+use Rattle.format.specs.Bytes.{if_then_else_, same, HASH, EQUALS}
 use Rattle.format.specs.Limits.{maxHeader}
 use Rattle.format.specs.Refusals.{lentTooShort}
 use Rattle.format.specs.Lines.{Line, text, lines, unlines}
 use Rattle.format.specs.Pairs.{Marked, unmarked, fieldMark, pairMark, mark}
-use Rattle.format.specs.Descriptors.{typeAt, typeName, encodings, endians, noEndian}
 use Rattle.format.specs.Calls.{writeAnswer}
-use Rattle.format.specs.Writer.{decimal, spaced, nameAt}
 use Rattle.format.specs.Listing.{shown, listing}
+use Rattle.printed.specs.Lines.{topText, middleText, endText}
 
 -- ---- describe::listing: the answer, and the lent buffer as it returns
 
@@ -22,34 +21,9 @@ use Rattle.format.specs.Listing.{shown, listing}
 abbrev pub listingCall : List ℕ → List ℕ → WriteAnswer × List ℕ
 listingCall file out = writeAnswer (if ltb (length out) (length (listing file)) then lentTooShort else 0) (listing file) out
 
--- ---- the lines of a reading, by its numbers
-
--- the row of a table for a number, and a row for the numbers that have none
-abbrev pub rowFor : ℕ → ℕ → ℕ → ℕ
-rowFor n rows past = if ltb n rows then n else past
-
-abbrev pub formText : ℕ → List ℕ
-formText form = if eqb form 1 then bytes "detached" else bytes "attached"
-
-abbrev pub typeText : ℕ → List ℕ
-typeText t = bytes (typeName (typeAt t))
-
-abbrev pub endianText : ℕ → List ℕ
-endianText e = if eqb e noEndian then bytes "none" else nameAt endians e
-
--- version, form and type
-unfoldable pub topText : Reading → List ℕ
-topText x = shown "version" (decimal (x .version)) ++ (shown "form" (formText (x .form)) ++ shown "type" (typeText (x .sampletype)))
-
--- sizes, encoding and endian
-unfoldable pub middleText : Reading → List ℕ
-middleText x =
-    shown "sizes" (spaced (take (x .dimension) (x .sizes)))
-    ++ (shown "encoding" (nameAt encodings (x .encoding)) ++ shown "endian" (endianText (x .endian)))
-
--- start and extent
-unfoldable pub endText : ℕ → ℕ → List ℕ
-endText start extent = shown "start" (decimal start) ++ shown "extent" (decimal extent)
+-- no listing is longer: 480 bytes for the lines of a reading, the 65,535 bytes of the longest header, and 4 more for each of its 1,024 lines
+abbrev pub maxListing : ℕ
+maxListing = 70_111
 
 -- ---- the lines of keys, by the lines of a header
 

@@ -1,6 +1,5 @@
 // The lines of the keys: each pair of the header that is the last one with its key, as its texts stand in the file. Two keys are the same
 // where their texts are, since a key has one escaped text.
-use crate::put;
 use header::lines::Span;
 use text::lines::Mark;
 ghost use mathlib.Core.Path.{_≡_};
@@ -8,7 +7,7 @@ ghost use Prim.Native.Nat.{_+_, _≤_};
 ghost use lib.ListN.{length, take, drop};
 ghost use Rattle.format.specs.Limits.{maxLines};
 ghost use Rattle.text.specs.Places.{markPlace};
-ghost use Rattle.describe.specs.Printed.{Printed, maxPlace};
+ghost use Rattle.printed.specs.Printed.{Printed, maxPlace};
 ghost use Rattle.describe.specs.Shown.{markOf, isKey, isLater, keyText, shownMark, shownLines, linesFrom, Within};
 
 // The mark of a line; an empty line and a comment have none.
@@ -64,9 +63,9 @@ fn put_key(out: &mut [u8], at: usize, t: &[u8], i: usize) -> usize
     requires { ⌜ (i + 2 ≤ length (now t)) × (at + (length (now t) + 4) ≤ maxPlace) ⌝ }
     ensures { λ r. ⌜ Printed (length (now (t .entry)) + 4) (now (out .entry)) at (keyText (take i (now (t .entry))) (drop (i + 2) (now (t .entry)))) (now (out .exit)) r ⌝ }
 {
-    let a = put::put_bytes(out, at, b"key ");
-    let e = put::put_bytes(out, a, &t[..i]);
-    put::put_line(out, e, b"=", &t[i + 2..])
+    let a = printed::put::put_bytes(out, at, b"key ");
+    let e = printed::put::put_bytes(out, a, &t[..i]);
+    printed::put::put_line(out, e, b"=", &t[i + 2..])
 }
 
 // What a line shows; `left` lines from `next` on come after it.

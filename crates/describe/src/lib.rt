@@ -1,7 +1,5 @@
 // The listing of a file: what its header says, where its data starts, or why it is refused.
-mod head;
 mod keys;
-mod put;
 
 use format::Reading;
 use format::Refusal;
@@ -13,16 +11,16 @@ ghost use lib.ListN.{length};
 ghost use Rattle.format.specs.declared.WriteAnswer.{WriteAnswer};
 ghost use Rattle.format.specs.Limits.{maxLines};
 ghost use Rattle.format.specs.Listing.{shownRefusal, listing};
-ghost use Rattle.describe.specs.Printed.{Printed, maxListing};
-ghost use Rattle.describe.specs.Shown.{Within, readingText, listingCall};
+ghost use Rattle.printed.specs.Printed.{Printed};
+ghost use Rattle.describe.specs.Shown.{maxListing, Within, readingText, listingCall};
 
 // The line of a refusal.
 fn put_refusal(out: &mut [u8], refusal: Refusal) -> usize
     ensures { λ r. ⌜ Printed 55 (now (out .entry)) 0 (shownRefusal refusal) (now (out .exit)) r ⌝ }
 {
-    let a = put::put_bytes(out, 0, b"refused ");
-    let e = put::put_decimal(out, a, refusal.number as u64);
-    put::put_number(out, e, b" line ", refusal.line as u64)
+    let a = printed::put::put_bytes(out, 0, b"refused ");
+    let e = printed::put::put_decimal(out, a, refusal.number as u64);
+    printed::put::put_number(out, e, b" line ", refusal.line as u64)
 }
 
 // The lines of a reading; the data starts at `start`.
@@ -30,9 +28,9 @@ fn put_reading(file: &[u8], out: &mut [u8], reading: Reading, start: u64) -> usi
     requires { ⌜ Within (now file) 0 (reading .lines) × (reading .lines ≤ maxLines) × (reading .dimension ≤ length (reading .sizes)) ⌝ }
     ensures { λ r. ⌜ Printed maxListing (now (out .entry)) 0 (readingText (now (file .entry)) reading start) (now (out .exit)) r ⌝ }
 {
-    let a = head::put_top(out, reading);
-    let b = head::put_middle(out, a, reading);
-    let e = head::put_end(out, b, start, reading.extent);
+    let a = printed::head::put_top(out, reading);
+    let b = printed::head::put_middle(out, a, reading);
+    let e = printed::head::put_end(out, b, start, reading.extent);
     keys::put_keys(file, out, e, reading.lines)
 }
 

@@ -2,8 +2,8 @@
 -- Assumes nothing.
 use borrow.Author.Needs.{needs}
 use native.Mathlib.Omega.{arith}
-use Rattle.describe.specs.Printed.{maxListing}
-use Rattle.describe.proofs.Printing.{printed-is, printed-more}
+use Rattle.describe.specs.Shown.{maxListing}
+use Rattle.printed.proofs.Printing.{printed-is, printed-more}
 use Rattle.describe.proofs.Listed.{reading-within, reading-few, reading-axes, was-read, listing-long, listing-refused, listing-detached, listing-nowhere, listing-placed}
 use Rattle.describe.proofs.print.Statement.{statement}
 use Rattle.describe.proofs.print.Tie as tie

@@ -2,7 +2,7 @@
 -- Assumes nothing.
 use borrow.Author.Needs.{needs}
 use Rattle.describe.specs.Shown.{readingText}
-use Rattle.describe.proofs.Printing.{printed-then}
+use Rattle.printed.proofs.Printing.{printed-then}
 use Rattle.describe.proofs.put_reading.Statement.{statement}
 use Rattle.describe.proofs.put_reading.Tie as tie
 

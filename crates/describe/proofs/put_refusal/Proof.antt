@@ -2,7 +2,7 @@
 -- Assumes nothing.
 use borrow.Author.Needs.{needs}
 use Rattle.format.specs.Listing.{shownRefusal}
-use Rattle.describe.proofs.Printing.{printed-then}
+use Rattle.printed.proofs.Printing.{printed-then}
 use Rattle.describe.proofs.put_refusal.Statement.{statement}
 use Rattle.describe.proofs.put_refusal.Tie as tie
 

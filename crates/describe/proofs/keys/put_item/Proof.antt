@@ -9,7 +9,7 @@ use lib.Seq.{length-take-le}
 use Rattle.text.specs.declared.lines.Mark.the-variants.{Pair}
 use Rattle.text.specs.Places.{markPlace}
 use Rattle.describe.specs.Shown.{markOf, linesFrom}
-use Rattle.describe.proofs.Printing.{printed-none, printed-is}
+use Rattle.printed.proofs.Printing.{printed-none, printed-is}
 use Rattle.describe.proofs.KeyLines.{pair-split, field-shown, none-shown, pair-later, pair-last}
 use Rattle.describe.proofs.keys.put_item.Statement.{statement}
 use Rattle.describe.proofs.keys.put_item.Tie as tie

@@ -5,7 +5,7 @@ use native.Mathlib.Omega.{arith}
 use mathlib.Core.Path.{sym}
 use lib.ListN.{length-take, length-drop}
 use lib.Seq.{length-take-le}
-use Rattle.describe.proofs.Printing.{printed-then, printed-is, printed-short}
+use Rattle.printed.proofs.Printing.{printed-then, printed-is, printed-short}
 use Rattle.describe.proofs.KeyLines.{key-parts, key-short}
 use Rattle.describe.proofs.keys.put_key.Statement.{statement}
 use Rattle.describe.proofs.keys.put_key.Tie as tie

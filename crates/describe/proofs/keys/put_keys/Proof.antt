@@ -7,7 +7,7 @@ use mathlib.Core.Path.{ap, subst}
 use lib.ListN.{take, drop, length-take}
 use Rattle.header.specs.Spans.{LineAt, SpanIs}
 use Rattle.describe.specs.Shown.{markOf, shownMark, shownLines, linesFrom, Within}
-use Rattle.describe.proofs.Printing.{Printing, printing-start, printing-more, printing-done}
+use Rattle.printed.proofs.Printing.{Printing, printing-start, printing-more, printing-done}
 use Rattle.describe.proofs.KeyLines.{within-limit, within-starts, within-not-past, within-next, shown-next, lines-none}
 use Rattle.describe.proofs.keys.put_keys.Statement.{statement}
 use Rattle.describe.proofs.keys.put_keys.Tie as tie
