@@ -1,11 +1,13 @@
 -- Laws of pair lines: escapes, the first mark of a line, and what the reader takes for a pair.
 -- Assumes nothing.
 use mathlib.Core.Path.{_≡_, refl, sym, ap, _∙_}
-use Prim.Native.Nat.{ℕ, _≤_}
+use Prim.Native.Nat.{ℕ, _+_, _≤_}
+use native.Mathlib.Omega.{arith}
 use mathlib.Core.Bool.{Bool, true, false, not, _&&_, false≢true}
 use mathlib.Core.List.{List, [], _∷_, _++_}
 use mathlib.Core.Option.{Option, none, some}
 use lib.Dec.{eqb, ltb}
+use lib.ListN.{length, length-append}
 use borrow.Author.Tests.{eqb-true, not-true, le-ltb, ltb-false}
 use Rattle.format.specs.Bytes.{bytes, every, onto, LF, HASH, COLON, SPACE, EQUALS, BACKSLASH, if_then_else_}
 use Rattle.format.specs.Refusals.{badByte, notInVersion}
@@ -239,6 +241,11 @@ fine-key k h =
 pub key-fine : (k : List ℕ) → FineKey k → keyFine k ≡ true
 unfolding keyFine
 key-fine k f = rw (f .begins, f .bytes-fine, f .no-mark)
+
+-- how long a set line's text is
+pub length-pair : (k v : List ℕ) → length (pairText k v) ≡ length (escape k) + 2 + length (escape v)
+unfolding pairText
+length-pair k v = simp length-append (omega arith)
 
 -- the first mark of a set line is its `:=`
 pub mark-of-pair : (k v : List ℕ) → keyFine k ≡ true → mark (pairText k v) ≡ pairMark (escape k) (escape v)

@@ -22,7 +22,7 @@ use Rattle.format.specs.Header.{Item, magic, comment, field, pair, closing, Ent
 use Rattle.format.specs.Settings.{beginsFine, pairText}
 use Rattle.format.specs.Calls.{noPlace, foundAt, valuePlace, keyPlace, findKeyIn, findKeyCall, beforeDescriptor, descriptorPlace, fieldPlace, findFieldIn, findFieldCall}
 use Rattle.format.proofs.Lines.{length-lines-le, length-unlines-cons, lines-after}
-use Rattle.format.proofs.Pairs.{mark-of-pair, pair-line}
+use Rattle.format.proofs.Pairs.{mark-of-pair, pair-line, length-pair}
 use Rattle.format.proofs.Header.{header-sound, magic-line}
 use Rattle.text.specs.declared.lines.Mark.the-variants.{Field, Pair, Nothing}
 use Rattle.text.specs.declared.words.Row.the-variants.{Number, Unknown}
@@ -137,11 +137,6 @@ pair-then k j v at a n found p q = go (same k j)
         ≡ (if isSome (if x then some v else none) then valuePlace at (pair j v) else found)
     go true = rw (p, q)
     go false = refl
-
--- how long the line of a pair is
-length-pair : (k v : List ℕ) → length (pairText k v) ≡ length (escape k) + 2 + length (escape v)
-unfolding pairText
-length-pair k v = simp length-append (omega arith)
 
 module _ (k : List ℕ) (at : ℕ) (found : FindAnswer) {t : List ℕ} {i : Item} where
   -- an empty line and a comment leave what was found

@@ -19,33 +19,10 @@ use Rattle.format.specs.Fields.{Given}
 use Rattle.format.specs.Header.{Item, magic, comment, field, pair, closing, Entry, entry, linesOf, Outcome, refused, accepted, header, valueIn, valueOf}
 use Rattle.format.specs.Settings.{pairText}
 use Rattle.format.specs.Calls.{noPlace, foundAt, valuePlace, keyPlace, findKeyIn, findKeyCall, noValue, copyValue, copyValueIn, copyValueCall}
-use Rattle.format.proofs.Pairs.{unescape-of-escape, pair-line}
+use Rattle.format.proofs.Pairs.{unescape-of-escape}
 use Rattle.format.proofs.Header.{header-sound}
 use Rattle.header.specs.Accepted.{IsItem, Items}
-use Rattle.header.proofs.Accepted.{items}
-
--- the text of a pair's line is its key, `:=` and its value
-abbrev WrittenAs : List ℕ → Item → Type 0
-WrittenAs t (magic n) = Unit {0}
-WrittenAs t comment = Unit {0}
-WrittenAs t (field f d) = Unit {0}
-WrittenAs t (pair k v) = t ≡ pairText k v
-WrittenAs t closing = Unit {0}
-
-abbrev Written : List Entry → Type 0
-Written [] = Unit {0}
-Written (entry l i ∷ es) = WrittenAs (text l) i × Written es
-
-written-as : (t : List ℕ) (i : Item) → IsItem t i → WrittenAs t i
-written-as t (magic n) w = tt
-written-as t comment w = tt
-written-as t (field f d) w = tt
-written-as t (pair k v) w = pair-line (w .version) (w .before) t k v (w .judged) .text-is
-written-as t closing w = tt
-
-written : (es : List Entry) → Items es → Written es
-written [] h = tt
-written (entry l i ∷ es) h = (written-as (text l) i (h .0), written es (h .1))
+use Rattle.header.proofs.Accepted.{items, WrittenAs, Written, written}
 
 -- a place at which the file has the text of the value v
 pub record ValueAt (file : List ℕ) (p : FindAnswer) (v : List ℕ) : Type 0 where

@@ -80,10 +80,6 @@ esc-small c = go (eqb c LF) (eqb c BACKSLASH)
 
 -- ---- the text of a pair
 
-pub length-pair : (k v : List ℕ) → length (pairText k v) ≡ length (escape k) + 2 + length (escape v)
-unfolding pairText
-length-pair k v = simp length-append (omega arith)
-
 pub pair-eq : (b k v : List ℕ) (at a : ℕ) → a ≡ at + length (escape k)
     → sets (set (set (sets b at (escape k)) a 58) (a + 1) 61) (a + 2) (escape v) ≡ sets b at (pairText k v)
 unfolding pairText

@@ -21,40 +21,15 @@ use Rattle.format.specs.Settings.{pairText, hasKey, replaced, newLines}
 use Rattle.format.specs.Calls.{noPlace, foundAt, valuePlace, keyPlace, findKeyIn, findKeyCall}
 use Rattle.format.proofs.Bytes.{same-true}
 use Rattle.format.proofs.Lines.{size-line}
-use Rattle.format.proofs.Pairs.{pair-line}
+use Rattle.format.proofs.Pairs.{length-pair}
 use Rattle.format.proofs.Header.{header-sound, magic-line}
 use Rattle.header.specs.Accepted.{Headed, IsItem, Items}
 use Rattle.header.specs.Spans.{LineAt, PastAt}
-use Rattle.header.proofs.Accepted.{items}
-use Rattle.pairs.proofs.Escapes.{length-pair}
+use Rattle.header.proofs.Accepted.{items, WrittenAs, Written, written}
 use Rattle.splice.specs.Edited.{edited}
 use Rattle.settings.specs.declared.place.Place.{Place}
 use Rattle.settings.specs.Edits.{movedBy, shifted, FirstAt, Placed}
 use Rattle.settings.proofs.Shifting.{moved-below, cons, starts-moved}
-
--- ---- the texts of pairs are those that `pairText` gives
-
-abbrev WrittenAs : List ℕ → Item → Type 0
-WrittenAs t (magic n) = Unit {0}
-WrittenAs t comment = Unit {0}
-WrittenAs t (field f d) = Unit {0}
-WrittenAs t (pair k v) = t ≡ pairText k v
-WrittenAs t closing = Unit {0}
-
-abbrev Written : List Entry → Type 0
-Written [] = Unit {0}
-Written (entry l i ∷ es) = WrittenAs (text l) i × Written es
-
-written-as : (t : List ℕ) (i : Item) → IsItem t i → WrittenAs t i
-written-as t (magic n) w = tt
-written-as t comment w = tt
-written-as t (field f d) w = tt
-written-as t (pair k v) w = pair-line (w .version) (w .before) t k v (w .judged) .text-is
-written-as t closing w = tt
-
-written : (es : List Entry) → Items es → Written es
-written [] h = tt
-written (entry l i ∷ es) h = (written-as (text l) i (h .0), written es (h .1))
 
 -- ---- the last line of a key
 

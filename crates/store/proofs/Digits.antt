@@ -12,7 +12,7 @@ use lib.Seq.{sets}
 use borrow.Author.Tests.{lt-ltb, le-ltb, ltb-true, ltb-false}
 use Rattle.format.specs.Writer.{digit, byDigits, decimalFrom, decimal}
 use Rattle.store.specs.Stored.{digits}
-use Rattle.words.proofs.Stores.{sets-then}
+use Rattle.format.proofs.Stores.{sets-then}
 
 -- a bound that is enough makes no difference
 any-bound : (m k n : ℕ) → n ≤ m → n ≤ k → decimalFrom m n ≡ decimalFrom k n

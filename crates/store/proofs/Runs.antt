@@ -14,23 +14,9 @@ use Rattle.format.specs.Bytes.{if_then_else_}
 use Rattle.format.specs.Descriptors.{big}
 use Rattle.format.specs.Samples.{toBytes, ordered}
 use Rattle.format.proofs.Samples.{length-to-bytes}
-use Rattle.words.proofs.Stores.{sets-then}
+use Rattle.format.proofs.Stores.{sets-then, sets-before}
 
 module _ {ℓ} {A : Type ℓ} where
-  -- a store below a run
-  set-sets : (vs l : List A) (i j : ℕ) (a : A) → i < j → set (sets l j vs) i a ≡ sets (set l i a) j vs
-  set-sets [] l i j a h = refl
-  set-sets (v ∷ vs) l i j a h =
-      set-sets vs (set l j v) i (suc j) a (le-step h) ∙ ap (λ (m : List A). sets m (suc j) vs) (set-comm l j i v a (ne-of-gt h))
-
-  -- a run and the run before it, stored after it
-  pub sets-before : (u v l : List A) (i : ℕ) → sets (sets l (i + length u) v) i u ≡ sets l i (u ++ v)
-  sets-before [] v l i = ap (λ (k : ℕ). sets l k v) (add-zero i)
-  sets-before (x ∷ u) v l i =
-      ap (λ (m : List A). sets m (suc i) u) (set-sets v l i (i + suc (length u)) x (omega arith))
-      ∙ ap (λ (k : ℕ). sets (sets (set l i x) k v) (suc i) u) (add-suc i (length u) ∙ sym (suc-add i (length u)))
-      ∙ sets-before u v (set l i x) (suc i)
-
   -- one element, and a run after it
   pub set-then : (l v : List A) (i : ℕ) (a : A) → sets (set l i a) (i + 1) v ≡ sets l i (a ∷ v)
   set-then l v i a = ap (λ (k : ℕ). sets (set l i a) k v) (add-one i)

@@ -11,8 +11,7 @@ use lib.ListN.{length, take, drop, getD, set, length-append, length-set}
 use lib.Seq.{sets, sets-eq, take-all, drop-at, length-take-le}
 use borrow.Author.Tests.{leb-true, leb-false}
 use Rattle.format.specs.Bytes.{over}
-use Rattle.format.proofs.Stores.{take-more}
-pub use Rattle.format.proofs.Stores.{sets-then}
+use Rattle.format.proofs.Stores.{sets-then, take-more}
 
 module _ {ℓ} {A : Type ℓ} where
   -- a run past a front

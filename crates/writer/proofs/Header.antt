@@ -14,7 +14,7 @@ use Rattle.format.specs.Lines.{line, lf, unlines}
 use Rattle.format.specs.Writer.{decimal, spaced, nameAt, fieldLine, endianLines, headerLines}
 use Rattle.writer.specs.Stored.{valueLine, afterSpace, endianText, topText, restText}
 use Rattle.roundtrip.specs.RoundTrip.{headerBytes}
-use Rattle.words.proofs.Stores.{sets-then}
+use Rattle.format.proofs.Stores.{sets-then}
 
 -- ---- a line
 

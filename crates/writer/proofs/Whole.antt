@@ -17,7 +17,7 @@ use Rattle.format.specs.Descriptors.{sampleBytes, numberKind, isFloating, produ
 use Rattle.format.specs.Writer.{dataBytes, fileBytes, allInType, writable, writeRefusal}
 use Rattle.format.specs.Calls.{writeCall, writeAnswer}
 use Rattle.roundtrip.specs.RoundTrip.{headerBytes}
-use Rattle.words.proofs.Stores.{sets-then}
+use Rattle.format.proofs.Stores.{sets-then}
 use Rattle.writable.specs.Refused.{earlyRefusal, lateRefusal}
 use Rattle.writable.proofs.Refuse.{early-11}
 use Rattle.writer.specs.Stored.{answerOf}

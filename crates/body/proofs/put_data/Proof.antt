@@ -12,7 +12,7 @@ use Rattle.format.specs.Bytes.{LF}
 use Rattle.format.specs.Writer.{hexText}
 use Rattle.writable.specs.Refused.{chosen}
 use Rattle.body.specs.LowBytes.{lowBytes}
-use Rattle.words.proofs.Stores.{sets-then}
+use Rattle.format.proofs.Stores.{sets-then}
 use Rattle.body.proofs.Samples.{raw-is, raw-is-long, text-is, hex-is, hex-is-long, hex-whole, twice}
 use Rattle.body.proofs.put_data.Statement.{statement}
 use Rattle.body.proofs.put_data.Tie as tie

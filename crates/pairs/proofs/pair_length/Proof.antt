@@ -2,7 +2,7 @@
 -- Assumes nothing.
 use denote.Ref.{now}
 use native.Mathlib.Omega.{arith}
-use Rattle.pairs.proofs.Escapes.{length-pair}
+use Rattle.format.proofs.Pairs.{length-pair}
 use borrow.Author.Needs.{needs}
 use Rattle.pairs.proofs.pair_length.Statement.{statement}
 use Rattle.pairs.proofs.pair_length.Tie as tie

@@ -4,7 +4,8 @@ use denote.Ref.{now}
 use mathlib.Core.Path.{_∙_}
 use native.Mathlib.Omega.{arith}
 use lib.ListN.{length-set}
-use Rattle.pairs.proofs.Escapes.{length-pair, pair-eq}
+use Rattle.format.proofs.Pairs.{length-pair}
+use Rattle.pairs.proofs.Escapes.{pair-eq}
 use Rattle.pairs.proofs.put_pair.Statement.{statement}
 use Rattle.pairs.proofs.put_pair.Tie as tie
 

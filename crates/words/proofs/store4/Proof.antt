@@ -9,7 +9,7 @@ use lib.Seq.{sets}
 use Rattle.format.specs.Samples.{toBytes}
 use Rattle.format.proofs.Samples.{length-to-bytes}
 use Rattle.words.proofs.Halves.{to-bytes-halves}
-use Rattle.words.proofs.Stores.{sets-then}
+use Rattle.format.proofs.Stores.{sets-then}
 use borrow.Author.Needs.{needs}
 use Rattle.words.proofs.store4.Statement.{statement}
 use Rattle.words.proofs.store4.Tie as tie

@@ -8,7 +8,7 @@ use denote.Ref.{now}
 use lib.ListN.{set}
 use Rattle.format.specs.Samples.{toSigned}
 use Rattle.format.specs.Writer.{signedDecimal}
-use Rattle.words.proofs.Stores.{sets-then}
+use Rattle.format.proofs.Stores.{sets-then}
 use Rattle.store.proofs.Signs.{line-length}
 use Rattle.store.proofs.samples.put_text_line.Statement.{statement}
 use Rattle.store.proofs.samples.put_text_line.Tie as tie

@@ -8,7 +8,7 @@ use denote.Ref.{now}
 use lib.ListN.{length, length-append}
 use lib.Seq.{sets}
 use Rattle.writer.specs.Stored.{topText, restText}
-use Rattle.words.proofs.Stores.{sets-then}
+use Rattle.format.proofs.Stores.{sets-then}
 use Rattle.writer.proofs.Header.{header-is}
 use Rattle.writer.proofs.head.put_header.Statement.{statement}
 use Rattle.writer.proofs.head.put_header.Tie as tie
