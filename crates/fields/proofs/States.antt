@@ -22,7 +22,6 @@ use Rattle.format.specs.Header.{Item, magic, comment, field, pair, closing, Ent
 use Rattle.format.specs.Calls.{readAnswer, readingOf}
 use Rattle.format.proofs.Bytes.{and-left, and-right}
 use Rattle.format.proofs.Header.{FieldFine, Says, judge-says}
-use Rattle.text.specs.Places.{before}
 use Rattle.text.proofs.Places.{drop-next}
 use Rattle.text.specs.Numbers.{numberAnswer, noSizes, sizesAnswer}
 use Rattle.text.specs.Rows.{rowAnswer}

@@ -15,7 +15,7 @@ use Rattle.format.specs.Limits.{maxFile, maxHeader, maxLines, maxExtent}
 use Rattle.format.specs.Refusals.{badByte, notInVersion, repeatedField, outOfOrder, badDescriptor, fileTooLong, missingField, extentTooLarge, noEnd, headerTooLong, tooManyLines, atLine, refusal}
 use Rattle.format.specs.Lines.{Line, line, lf, crlf, eof, text, size, lines, unlines}
 use Rattle.format.specs.Pairs.{plain, Marked, unmarked, fieldMark, pairMark, mark, unescape}
-use Rattle.format.specs.Fields.{fieldNamed, pairsSince, fieldSince, Given, given, isGiven, inOrder}
+use Rattle.format.specs.Fields.{fieldNamed, pairsSince, fieldSince, Given, isGiven, inOrder}
 use Rattle.format.specs.Descriptors.{descriptor, mayDescribe, hasNeeded, extentOf, isDetached}
 use Rattle.format.specs.Header.{Item, magic, comment, field, pair, closing, Entry, entry, linesOf, magicVersion, versionOfLine, Judged, wrong, right, unescaped, onPair, onField, onMark, judge, Outcome, refused, accepted, withEntry, closes, afterItem, complete, onJudged, walk, afterMagic, fromFirst, header, headerLength}
 pub use Rattle.format.specs.Laws.{closed}

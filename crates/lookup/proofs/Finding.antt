@@ -19,7 +19,7 @@ use Rattle.format.specs.Pairs.{plain, Marked, unmarked, fieldMark, pairMark, ma
 use Rattle.format.specs.Fields.{pairsSince, fieldSince, fieldNamed, understood, Given, isGiven, inOrder}
 use Rattle.format.specs.Descriptors.{trimFront, fromDescriptor, descriptor, mayDescribe}
 use Rattle.format.specs.Header.{Item, magic, comment, field, pair, closing, Entry, entry, lineOf, linesOf, wrong, right, unescaped, onPair, onField, onMark, judge, headerLength, valueIn, valueOf}
-use Rattle.format.specs.Settings.{beginsFine, pairText}
+use Rattle.format.specs.Settings.{beginsFine}
 use Rattle.format.specs.Calls.{noPlace, foundAt, valuePlace, keyPlace, findKeyIn, findKeyCall, beforeDescriptor, descriptorPlace, fieldPlace, findFieldIn, findFieldCall}
 use Rattle.format.proofs.Lines.{length-lines-le, length-unlines-cons, lines-after}
 use Rattle.format.proofs.Pairs.{mark-of-pair, pair-line, length-pair}

@@ -21,7 +21,6 @@ use Rattle.format.specs.Settings.{pairText}
 use Rattle.format.specs.Calls.{noPlace, foundAt, valuePlace, keyPlace, findKeyIn, findKeyCall, noValue, copyValue, copyValueIn, copyValueCall}
 use Rattle.format.proofs.Pairs.{unescape-of-escape}
 use Rattle.format.proofs.Header.{header-sound}
-use Rattle.header.specs.Accepted.{IsItem, Items}
 use Rattle.header.proofs.Accepted.{items, WrittenAs, Written, written}
 
 -- a place at which the file has the text of the value v

@@ -23,7 +23,7 @@ use Rattle.format.proofs.Bytes.{same-true}
 use Rattle.format.proofs.Lines.{size-line}
 use Rattle.format.proofs.Pairs.{length-pair}
 use Rattle.format.proofs.Header.{header-sound, magic-line}
-use Rattle.header.specs.Accepted.{Headed, IsItem, Items}
+use Rattle.header.specs.Accepted.{Headed}
 use Rattle.header.specs.Spans.{LineAt, PastAt}
 use Rattle.header.proofs.Accepted.{items, WrittenAs, Written, written}
 use Rattle.splice.specs.Edited.{edited}

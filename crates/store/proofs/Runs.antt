@@ -4,12 +4,12 @@ use mathlib.Core.Path.{_≡_, refl, sym, ap, _∙_}
 use mathlib.Core.Bool.{Bool, true, false}
 use mathlib.Core.List.{List, [], _∷_, _++_, reverse, reverse-cons}
 use Prim.Native.Nat.{ℕ, suc, _+_, _-_, _/_, _%_, _≤_, _<_}
-use native.Mathlib.Nat.{add-zero, add-suc, suc-add, le-step, ne-of-gt, sub-zero}
+use native.Mathlib.Nat.{add-zero, sub-zero}
 use native.Mathlib.Numerals.{add-one}
 use native.Mathlib.Omega.{arith}
 use lib.Dec.{eqb}
 use lib.ListN.{length, getD, set, take, drop, length-append, length-set, length-reverse}
-use lib.Seq.{sets, sets-eq, take-at, length-sets, set-comm, set-set, drop-cons}
+use lib.Seq.{sets, sets-eq, take-at, length-sets, set-set, drop-cons}
 use Rattle.format.specs.Bytes.{if_then_else_}
 use Rattle.format.specs.Descriptors.{big}
 use Rattle.format.specs.Samples.{toBytes, ordered}

@@ -251,16 +251,6 @@ module _ (k : NumberKind) (w : ℕ) where
     pub type-number : (n : ℕ) (s : List ℕ) {r : ℕ} → r ≡ samplesIn low high n s .number → r ≡ textSamples k w n s .number
     type-number n s e = e ∙ sym (ap (λ (d : Decoded). d .number) (type-samples n s))
 
-    pub type-one : {s : List ℕ} {at : ℕ} {r : TextSample} → OneSample (samplesIn low high) s at r → OneSample (textSamples k w) s at r
-    type-one {s} {at} {r} o = record {
-      within = o .within;
-      refused = λ f n. type-samples (suc n) (drop at s) ∙ o .refused f n;
-      taken = λ e n.
-          type-samples (suc n) (drop at s) ∙ o .taken e n
-          ∙ ap (withSample (r .value)) (sym (type-samples n (drop (r .next) s)));
-      fits = o .fits;
-    }
-
 -- there are at most as many samples as were asked for
 push-length : (o : Option ℤ) (r : Decoded) (n : ℕ) → length (r .seen) ≤ n → length (push o r .seen) ≤ suc n
 push-length none r n h = omega arith

@@ -4,7 +4,7 @@ use Prim.Native.Nat.{_+_, _*_, _-_, _≤_}
 use native.Mathlib.Omega.{arith}
 use mathlib.Core.Path.{_≡_, refl}
 use denote.Ref.{now}
-use lib.ListN.{length, length-set}
+use lib.ListN.{length}
 use Rattle.hex.specs.Forms.{Moved}
 use Rattle.hex.proofs.BlockLaws.{copy-none, pairs-more}
 use borrow.Author.Needs.{needs}
