@@ -1,9 +1,8 @@
-// The line at a place of a file, and how a line begins.
+// The line at a place of a file.
 ghost use mathlib.Core.Path.{_≡_};
 ghost use Prim.Native.Nat.{_<_, _≤_, min};
 ghost use lib.ListN.{length};
 ghost use Rattle.format.specs.Limits.{maxHeader};
-ghost use Rattle.format.specs.Settings.{beginsFine};
 ghost use Rattle.header.specs.Spans.{SpanIs};
 
 pub enum Span {
@@ -39,14 +38,4 @@ fn limit(n: usize) -> usize
     } else {
         format::MAX_HEADER
     }
-}
-
-// Whether a text is not empty and does not begin as a comment.
-pub fn begins(t: &[u8]) -> bool
-    ensures { λ r. ⌜ r ≡ beginsFine (now (t .entry)) ⌝ }
-{
-    if t.len() == 0 {
-        return false;
-    }
-    t[0] != b'#'
 }

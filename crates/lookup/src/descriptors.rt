@@ -40,7 +40,7 @@ fn field_in(t: &[u8], field: u32, at: usize) -> FindAnswer
     requires { ⌜ at + length (now t) ≤ maxHeader ⌝ }
     ensures { λ r. ⌜ ((i : Item) → IsItem (now (t .entry)) i → r ≡ descriptorPlace field at (now (t .entry)) i (noPlace fine)) ⌝ }
 {
-    if !header::lines::begins(t) {
+    if !text::lines::begins(t) {
         return crate::places::absent();
     }
     match text::lines::find_mark(t) {

@@ -20,7 +20,7 @@ fn pair_in(t: &[u8], key: &[u8], at: usize, none: FindAnswer) -> FindAnswer
     requires { ⌜ at + length (now t) ≤ maxHeader ⌝ }
     ensures { λ r. ⌜ ((i : Item) → IsItem (now (t .entry)) i → r ≡ keyThen (now (key .entry)) at i none) ⌝ }
 {
-    if !header::lines::begins(t) {
+    if !text::lines::begins(t) {
         return none;
     }
     match text::lines::find_mark(t) {

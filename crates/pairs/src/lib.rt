@@ -36,7 +36,7 @@ pub fn value_fine(value: &[u8]) -> bool
 pub fn key_fine(key: &[u8]) -> bool
     ensures { λ r. ⌜ r ≡ keyFine (now (key .entry)) ⌝ }
 {
-    if !header::lines::begins(key) {
+    if !text::lines::begins(key) {
         return false;
     }
     if !value_fine(key) {

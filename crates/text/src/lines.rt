@@ -4,6 +4,7 @@ ghost use Prim.Native.Nat.{_≤_, _-_};
 ghost use lib.ListN.{length};
 ghost use Rattle.format.specs.Pairs.{mark};
 ghost use Rattle.format.specs.Descriptors.{trimFront, trimEnd};
+ghost use Rattle.format.specs.Settings.{beginsFine};
 ghost use Rattle.text.specs.Places.{withoutCR, markPlace};
 
 // How long the bytes before an LF are without one CR at their end.
@@ -15,6 +16,16 @@ pub fn without_cr(s: &[u8]) -> usize
         return 0;
     }
     if s[n - 1] == b'\r' { n - 1 } else { n }
+}
+
+// Whether a text is not empty and does not begin as a comment.
+pub fn begins(t: &[u8]) -> bool
+    ensures { λ r. ⌜ r ≡ beginsFine (now (t .entry)) ⌝ }
+{
+    if t.len() == 0 {
+        return false;
+    }
+    t[0] != b'#'
 }
 
 // The place and the kind of a line's mark.

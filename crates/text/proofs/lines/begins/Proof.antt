@@ -1,4 +1,4 @@
--- `header::lines::begins` meets its contract: the line's first byte decides.
+-- `text::lines::begins` meets its contract: the line's first byte decides.
 -- Assumes nothing.
 use Prim.Native.Nat.{ℕ}
 use native.Mathlib.Omega.{arith}
@@ -10,8 +10,8 @@ use lib.ListN.{length, getD}
 use borrow.Author.Needs.{needs}
 use Rattle.format.specs.Bytes.{HASH}
 use Rattle.format.specs.Settings.{beginsFine}
-use Rattle.header.proofs.lines.begins.Statement.{statement}
-use Rattle.header.proofs.lines.begins.Tie as tie
+use Rattle.text.proofs.lines.begins.Statement.{statement}
+use Rattle.text.proofs.lines.begins.Tie as tie
 
 -- an empty text, and one with a first byte
 begins-none : (t : List ℕ) → length t ≡ 0 → false ≡ beginsFine t
