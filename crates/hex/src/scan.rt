@@ -66,7 +66,7 @@ pub(crate) fn scan(s: &[u8], need: usize) -> Count
     while digits < need {
         if s.len() <= at {
             return Count {
-                code: 21,
+                code: format::DATA_ENDS_EARLY,
                 at,
                 digits,
             };
@@ -75,7 +75,7 @@ pub(crate) fn scan(s: &[u8], need: usize) -> Count
         let d = digits::is_digit(b);
         if !(d | digits::is_blank(b)) {
             return Count {
-                code: 20,
+                code: format::BAD_SAMPLE,
                 at,
                 digits,
             };
