@@ -25,8 +25,14 @@ pub use Rattle.words.proofs.Stores.{sets-over}
 use Rattle.words.proofs.Halves.{to-bytes-halves, length-part}
 use Rattle.words.proofs.Groups.{bytes-take, bytes-drop}
 use Rattle.words.proofs.WidthLaws.{by-width}
-use Rattle.raw.specs.Bits.{Bits, turned, folded}
-use Rattle.words.specs.Widths.{Width}
+use Rattle.raw.specs.Bits.{Bits, turned, folded, bitsAt, sampleAt}
+use Rattle.words.specs.Widths.{Width, kindBy, endianBy}
+
+-- the sample at a place by the number x there: what holds of the value of x holds of the sample
+pub sample-of : (s : List ℕ) (at w : ℕ) → at + w ≤ length s → (sign big : Bool) {x : ℕ} {r : ℤ} → x ≡ bitsAt big w s at
+    → (inType (kindBy sign) w (valueOfBits (kindBy sign) w x) ≡ true → r ≡ valueOfBits (kindBy sign) w x)
+    → inType (kindBy sign) w (sampleAt sign big w s at) ≡ true → r ≡ sampleAt sign big w s at
+sample-of s at w h sign big p f = rw (sample-is s at w h (kindBy sign) (endianBy big), sym p) f
 
 -- ---- the bytes in the other order
 

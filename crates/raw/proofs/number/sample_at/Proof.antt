@@ -1,11 +1,10 @@
 -- `sample_at` meets its contract: the value of the number at the place.
 -- Assumes nothing.
 use denote.Ref.{now}
-use mathlib.Core.Path.{sym, _∙_}
+use mathlib.Core.Path.{_∙_}
 use borrow.Author.Needs.{sfits-of}
 use mir.Facts.{toZ-ofZ}
-use Rattle.raw.proofs.RawLaws.{sample-is}
-use Rattle.words.specs.Widths.{kindBy, endianBy}
+use Rattle.raw.proofs.RawLaws.{sample-of}
 use borrow.Author.Needs.{needs}
 use Rattle.raw.proofs.number.sample_at.Statement.{statement}
 use Rattle.raw.proofs.number.sample_at.Tie as tie
@@ -19,7 +18,7 @@ value-requires c κs = search needs
 returns : tie.Need-returns
 returns c =
     let a = c .before .before .before .args in
-    rw (sample-is (now (a .s)) (a .at) (a .w) (c .before .before .before .pre .1) (kindBy (a .signed)) (endianBy (a .big)), sym (c .before .word .ensures .is)) (λ e.
+    sample-of (now (a .s)) (a .at) (a .w) (c .before .before .before .pre .1) (a .signed) (a .big) (c .before .word .ensures .is) (λ e.
     toZ-ofZ (sfits-of (c .value .ok)) ∙ c .value .ensures e)
 
 pub sample-at-spec : {M : Type 1} → statement M
