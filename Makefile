@@ -101,7 +101,7 @@ $(BUILD)/teem: bench/teem.c bench/timing.h include/craneholt.h $(ARCHIVE)
 
 bench: $(BUILD)/bench $(TEEM)
 	@$(BUILD)/bench
-	@if [ -n "$(TEEM)" ]; then $(TEEM); else echo "libteem is not installed (libteem-dev): not compared"; fi
+	@$(or $(TEEM),echo "libteem is not installed (libteem-dev): not compared")
 
 clean:
 	rm -rf $(BUILD)
