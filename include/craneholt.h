@@ -1,7 +1,7 @@
 /* craneholt.h: NRRD files from C. Every call below is proved to answer as the rules say, on every input.
  *
- * What is read: attached and detached headers, versions 1 to 5; the place of their data; integer samples in raw, text
- * and hex. What is written: attached files. What is corrected: the value of a key, in place.
+ * It reads headers of versions 1 to 5, with their data in the same file (attached) or in a second one (detached), finds the
+ * data and decodes integer samples (raw, text, hex). It writes attached files. It corrects the value of a key in place.
  *
  * How the calls work
  * - A call takes bytes and numbers and answers numbers, by value. It allocates nothing, keeps nothing, opens no file, and
@@ -69,7 +69,7 @@ enum craneholt_refusal_number {
     CRANEHOLT_PLACE_TOO_LARGE  = 17, /* start and extent of the data do not fit 64 bits; with these limits it cannot be */
     CRANEHOLT_DATA_TOO_SHORT   = 18, /* raw: the file has fewer bytes than the data takes */
     CRANEHOLT_FLOAT_SAMPLES    = 19, /* samples of type float or double are not decoded, nor written */
-    CRANEHOLT_BAD_SAMPLE       = 20, /* not a sample, outside its type, or above 9223372036854775807 */
+    CRANEHOLT_BAD_SAMPLE       = 20, /* no number, out of its type's range, or more than 9223372036854775807 */
     CRANEHOLT_DATA_ENDS_EARLY  = 21, /* text or hex: the data ends before the last sample */
     CRANEHOLT_LENT_TOO_SHORT   = 22, /* the lent buffer, list or table is too short */
     CRANEHOLT_BAD_COORDINATES  = 23, /* not one coordinate for each axis, or one is not below its size */
@@ -187,7 +187,7 @@ typedef struct craneholt_count_answer {
 } craneholt_count_answer;
 
 /* All samples, axis 0 fastest, to the front of `list`; what is past them stays. Refuses as craneholt_data, with 19 before 16,
- * then 22, then 20 or 21, whichever comes first in the data. The count is known before: the product of reading.sizes. */
+ * then 22, then the earlier in the data of 20 and 21. The count is known before: the product of reading.sizes. */
 craneholt_count_answer craneholt_samples(const uint8_t *file, size_t file_length,
                                          const uint8_t *second, size_t second_length,
                                          void *list, size_t list_length);
@@ -214,7 +214,7 @@ typedef struct craneholt_write_answer {
 
 /* An attached file with these samples to the front of `out`; the bytes past it stay. Endian counts only where samples of more
  * than one byte are written in raw or hex, but has to be CRANEHOLT_LITTLE or CRANEHOLT_BIG. Refuses 11 (version, type,
- * encoding, endian, no size or more than 16, a size 0), 15, 19, 27, 20, 1, 22, in this order. What is written is
+ * encoding, endian; sizes: none, over 16, or one that is 0), 15, 19, 27, 20, 1, 22, in this order. What is written is
  * read back by the calls above as it was given. Room that is always enough: 512 bytes, and for each sample 22. */
 craneholt_write_answer craneholt_write(uint64_t version, const void *sizes, size_t sizes_length,
                                        uint64_t sampletype, uint64_t encoding, uint64_t endian,
@@ -235,8 +235,8 @@ typedef struct craneholt_set_answer {
  * stays as it is and in its order, the data too, moved if the length changes; the table is brought up to date. Bytes that the
  * file no longer takes become 0; bytes past the old and the new length stay, as do entries past the new count.
  * After any number of settings, some of them refused, a reading of the file gives each key the value accepted for it last.
- * Refuses: 22 if `used` passes the buffer; 1 to 15; 8 in version 1; 24; 25; 26; then for the new file 3, 4, 1, and 22 if it
- * does not fit the buffer or its lines do not fit the table. */
+ * Refuses: 22 if `used` passes the buffer; 1 to 15; 8 (version 1), 24, 25, 26; of the file as it would become 3, 4, 1, and 22
+ * if it does not fit the buffer or its lines do not fit the table. */
 craneholt_set_answer craneholt_set_key(uint8_t *buffer, size_t buffer_length, size_t used,
                                        void *table, size_t table_length, size_t count,
                                        const uint8_t *key, size_t key_length,
