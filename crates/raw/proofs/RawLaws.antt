@@ -85,7 +85,7 @@ module _ (x h : ℕ) (b : x < 2 * h) where
       ap (λ (n : ℕ). n % (2 * h)) e ∙ add-mod-right (x - h) (2 * h) ∙ mod-eq-of-lt (omega arith)
 
   -- the difference of the two is x in two's complement
-  shifted : subℕ ((x + h) % (2 * h)) h ≡ folded h x
+  pub shifted : subℕ ((x + h) % (2 * h)) h ≡ folded h x
   shifted = go (ltb x h) refl
     where
       go : (t : Bool) → ltb x h ≡ t → subℕ ((x + h) % (2 * h)) h ≡ folded h x

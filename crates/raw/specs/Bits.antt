@@ -2,7 +2,7 @@
 use Prim.Native.Nat.{ℕ, _*_, _-_}
 use mathlib.Core.Bool.{Bool}
 use mathlib.Core.List.{List, reverse}
-use lib.Dec.{ltb}
+use lib.Dec.{ltb, eqb}
 use lib.IntN.{ℤ, pos, negsuc}
 use lib.ListN.{take, drop}
 use Rattle.format.specs.Bytes.{if_then_else_}
@@ -25,3 +25,10 @@ sampleAt signed big w s at = sampleValue (kindBy signed) (endianBy big) (take w 
 -- a number below 2 * half, from half on negative
 abbrev pub folded : ℕ → ℕ → ℤ
 folded half n = if ltb n half then pos n else negsuc (2 * half - 1 - n)
+
+-- the range of a type of 1 or 2 bytes, and half of it for a signed one
+abbrev pub range : ℕ → ℕ
+range w = if eqb w 2 then 65536 else 256
+
+abbrev pub halfOf : ℕ → Bool → ℕ
+halfOf w signed = if signed then (if eqb w 2 then 32768 else 128) else 0

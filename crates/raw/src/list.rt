@@ -89,6 +89,41 @@ fn put_pairs(s: &[u8], n: usize, w: usize, signed: bool, big: bool, dst: &mut [i
     dst[k] = number::sample_at(s, at, w, signed, big);
 }
 
+// Samples of 1 or 2 bytes, by 64.
+fn put_narrow(s: &[u8], n: usize, w: usize, signed: bool, big: bool, dst: &mut [i64])
+    requires { ⌜ Width w ⌝ }
+    requires { ⌜ w ≤ 2 ⌝ }
+    requires { ⌜ n * w ≤ length (now s) ⌝ }
+    requires { ⌜ n ≤ length (now dst) ⌝ }
+    ensures { λ _. ⌜ (rawSamples (kindBy signed) w (endianBy big) n (now (s .entry)) .number ≡ 0 → now (dst .exit) ≡ over (rawSamples (kindBy signed) w (endianBy big) n (now (s .entry)) .seen) (now (dst .entry))) ⌝ }
+{
+    let half = number::half_of(w, signed);
+    let mut a = [0u16; 64];
+    let mut at: usize = 0;
+    let mut k: usize = 0;
+    while k + 64 <= n {
+        let mut from = at;
+        let mut i: usize = 0;
+        while i < 64 {
+            a[i] = number::lifted_at(s, from, w, signed, half, big);
+            from += w;
+            i += 1;
+        }
+        let mut j: usize = 0;
+        while j < 64 {
+            dst[k] = number::lowered(a[j], half);
+            at += w;
+            k += 1;
+            j += 1;
+        }
+    }
+    while k < n {
+        dst[k] = number::sample_at(s, at, w, signed, big);
+        at += w;
+        k += 1;
+    }
+}
+
 // Big-endian samples of 2 bytes. Where the sign is no literal the compiler decides it at each sample.
 fn put_big_shorts(s: &[u8], n: usize, signed: bool, dst: &mut [i64])
     requires { ⌜ n * 2 ≤ length (now s) ⌝ }
@@ -96,9 +131,9 @@ fn put_big_shorts(s: &[u8], n: usize, signed: bool, dst: &mut [i64])
     ensures { λ _. ⌜ (rawSamples (kindBy signed) 2 (endianBy true) n (now (s .entry)) .number ≡ 0 → now (dst .exit) ≡ over (rawSamples (kindBy signed) 2 (endianBy true) n (now (s .entry)) .seen) (now (dst .entry))) ⌝ }
 {
     if signed {
-        return put(s, n, 2, true, true, dst);
+        return put_narrow(s, n, 2, true, true, dst);
     }
-    put(s, n, 2, false, true, dst)
+    put_narrow(s, n, 2, false, true, dst)
 }
 
 // Big-endian samples. A call for each width: the compiler makes a loop of its own of each.
@@ -117,7 +152,7 @@ fn put_big(s: &[u8], n: usize, w: usize, signed: bool, dst: &mut [i64])
     if w == 2 {
         return put_big_shorts(s, n, signed, dst);
     }
-    put(s, n, 1, signed, true, dst)
+    put_narrow(s, n, 1, signed, true, dst)
 }
 
 // Little-endian samples, in the same way.
@@ -134,9 +169,9 @@ fn put_little(s: &[u8], n: usize, w: usize, signed: bool, dst: &mut [i64])
         return put(s, n, 4, signed, false, dst);
     }
     if w == 2 {
-        return put(s, n, 2, signed, false, dst);
+        return put_narrow(s, n, 2, signed, false, dst);
     }
-    put(s, n, 1, signed, false, dst)
+    put_narrow(s, n, 1, signed, false, dst)
 }
 
 fn put_by_endian(s: &[u8], n: usize, w: usize, signed: bool, big: bool, dst: &mut [i64])

@@ -1,10 +1,11 @@
 // The number that is at a place in raw data, and the sample that it is.
 ghost use mathlib.Core.Path.{_≡_};
 ghost use mathlib.Core.Bool.{true};
-ghost use Prim.Native.Nat.{_+_, _*_, _^_, _≤_, _<_};
+ghost use Prim.Native.Nat.{_+_, _*_, _^_, _%_, _≤_, _<_};
+ghost use lib.IntN.{subℕ};
 ghost use lib.ListN.{length, take, drop};
 ghost use Rattle.format.specs.Samples.{fromBytes, inType, valueOfBits, toSigned};
-ghost use Rattle.raw.specs.Bits.{Bits, turned, bitsAt, sampleAt, folded};
+ghost use Rattle.raw.specs.Bits.{Bits, turned, bitsAt, sampleAt, folded, halfOf, range};
 ghost use Rattle.words.specs.Widths.{Width, kindBy};
 
 fn wide(b: u8) -> u64
@@ -126,4 +127,46 @@ pub(crate) fn sample_at(s: &[u8], at: usize, w: usize, signed: bool, big: bool) 
 {
     let x = word(s, at, w, big);
     value(x, w, signed)
+}
+
+// Half the range of a signed type of 1 or 2 bytes, and 0 for an unsigned one: what is added to a number before it is taken to 16 bits, and taken off after.
+pub(crate) fn half_of(w: usize, signed: bool) -> u64
+    ensures { λ r. ⌜ r ≡ halfOf w signed ⌝ }
+{
+    if signed {
+        if w == 2 { 32768 } else { 128 }
+    } else {
+        0
+    }
+}
+
+// The number at a place, half the range added, modulo the range.
+fn lifted(x: u64, w: usize, half: u64) -> u16
+    requires { ⌜ (x < range w) × (half < range w) ⌝ }
+    ensures { λ r. ⌜ r ≡ (x + half) % range w ⌝ }
+{
+    if w == 2 {
+        std::num::wrapping_add_u16(x as u16, half as u16)
+    } else {
+        std::num::wrapping_add_u8(x as u8, half as u8) as u16
+    }
+}
+
+// The number at a place, lifted: with half taken off again it is the sample.
+pub(crate) fn lifted_at(s: &[u8], at: usize, w: usize, signed: bool, half: u64, big: bool) -> u16
+    requires { ⌜ Width w ⌝ }
+    requires { ⌜ (w ≤ 2) × (half ≡ halfOf w signed) ⌝ }
+    requires { ⌜ at + w ≤ length (now s) ⌝ }
+    ensures { λ r. ⌜ subℕ r half ≡ sampleAt signed big w (now (s .entry)) at ⌝ }
+{
+    let y = word(s, at, w, big);
+    lifted(y, w, half)
+}
+
+// A lifted number with what was added taken off.
+pub(crate) fn lowered(x: u16, half: u64) -> i64
+    requires { ⌜ half ≤ 32768 ⌝ }
+    ensures { λ r. ⌜ r ≡ subℕ x half ⌝ }
+{
+    (x as i64) - (half as i64)
 }
