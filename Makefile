@@ -2,7 +2,7 @@
 # make list FILE=examples/sweep.nrrd   lists a file
 # make check      the tests from C, over the archive
 # make install    header, archive and pkg-config file under PREFIX
-# make bench      times the calls beside plain C, and beside libteem where it is installed
+# make bench      times the calls beside plain C, and beside libteem where it is installed; RUNS=5: the median of five runs; ONLY=hex: these tables
 
 PREFIX  ?= /usr/local
 LIBDIR  ?= $(PREFIX)/lib
@@ -10,6 +10,8 @@ DESTDIR ?=
 CC      ?= cc
 CXX     ?= c++
 CFLAGS  ?= -O2
+RUNS    ?= 1
+ONLY    ?=
 
 VERSION = $(shell sed -n 's/^.define CRANEHOLT_VERSION "\(.*\)"/\1/p' include/craneholt.h)
 ARCHIVE = target/staticlib/libcraneholt.a
@@ -91,17 +93,17 @@ uninstall:
 
 TEEM = $(shell printf '\043include <teem/nrrd.h>\n' | $(CC) -E -x c - > /dev/null 2>&1 && echo $(BUILD)/teem)
 
-$(BUILD)/bench: bench/bench.c bench/peers.c bench/peers.h bench/timing.h include/craneholt.h $(ARCHIVE)
+$(BUILD)/bench: bench/bench.c bench/peers.c bench/peers.h bench/timing.h tests/model.c tests/model.h include/craneholt.h $(ARCHIVE)
 	@mkdir -p $(BUILD)
-	$(CC) $(STRICT) -O3 -Iinclude bench/bench.c bench/peers.c $(ARCHIVE) -o $@
+	$(CC) $(STRICT) -O3 -Iinclude bench/bench.c bench/peers.c tests/model.c $(ARCHIVE) -o $@
 
 $(BUILD)/teem: bench/teem.c bench/timing.h include/craneholt.h $(ARCHIVE)
 	@mkdir -p $(BUILD)
 	$(CC) -std=c99 -O3 -Iinclude bench/teem.c $(ARCHIVE) -lteem -o $@
 
 bench: $(BUILD)/bench $(TEEM)
-	@$(BUILD)/bench
-	@$(or $(TEEM),echo "libteem is not installed (libteem-dev): not compared")
+	@$(if $(TEEM),,echo "libteem is not installed (libteem-dev): not compared")
+	@bench/run.sh $(RUNS) "$(ONLY)" $(BUILD) $(BUILD)/bench $(if $(ONLY),,$(TEEM))
 
 clean:
 	rm -rf $(BUILD)

@@ -1,173 +1,190 @@
 /* Times every call that touches many bytes beside plain C that does the same job, in one run, on the same buffers. Prints
- * milliseconds and the ratio ours / peer: below 1 ours is faster. Both results of decoding and of writing are compared first.
- * `make bench` builds and runs it. */
+ * microseconds and the ratio ours / peer: below 1 ours is faster. Both results of decoding and of writing are compared first.
+ * `make bench` builds and runs it; `make bench ONLY=hex` has the tables with that word in their names only. */
 #define _POSIX_C_SOURCE 200809L
+#include "../tests/model.h"
 #include "craneholt.h"
 #include "peers.h"
 #include "timing.h"
 
-enum { SAMPLES = 2000000 };
+/* Samples in a file. Of the short files a job takes as many as have CACHED samples, one after the other and each other than the last: of a
+ * file that is read again and again the processor would know the branches. */
+enum { CACHED = 200000, LONGEST = 2000000 };
+static const size_t counts[] = {100, 1000, CACHED, LONGEST};
+static const char *const count_names[] = {"100", "1,000", "200,000", "2,000,000"};
 
 /* What a job works on. */
 typedef struct {
     uint8_t *file;
     size_t length;
-    size_t start; /* of the data */
+    size_t n; /* samples in a file */
+    size_t files;
+    size_t starts[CACHED / 100 + 1]; /* of the files, one after the other in `file` */
+    int apart; /* each file's result has a place of its own, to be compared; else all have one, which stays in the cache */
     int w, is_signed, big;
-    int64_t *ours, *peer;
+    uint64_t encoding;
+    int64_t *samples, *list;
     uint8_t *our_bytes, *peer_bytes;
     size_t room;
     uint32_t table[CRANEHOLT_MAX_LINES];
     uint64_t lines;
-    uint64_t encoding;
 } bench;
 
 /* ---- Files ---- */
 
 static const char *const type_names[] = {"int8", "uint8", "int16", "uint16", "int32", "uint32", "int64", "uint64"};
+static const char *const encoding_names[] = {"raw", "txt", "hex"};
 
 static int type_of(int w, int is_signed)
 {
     return (w == 1 ? 0 : w == 2 ? 2 : w == 4 ? 4 : 6) + !is_signed;
 }
 
-static void put_header(bench *b, const char *encoding)
+/* The header of the file to be read or written: its length. */
+static size_t put_header(const bench *b, uint8_t *out)
 {
-    b->start = (size_t)sprintf((char *)b->file, "NRRD0004\ntype: %s\ndimension: 1\nsizes: %d\nencoding: %s\nendian: %s\n\n",
-                               type_names[type_of(b->w, b->is_signed)], SAMPLES, encoding, b->big ? "big" : "little");
+    const char *endian = b->w == 1 || b->encoding == CRANEHOLT_TEXT ? NULL : b->big ? "big" : "little";
+    return peer_write_header(type_names[type_of(b->w, b->is_signed)], b->n, encoding_names[b->encoding], endian, out);
 }
 
 /* Samples of every length that the type has, from a fixed seed. */
 static void make_samples(bench *b)
 {
     uint64_t x = 88172645463325252u;
-    for (size_t k = 0; k < SAMPLES; k++) {
+    for (size_t k = 0; k < b->files * b->n; k++) {
         x ^= x << 13;
         x ^= x >> 7;
         x ^= x << 17;
         unsigned shift = 64 - 8 * (unsigned)b->w + (unsigned)((x >> 8) % (8 * (unsigned)b->w));
-        b->peer[k] = b->is_signed ? (int64_t)x >> shift : (int64_t)(x >> (shift == 0 ? 1 : shift));
+        b->samples[k] = b->is_signed ? (int64_t)x >> shift : (int64_t)(x >> (shift == 0 ? 1 : shift));
     }
 }
 
-/* ---- Jobs ---- */
+/* ---- Jobs: the peers read and write the header too. They answer the samples read, or the bytes written. ---- */
+
+static int64_t *list_of(const bench *b, size_t i)
+{
+    return b->list + (b->apart ? i * b->n : 0);
+}
 
 static size_t our_samples(void *on)
 {
     bench *b = (bench *)on;
-    return craneholt_samples(b->file, b->length, NULL, 0, b->ours, SAMPLES * sizeof *b->ours).count;
+    size_t total = 0;
+    for (size_t i = 0; i < b->files; i++)
+        total += craneholt_samples(b->file + b->starts[i], b->starts[i + 1] - b->starts[i], NULL, 0, list_of(b, i),
+                                   b->n * sizeof *b->list).count;
+    return total;
 }
 
-static size_t raw_samples(void *on)
+static size_t peer_decode(const bench *b, const uint8_t *data, size_t length, int64_t *list)
 {
-    bench *b = (bench *)on;
-    return peer_raw(b->file + b->start, SAMPLES, b->w, b->is_signed, b->big, b->peer);
+    switch (b->encoding) {
+    case CRANEHOLT_RAW: return peer_raw(data, b->n, b->w, b->is_signed, b->big, list);
+    case CRANEHOLT_HEX: return peer_hex(data, length, b->n, b->w, b->is_signed, b->big, list);
+    default: return peer_text((const char *)data, b->n, b->w, b->is_signed, list);
+    }
 }
 
-static size_t hex_samples(void *on)
+static size_t peer_samples(void *on)
 {
     bench *b = (bench *)on;
-    return peer_hex(b->file + b->start, b->length - b->start, SAMPLES, b->w, b->is_signed, b->big, b->peer);
+    size_t total = 0;
+    for (size_t i = 0; i < b->files; i++) {
+        const uint8_t *file = b->file + b->starts[i];
+        craneholt_data_answer a = model_data(file, b->starts[i + 1] - b->starts[i], NULL, 0);
+        total += peer_decode(b, file + a.start, a.length, list_of(b, i));
+    }
+    return total;
 }
 
-static size_t text_samples(void *on)
+static size_t our_files(void *on)
 {
     bench *b = (bench *)on;
-    return peer_text((char *)b->file + b->start, SAMPLES, b->w, b->is_signed, b->peer);
+    uint64_t size = b->n;
+    size_t total = 0;
+    for (size_t i = 0; i < b->files; i++)
+        total += craneholt_write(4, &size, sizeof size, (uint64_t)type_of(b->w, b->is_signed), b->encoding, (uint64_t)b->big,
+                                 b->samples + i * b->n, b->n * sizeof *b->samples, b->our_bytes + (b->apart ? total : 0),
+                                 b->room - total).length;
+    return total;
 }
 
-static size_t our_file(void *on)
+static size_t peer_data(const bench *b, const int64_t *samples, uint8_t *out)
 {
-    bench *b = (bench *)on;
-    uint64_t size = SAMPLES;
-    return craneholt_write(4, &size, sizeof size, (uint64_t)type_of(b->w, b->is_signed), b->encoding, (uint64_t)b->big, b->peer,
-                           SAMPLES * sizeof *b->peer, b->our_bytes, b->room).length;
+    switch (b->encoding) {
+    case CRANEHOLT_RAW: return peer_write_raw(samples, b->n, b->w, b->is_signed, b->big, out);
+    case CRANEHOLT_HEX: return peer_write_hex(samples, b->n, b->w, b->is_signed, b->big, out);
+    default: return peer_write_text(samples, b->n, b->w, b->is_signed, out);
+    }
 }
 
-static size_t raw_file(void *on)
+static size_t peer_files(void *on)
 {
     bench *b = (bench *)on;
-    return peer_write_raw(b->peer, SAMPLES, b->w, b->is_signed, b->big, b->peer_bytes);
-}
-
-static size_t hex_file(void *on)
-{
-    bench *b = (bench *)on;
-    return peer_write_hex(b->peer, SAMPLES, b->w, b->is_signed, b->big, b->peer_bytes);
-}
-
-static size_t text_file(void *on)
-{
-    bench *b = (bench *)on;
-    return peer_write_text(b->peer, SAMPLES, b->w, b->is_signed, b->peer_bytes);
+    size_t total = 0;
+    for (size_t i = 0; i < b->files; i++) {
+        uint8_t *to = b->peer_bytes + (b->apart ? total : 0);
+        size_t header = put_header(b, to);
+        total += header + peer_data(b, b->samples + i * b->n, to + header);
+    }
+    return total;
 }
 
 /* ---- Decoding and writing ---- */
 
-static void decode(bench *b, const char *name, job *peer)
+/* Whether the job decodes all samples. */
+static int decodes(bench *b, job *j)
 {
-    memset(b->ours, 1, SAMPLES * sizeof *b->ours);
-    memset(b->peer, 2, SAMPLES * sizeof *b->peer);
-    must_hold(our_samples(b) == SAMPLES && peer(b) == SAMPLES, name);
-    must_hold(memcmp(b->ours, b->peer, SAMPLES * sizeof *b->ours) == 0, name);
-    compare(name, our_samples, peer, b, 1);
+    size_t total = b->files * b->n;
+    memset(b->list, 1, total * sizeof *b->list);
+    b->apart = 1;
+    int right = j(b) == total && memcmp(b->list, b->samples, total * sizeof *b->list) == 0;
+    b->apart = 0;
+    return right;
 }
 
-static void decode_raw(bench *b, const char *name)
+/* A line feed after each `line` digits of hex, none for 0; a byte 0 after each file, for strtoll. */
+static void decode(bench *b, const char *name, size_t line)
 {
     make_samples(b);
-    put_header(b, "raw");
-    b->length = b->start + peer_write_raw(b->peer, SAMPLES, b->w, b->is_signed, b->big, b->file + b->start);
-    decode(b, name, raw_samples);
-}
-
-/* A line feed after each `line` digits, none for 0. */
-static void decode_hex(bench *b, const char *name, size_t line)
-{
-    make_samples(b);
-    put_header(b, "hex");
-    size_t n = peer_write_hex(b->peer, SAMPLES, b->w, b->is_signed, b->big, b->peer_bytes);
-    uint8_t *to = b->file + b->start;
-    for (size_t i = 0; i < n; i++) {
-        *to++ = b->peer_bytes[i];
-        if (line != 0 && (i + 1) % line == 0)
-            *to++ = '\n';
+    uint8_t *to = b->file;
+    for (size_t i = 0; i < b->files; i++) {
+        b->starts[i] = (size_t)(to - b->file);
+        to += put_header(b, to);
+        size_t n = peer_data(b, b->samples + i * b->n, b->peer_bytes);
+        for (size_t j = 0; j < n; j++) {
+            *to++ = b->peer_bytes[j];
+            if (line != 0 && (j + 1) % line == 0)
+                *to++ = '\n';
+        }
+        *to++ = 0;
     }
-    b->length = (size_t)(to - b->file);
-    decode(b, name, hex_samples);
+    b->starts[b->files] = (size_t)(to - b->file);
+    must_hold(decodes(b, our_samples) && decodes(b, peer_samples), name);
+    compare(name, our_samples, peer_samples, b, b->files);
 }
 
-static void decode_text(bench *b, const char *name)
+static void write_files(bench *b, const char *name)
 {
     make_samples(b);
-    put_header(b, "text");
-    b->length = b->start + peer_write_text(b->peer, SAMPLES, b->w, b->is_signed, b->file + b->start);
-    b->file[b->length] = 0;
-    decode(b, name, text_samples);
-}
-
-static void write_file(bench *b, const char *name, uint64_t encoding, job *peer)
-{
-    make_samples(b);
-    b->encoding = encoding;
-    size_t ours = our_file(b);
-    size_t data = peer(b);
-    must_hold(ours > data && memcmp(b->our_bytes + (ours - data), b->peer_bytes, data) == 0, name);
-    compare(name, our_file, peer, b, 1);
+    b->apart = 1;
+    size_t length = our_files(b);
+    must_hold(length == peer_files(b) && memcmp(b->our_bytes, b->peer_bytes, length) == 0, name);
+    b->apart = 0;
+    compare(name, our_files, peer_files, b, b->files);
 }
 
 typedef void row_maker(bench *b, const char *name);
 
-static void write_raw_row(bench *b, const char *name) { write_file(b, name, CRANEHOLT_RAW, raw_file); }
-static void write_hex_row(bench *b, const char *name) { write_file(b, name, CRANEHOLT_HEX, hex_file); }
-static void write_text_row(bench *b, const char *name) { write_file(b, name, CRANEHOLT_TEXT, text_file); }
-static void decode_hex_row(bench *b, const char *name) { decode_hex(b, name, 0); }
-static void decode_hex_lines_row(bench *b, const char *name) { decode_hex(b, name, 70); }
-static void decode_hex_bytes_row(bench *b, const char *name) { decode_hex(b, name, 2); }
+static void decode_row(bench *b, const char *name) { decode(b, name, 0); }
+static void decode_lines_row(bench *b, const char *name) { decode(b, name, 70); }
+static void decode_bytes_row(bench *b, const char *name) { decode(b, name, 2); }
 
 /* A row for each type, and for each byte order where there are two. */
-static void each_type(bench *b, row_maker *make, int orders)
+static void each_type(bench *b, row_maker *make)
 {
+    int orders = b->encoding == CRANEHOLT_TEXT ? 1 : 2;
     for (b->w = 1; b->w <= 8; b->w *= 2)
         for (b->is_signed = 1; b->is_signed >= 0; b->is_signed--)
             for (b->big = 0; b->big < (b->w > 1 ? orders : 1); b->big++) {
@@ -177,6 +194,38 @@ static void each_type(bench *b, row_maker *make, int orders)
                 make(b, name);
             }
     b->big = 0;
+}
+
+/* ---- Headers ---- */
+
+static size_t our_header(void *on)
+{
+    bench *b = (bench *)on;
+    return craneholt_read_header(b->file, b->length).reading.lines;
+}
+
+static size_t peer_header(void *on)
+{
+    bench *b = (bench *)on;
+    return model_read_header(b->file, b->length).reading.lines;
+}
+
+/* Headers with so many lines of each kind: what is needed, keys, orientation. */
+static void headers(bench *b)
+{
+    static const char needed[] = "NRRD0004\ntype: unsigned short\ndimension: 2\nsizes: 640 480\nencoding: raw\nendian: little\n";
+    static const char keys[] = "# sweep\nutc offset:=36\nutc offset:=37\nhead:=left\n";
+    static const char space[] = "space: right-anterior-superior\nspace directions: (1,0,0) (0,1,0)\nspace origin: (0,0,0)\n"
+                                "kinds: domain domain\nunits: \"mm\" \"mm\"\ncenters: cell cell\n";
+    static const struct {
+        const char *name, *more[2];
+    } rows[] = {{"7 lines", {"", ""}}, {"11 lines, 3 keys", {keys, ""}}, {"17 lines, orientation", {keys, space}}};
+    heading("headers", "C");
+    for (size_t i = 0; i < sizeof rows / sizeof rows[0]; i++) {
+        b->length = (size_t)sprintf((char *)b->file, "%s%s%s\n", needed, rows[i].more[0], rows[i].more[1]);
+        must_hold(our_header(b) == peer_header(b), rows[i].name);
+        compare(rows[i].name, our_header, peer_header, b, 1);
+    }
 }
 
 /* ---- Settings on a file of 64 MB ---- */
@@ -201,53 +250,64 @@ static size_t set_twice(void *on)
 static size_t move_twice(void *on)
 {
     bench *b = (bench *)on;
-    memmove(b->peer_bytes + b->start + 1, b->peer_bytes + b->start, LARGE);
-    memmove(b->peer_bytes + b->start, b->peer_bytes + b->start + 1, LARGE);
+    memmove(b->peer_bytes + 1, b->peer_bytes, LARGE);
+    memmove(b->peer_bytes, b->peer_bytes + 1, LARGE);
     return 1;
 }
 
 static void settings(bench *b)
 {
-    heading("setting a key, 64 MB file", "memmove ms");
-    b->start = (size_t)sprintf((char *)b->our_bytes,
-                               "NRRD0004\ntype: uint8\ndimension: 1\nsizes: %d\nencoding: raw\nutc offset:=37\n\n", LARGE);
-    b->length = b->start + LARGE;
+    heading("setting a key, 64 MB file", "memmove");
+    b->length = LARGE + (size_t)sprintf((char *)b->our_bytes,
+                                        "NRRD0004\ntype: uint8\ndimension: 1\nsizes: %d\nencoding: raw\nutc offset:=37\n\n", LARGE);
     craneholt_read_answer a = craneholt_read(b->our_bytes, b->length, b->table, sizeof b->table);
     b->lines = a.reading.lines;
     compare("one byte longer, one shorter", set_twice, move_twice, b, 1);
 }
 
-/* The tables with a row for each type, and how many byte orders have a row of their own. */
+/* The tables with a row for each type. */
 static const struct {
     const char *what, *peer;
+    uint64_t encoding;
     row_maker *make;
-    int orders;
 } parts[] = {
-    {"raw decoded", "C ms", decode_raw, 2},
-    {"hex decoded", "C table ms", decode_hex_row, 2},
-    {"hex decoded, lines of 70 digits", "C table ms", decode_hex_lines_row, 2},
-    {"hex decoded, a byte a line", "C table ms", decode_hex_bytes_row, 2},
-    {"text decoded", "strtoll ms", decode_text, 1},
-    {"raw written", "C ms", write_raw_row, 2},
-    {"hex written", "C ms", write_hex_row, 2},
-    {"text written", "C ms", write_text_row, 1},
+    {"raw decoded", "C", CRANEHOLT_RAW, decode_row},
+    {"hex decoded", "C table", CRANEHOLT_HEX, decode_row},
+    {"hex in lines of 70 decoded", "C table", CRANEHOLT_HEX, decode_lines_row},
+    {"hex, a byte a line, decoded", "C table", CRANEHOLT_HEX, decode_bytes_row},
+    {"text decoded", "strtoll", CRANEHOLT_TEXT, decode_row},
+    {"raw written", "C", CRANEHOLT_RAW, write_files},
+    {"hex written", "C", CRANEHOLT_HEX, write_files},
+    {"text written", "C", CRANEHOLT_TEXT, write_files},
 };
 
-int main(void)
+/* With a word, only the tables whose names have it. */
+int main(int argc, char **argv)
 {
     static bench b;
+    const char *only = argc > 1 ? argv[1] : "";
     b.room = LARGE + 4096;
-    b.ours = (int64_t *)memory(SAMPLES * sizeof *b.ours);
-    b.peer = (int64_t *)memory(SAMPLES * sizeof *b.peer);
+    b.samples = (int64_t *)memory(LONGEST * sizeof *b.samples);
+    b.list = (int64_t *)memory(LONGEST * sizeof *b.list);
     b.file = (uint8_t *)memory(b.room);
     b.our_bytes = (uint8_t *)memory(b.room);
     b.peer_bytes = (uint8_t *)memory(b.room);
-    printf("%d samples, the best of %d rounds\n", SAMPLES, ROUNDS);
 
-    for (size_t i = 0; i < sizeof parts / sizeof parts[0]; i++) {
-        heading(parts[i].what, parts[i].peer);
-        each_type(&b, parts[i].make, parts[i].orders);
-    }
-    settings(&b);
+    if (strstr("headers", only))
+        headers(&b);
+    for (size_t c = 0; c < sizeof counts / sizeof counts[0]; c++)
+        for (size_t i = 0; i < sizeof parts / sizeof parts[0]; i++) {
+            char what[64];
+            snprintf(what, sizeof what, "%s, %s", parts[i].what, count_names[c]);
+            if (!strstr(what, only))
+                continue;
+            heading(what, parts[i].peer);
+            b.n = counts[c];
+            b.files = b.n < CACHED ? CACHED / b.n : 1;
+            b.encoding = parts[i].encoding;
+            each_type(&b, parts[i].make);
+        }
+    if (strstr("settings", only))
+        settings(&b);
     return EXIT_SUCCESS;
 }

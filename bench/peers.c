@@ -1,6 +1,7 @@
 #include "peers.h"
 
 #include <errno.h>
+#include <stdio.h>
 #include <stdlib.h>
 #include <string.h>
 
@@ -163,6 +164,17 @@ size_t peer_text(const char *data, size_t n, int w, int is_signed, int64_t *list
 }
 
 /* ---- Writing ---- */
+
+/* endian is NULL where it is not written */
+size_t peer_write_header(const char *type, size_t n, const char *encoding, const char *endian, uint8_t *out)
+{
+    char *to = (char *)out;
+    to += sprintf(to, "NRRD0004\ntype: %s\ndimension: 1\nsizes: %zu\nencoding: %s\n", type, n, encoding);
+    if (endian != NULL)
+        to += sprintf(to, "endian: %s\n", endian);
+    *to++ = '\n';
+    return (size_t)((uint8_t *)to - out);
+}
 
 static int all_fit(const int64_t *list, size_t n, int w, int is_signed)
 {

@@ -10,6 +10,9 @@ size_t peer_raw(const uint8_t *data, size_t n, int w, int is_signed, int big, in
 size_t peer_hex(const uint8_t *data, size_t length, size_t n, int w, int is_signed, int big, int64_t *list);
 size_t peer_text(const char *data, size_t n, int w, int is_signed, int64_t *list);
 
+/* The header of an attached file of one axis. Answers its length. */
+size_t peer_write_header(const char *type, size_t n, const char *encoding, const char *endian, uint8_t *out);
+
 /* n samples in w bytes each, hex of these, or lines of text. Answer how many bytes were written, 0 where a sample is outside its type. */
 size_t peer_write_raw(const int64_t *list, size_t n, int w, int is_signed, int big, uint8_t *out);
 size_t peer_write_hex(const int64_t *list, size_t n, int w, int is_signed, int big, uint8_t *out);

@@ -110,15 +110,15 @@ int main(void)
     v.copy = (uint8_t *)memory(2 * v.samples);
     v.list = (int64_t *)memory(v.samples * sizeof *v.list);
 
-    heading("headers", "libteem ms");
+    heading("headers", "libteem");
     make_header(&v, 9, 4);
-    compare("9 lines", our_header, teem_header, &v, 200);
+    compare("9 lines", our_header, teem_header, &v, 1);
     make_header(&v, 1000, 4);
-    compare("1,000 lines", our_header, teem_header, &v, 10);
+    compare("1,000 lines", our_header, teem_header, &v, 1);
     make_header(&v, 900, 54);
-    compare("900 lines, 60 KB", our_header, teem_header, &v, 10);
+    compare("900 lines, 60 KB", our_header, teem_header, &v, 1);
 
-    heading("4 MB of raw data, uint16", "libteem ms");
+    heading("4 MB of raw data, uint16", "libteem");
     make_volume(&v);
     compare("its place (nothing is copied)", our_place, teem_data, &v, 1);
     compare("a copy, as libteem makes one", our_copy, teem_data, &v, 1);

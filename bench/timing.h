@@ -1,4 +1,4 @@
-/* Two jobs timed beside each other: the best of ROUNDS, the two taking turns, and the ratio. */
+/* Two jobs timed beside each other, the two taking turns: the best of each, and the ratio. */
 #ifndef TIMING_H
 #define TIMING_H
 
@@ -7,16 +7,15 @@
 #include <string.h>
 #include <time.h>
 
-enum { ROUNDS = 25 };
-
 /* Answers 0 where it fails. */
 typedef size_t job(void *on);
 
+/* microseconds */
 static inline double now(void)
 {
     struct timespec t;
     clock_gettime(CLOCK_MONOTONIC, &t);
-    return (double)t.tv_sec * 1e3 + (double)t.tv_nsec / 1e6;
+    return (double)t.tv_sec * 1e6 + (double)t.tv_nsec / 1e3;
 }
 
 static inline void must_hold(int holds, const char *what)
@@ -40,22 +39,35 @@ static inline double least(double a, double b)
     return a < b ? a : b;
 }
 
-/* One line of a table. A job of microseconds is repeated `times` times for each measurement. */
-static inline void compare(const char *name, job *ours, job *peer, void *on, int times)
+/* One line of a table: ours, the peer's, the ratio, of a job that does the same thing `calls` times. A round is so many jobs that it takes
+ * ROUND microseconds or more: shorter ones would time the clock, and find in the cache what the other left. Of rounds there are as
+ * many as take TOTAL microseconds, but not fewer than FEWEST nor more than MOST. */
+enum { ROUND = 500, TOTAL = 100000, FEWEST = 25, MOST = 100 };
+
+static inline void compare(const char *name, job *ours, job *peer, void *on, size_t calls)
 {
-    double best_ours = timed(name, ours, on, 1);
-    double best_peer = timed(name, peer, on, 1);
-    for (int i = 0; i < ROUNDS; i++) {
+    int times = 1;
+    double best_ours = timed(name, ours, on, times);
+    double best_peer = timed(name, peer, on, times);
+    while (least(best_ours, best_peer) * times < ROUND) {
+        times *= 2;
+        best_ours = timed(name, ours, on, times);
+        best_peer = timed(name, peer, on, times);
+    }
+    double rounds = TOTAL / ((best_ours + best_peer) * times);
+    rounds = rounds < FEWEST ? FEWEST : least(rounds, MOST);
+    for (int i = 0; i < rounds; i++) {
         best_ours = least(best_ours, timed(name, ours, on, times));
         best_peer = least(best_peer, timed(name, peer, on, times));
     }
-    printf("| %-34s | %10.4f | %10.4f | %5.2f |\n", name, best_ours, best_peer, best_ours / best_peer);
+    printf("| %-34s | %10.3f | %10.3f | %5.2f |\n", name, best_ours / (double)calls, best_peer / (double)calls,
+           best_ours / best_peer);
     fflush(stdout);
 }
 
 static inline void heading(const char *what, const char *peer)
 {
-    printf("\n| %-34s | ours ms    | %-10s | ratio |\n|---|---|---|---|\n", what, peer);
+    printf("\n| %-34s | ours us    | %-7s us | ratio |\n|---|---|---|---|\n", what, peer);
 }
 
 static inline void *memory(size_t n)
