@@ -1,24 +1,21 @@
--- Laws of words in lists of words, and of the rows that they stand in.
+-- Laws of texts that are alike, of names in tables, and of the rows that they stand in.
 -- Assumes nothing.
 use Prim.Native.Nat.{ℕ, suc, _+_, _-_, _≤_, _<_}
 use Prim.Native.String.{String}
 use mathlib.Core.Path.{_≡_, refl, sym, ap, _∙_}
-use mathlib.Core.Bool.{Bool, true, false, _&&_, _||_}
-use mathlib.Core.List.{List, [], _∷_, _++_, map}
-use mathlib.Core.Option.{Option, some}
+use mathlib.Core.Bool.{Bool, true, false, _&&_, _||_, false≢true}
+use mathlib.Core.List.{List, [], _∷_, _++_}
+use mathlib.Core.Option.{some}
 use native.Mathlib.Nat.{add-zero}
 use native.Mathlib.Omega.{arith}
-use lib.Dec.{eqb}
-use lib.ListN.{length, take, drop, getD, length-drop, drop-of-length-le}
-use lib.Seq.{take-all, drop-drop, getD-drop}
-use borrow.Author.Tests.{eq-eqb, ne-eqb}
+use lib.Dec.{eqb, ltb, leb}
+use lib.ListN.{length, take, drop, getD, length-append, length-drop, drop-of-length-le}
+use lib.Seq.{drop-drop, getD-drop, take-at, drop-at}
+use borrow.Author.Tests.{le-leb, lt-ltb}
 use Rattle.format.specs.Bytes.{if_then_else_, bytes, small, alike, isAny, rowFrom, rowOf}
-use Rattle.text.specs.declared.words.Found.{Found}
-use Rattle.text.specs.declared.words.Found.the-variants.{At, Nothing}
 use Rattle.text.specs.declared.words.Row.{Row}
-use Rattle.text.specs.declared.words.Row.the-variants.{Number}
-use Rattle.text.specs.Places.{before}
-use Rattle.text.specs.Rows.{wordsOf, onWords, indexOf, rowAt, rowAnswer}
+use Rattle.text.specs.declared.words.Row.the-variants.{Number, Unknown}
+use Rattle.text.specs.Rows.{Name, name, packed, rowAmong, rowAnswer}
 use Rattle.text.proofs.Places.{drop-next}
 
 -- ---- texts that are alike
@@ -40,124 +37,131 @@ pub alike-end : (a b : List ℕ) (i : ℕ) → length a ≤ i → length b ≤ i
 unfolding alike
 alike-end a b i h k = rw (drop-of-length-le a h, drop-of-length-le b k)
 
-module _ (a b : List ℕ) (i : ℕ) (h : i < length a) (e : length a ≡ length b) where
-  alike-next : alike (drop i a) (drop i b)
-      ≡ (eqb (small (getD a i 0)) (small (getD b i 0)) && alike (drop (i + 1) a) (drop (i + 1) b))
-  unfolding alike
-  alike-next = let h' : i < length b = omega arith in rw (drop-next a i h, drop-next b i h')
+-- the bytes at i decide, and the rest
+pub alike-next : (a b : List ℕ) (i : ℕ) → i < length a → length a ≡ length b
+    → {same : Bool} → same ≡ eqb (small (getD a i 0)) (small (getD b i 0))
+    → alike (drop i a) (drop i b) ≡ (same && alike (drop (i + 1) a) (drop (i + 1) b))
+unfolding alike
+alike-next a b i h e q = let h' : i < length b = omega arith in rw (drop-next a i h, drop-next b i h', q)
 
-  -- where the bytes at i differ, the texts are not alike
-  pub alike-no : (small (getD a i 0) ≡ small (getD b i 0) → ⊥) → alike (drop i a) (drop i b) ≡ false
-  alike-no n = alike-next ∙ rw (ne-eqb (small (getD a i 0)) (small (getD b i 0)) n)
+-- ---- the names of a table
 
-  -- where they do not differ, the rest decides
-  pub alike-on : small (getD a i 0) ≡ small (getD b i 0)
-      → alike (drop i a) (drop i b) ≡ alike (drop (i + 1) a) (drop (i + 1) b)
-  alike-on n = alike-next ∙ rw (eq-eqb (small (getD a i 0)) (small (getD b i 0)) n)
+-- The name at `at`, of which the table holds `ns` from there on.
+record NameAt (table : List ℕ) (at : ℕ) (ns : List Name) : Type 0 where
+  row : ℕ
+  word : List ℕ
+  later : List Name
+  is : ns ≡ name row word ∷ later
+  number : getD table (at + 1) 0 ≡ row
+  part : take (at + 2 + getD table at 0 - (at + 2)) (drop (at + 2) table) ≡ word
+  rest : drop (at + 2 + getD table at 0) table ≡ packed later
+  within : at + 2 + getD table at 0 ≤ length table
 
--- ---- the words of a text
+name-at : (table : List ℕ) (at : ℕ) (ns : List Name) → at < length table → drop at table ≡ packed ns → NameAt table at ns
+unfolding packed
+name-at table at [] h e =
+    let l : length (drop at table) ≡ 0 = rw e in
+    absurd (omega (arith, length-drop at table))
+name-at table at (name i w ∷ ns) h e =
+    let n : getD table at 0 ≡ length w = rw (← add-zero at, ← getD-drop at table 0 0, e) in
+    let d : drop (at + 2) table ≡ w ++ packed ns = rw (← drop-drop 2 at table, e) in
+    let m : at + 2 + getD table at 0 - (at + 2) ≡ length w = omega arith in
+    let l : length (drop at table) ≡ suc (suc (length (w ++ packed ns))) = ap length e in
+    record {
+      row = i;
+      word = w;
+      later = ns;
+      is = refl;
+      number = rw (← getD-drop at table 1 0, e);
+      part = rw (m, d, take-at w (packed ns) (length w) refl);
+      rest = rw (n, ← drop-drop (length w) (at + 2) table, d, drop-at w (packed ns) (length w) refl);
+      within = omega (arith, length-drop at table, length-append w (packed ns));
+    }
 
--- the words after the first, of the text from the first separator on
-abbrev later : ℕ → List ℕ → List (List ℕ)
-later sep [] = []
-later sep (b ∷ s) = wordsOf sep s
+-- what is left of the names of a table from `at` on, of which s is none before
+abbrev pub Passed : List ℕ → List ℕ → ℕ → Type 0
+Passed table s at =
+    (ns : List Name) → table ≡ packed ns → (rest : List Name) × (drop at table ≡ packed rest) × (rowAmong s ns ≡ rowAmong s rest)
 
--- the first word stands before the first separator
-first-word : (sep : ℕ) (s : List ℕ) → wordsOf sep s ≡ take (before sep s) s ∷ later sep (drop (before sep s) s)
-unfolding wordsOf before
-first-word sep [] = refl
-first-word sep (b ∷ s) = go (eqb b sep) (first-word sep s)
-  where
-    go : (x : Bool) → wordsOf sep s ≡ take (before sep s) s ∷ later sep (drop (before sep s) s)
-        → onWords x b (wordsOf sep s)
-        ≡ take (if x then 0 else suc (before sep s)) (b ∷ s) ∷ later sep (drop (if x then 0 else suc (before sep s)) (b ∷ s))
-    go true e = refl
-    go false e = ap (onWords false b) e
+module _ (table s : List ℕ) (at : ℕ) (p : Passed table s at) where
+  -- no name is left
+  pub passed-all : length table ≤ at → (ns : List Name) → table ≡ packed ns → Unknown ≡ rowAnswer (rowAmong s ns)
+  unfolding rowAmong packed
+  passed-all h ns e = go (p ns e .0) (p ns e .1) (p ns e .2)
+    where
+      go : (rest : List Name) → drop at table ≡ packed rest → rowAmong s ns ≡ rowAmong s rest → Unknown ≡ rowAnswer (rowAmong s ns)
+      go [] d q = rw q
+      go (name i w ∷ rest) d q = cc (d, drop-of-length-le table h)
 
--- The word that starts at `at` is the k-th and has d bytes; `same` tells whether s is that word, ignoring case.
-module _ (sep : ℕ) (words s : List ℕ) (at k d : ℕ) (q : d ≡ before sep (take (length words - at) (drop at words)))
-    (same : Bool) (e : same ≡ alike s (take (at + d - at) (drop at words))) where
-  words-at : wordsOf sep (drop at words) ≡ take (at + d - at) (drop at words) ∷ later sep (drop (at + d) words)
-  words-at =
-      let l : length (drop at words) ≤ length words - at = simp length-drop (omega arith) in
-      let n : at + d - at ≡ d = omega arith in
-      let p : d ≡ before sep (drop at words) = q ∙ rw (take-all (length words - at) (drop at words) l) in
-      rw (n, ← drop-drop d at words, p) (first-word sep (drop at words))
+  -- a name is left
+  module _ (h : at < length table) where
+    left : (ns : List Name) (e : table ≡ packed ns) → NameAt table at (p ns e .0)
+    left ns e = name-at table at (p ns e .0) h (p ns e .1)
 
-  -- s is that word
-  pub index-here : same ≡ true → indexOf k s (wordsOf sep (drop at words)) ≡ At k
-  unfolding indexOf
-  index-here t = rw (words-at, ← e, t)
+    -- it lies in the table
+    pub name-within : (ns : List Name) → table ≡ packed ns → at + 2 + getD table at 0 ≤ length table
+    name-within ns e = left ns e .within
 
-  -- s is not that word, and no other follows
-  pub index-last : same ≡ false → length words ≤ at + d → indexOf k s (wordsOf sep (drop at words)) ≡ Nothing
-  unfolding indexOf
-  index-last t h = rw (words-at, ← e, t, drop-of-length-le words h)
+    module _ {same : Bool} (q : same ≡ alike s (take (at + 2 + getD table at 0 - (at + 2)) (drop (at + 2) table))) where
+      -- s is that name
+      pub passed-here : same ≡ true → (ns : List Name) → table ≡ packed ns → Number (getD table (at + 1) 0) ≡ rowAnswer (rowAmong s ns)
+      unfolding rowAmong
+      passed-here t ns e = let l = left ns e in rw (p ns e .2, l .is, ← l .part, ← q, t, l .number)
 
-  -- s is not that word, and others follow
-  pub index-more : same ≡ false → at + d < length words
-      → indexOf k s (wordsOf sep (drop at words)) ≡ indexOf (k + 1) s (wordsOf sep (drop (at + d + 1) words))
-  unfolding indexOf
-  index-more t h = rw (words-at, ← e, t, drop-next words (at + d) h)
-
--- the place that was found, where there is one, is below n
-abbrev Within : ℕ → Found → Type 0
-Within n (At k) = k < n
-Within n Nothing = Unit
-
-index-within : (k : ℕ) (s : List ℕ) (ws : List (List ℕ)) → Within (k + length ws) (indexOf k s ws)
-unfolding indexOf
-index-within k s [] = tt
-index-within k s (w ∷ ws) = go (alike s w) (index-within (k + 1) s ws)
-  where
-    go : (x : Bool) → Within (k + 1 + length ws) (indexOf (k + 1) s ws)
-        → Within (k + suc (length ws)) (if x then At k else indexOf (k + 1) s ws)
-    go true h = omega arith
-    go false h = let e : k + suc (length ws) ≡ k + 1 + length ws = omega arith in rw e h
-
--- a place that was found is below the number of words
-pub index-below : (s : List ℕ) (ws : List (List ℕ)) (k : ℕ) → At k ≡ indexOf 0 s ws → k < length ws
-index-below s ws k e = let h : k < 0 + length ws = rw (← e) at (index-within 0 s ws) in omega arith
+      -- s is not that name
+      pub passed-on : same ≡ false → Passed table s (at + 2 + getD table at 0)
+      unfolding rowAmong
+      passed-on t ns e = let l = left ns e in (l .later, l .rest, rw (p ns e .2, l .is, ← l .part, ← q, t))
 
 -- ---- rows of names
 
--- the names of the rows, in order
-unfoldable pub namesOf : List (List String) → List (List ℕ)
-namesOf [] = []
-namesOf (r ∷ rs) = map bytes r ++ namesOf rs
+-- at least a, and less than z
+abbrev pub inRange : ℕ → ℕ → ℕ → Bool
+inRange a z n = leb a n && ltb n z
 
--- the number of each name's row, where the first row has the number i
-unfoldable pub numbersFrom : ℕ → List (List String) → List ℕ
-numbersFrom i [] = []
-numbersFrom i (r ∷ rs) = map (λ n. i) r ++ numbersFrom (i + 1) rs
+pub in-range : (a z : ℕ) {n : ℕ} → a ≤ n → n < z → inRange a z n ≡ true
+in-range a z {n} h k = simp (le-leb a n h, lt-ltb n z k)
 
--- The table holds, from k on, the row of each name.
-module _ (w table : List ℕ) where
-  -- a row of the number i in front of others
-  in-row : (i : ℕ) (ns : List ℕ) (vs : List (List ℕ)) (others : Option ℕ)
-      → ((k : ℕ) → drop k table ≡ ns → rowAt table (indexOf k w vs) ≡ rowAnswer others)
-      → (r : List String) (k : ℕ) → drop k table ≡ map (λ n. i) r ++ ns
-      → rowAt table (indexOf k w (map bytes r ++ vs)) ≡ rowAnswer (if isAny w r then some i else others)
-  unfolding indexOf isAny
-  in-row i ns vs others f [] k e = f k e
-  in-row i ns vs others f (n ∷ r) k e =
-      go (alike w (bytes n)) (in-row i ns vs others f r (k + 1) (sym (drop-drop 1 k table) ∙ ap (drop 1) e))
-    where
-      go : (x : Bool)
-          → rowAt table (indexOf (k + 1) w (map bytes r ++ vs)) ≡ rowAnswer (if isAny w r then some i else others)
-          → rowAt table (if x then At k else indexOf (k + 1) w (map bytes r ++ vs))
-          ≡ rowAnswer (if x || isAny w r then some i else others)
-      go true h = ap Number (rw (← add-zero k, ← getD-drop k table 0 0, e))
-      go false h = h
+-- The names whose length p holds of.
+module _ (p : ℕ → Bool) where
+  abbrev keep : Bool → Name → List Name → List Name
+  keep true n ns = n ∷ ns
+  keep false n ns = ns
 
-  -- all rows, of which the first has the number i
-  rows-from : (rs : List (List String)) (i k : ℕ) → drop k table ≡ numbersFrom i rs
-      → rowAt table (indexOf k w (namesOf rs)) ≡ rowAnswer (rowFrom i w rs)
-  unfolding namesOf numbersFrom indexOf rowFrom
-  rows-from [] i k e = refl
-  rows-from (r ∷ rs) i k e = in-row i (numbersFrom (i + 1) rs) (namesOf rs) (rowFrom (i + 1) w rs) (rows-from rs (i + 1)) r k e
+  -- those of a row of the number i, and others after them
+  unfoldable pub rowNames : ℕ → List String → List Name → List Name
+  rowNames i [] ns = ns
+  rowNames i (n ∷ r) ns = keep (p (length (bytes n))) (name i (bytes n)) (rowNames i r ns)
 
--- The row beside the first name that is alike is the first row that has such a name.
-pub row-of-name : (w : List ℕ) (rs : List (List String)) {names : List (List ℕ)} {table : List ℕ} {r : Row}
-    → r ≡ rowAt table (indexOf 0 w names) → names ≡ namesOf rs → table ≡ numbersFrom 0 rs → r ≡ rowAnswer (rowOf w rs)
-row-of-name w rs {names} {table} e p q = e ∙ rw p (rows-from w table rs 0 0 q)
+  -- those of rows, of which the first has the number i
+  unfoldable pub namesFrom : ℕ → List (List String) → List Name
+  namesFrom i [] = []
+  namesFrom i (r ∷ rs) = rowNames i r (namesFrom (i + 1) rs)
+
+  -- s is none of the names that are left out, since its length is another
+  module _ (s : List ℕ) (h : p (length s) ≡ true) where
+    in-row : (i : ℕ) (r : List String) (ns : List Name)
+        → rowAmong s (rowNames i r ns) ≡ (if isAny s r then some i else rowAmong s ns)
+    unfolding rowAmong rowNames isAny
+    in-row i [] ns = refl
+    in-row i (n ∷ r) ns = go (p (length (bytes n))) refl (alike s (bytes n)) refl (in-row i r ns)
+      where
+        go : (k : Bool) → p (length (bytes n)) ≡ k → (x : Bool) → alike s (bytes n) ≡ x
+            → rowAmong s (rowNames i r ns) ≡ (if isAny s r then some i else rowAmong s ns)
+            → rowAmong s (keep k (name i (bytes n)) (rowNames i r ns)) ≡ (if x || isAny s r then some i else rowAmong s ns)
+        go true q true e f = rw e
+        go true q false e f = rw e f
+        go false q false e f = f
+        go false q true e f =
+            absurd (false≢true (sym (alike-lengths s (bytes n) (λ (l : length s ≡ length (bytes n)). false≢true (sym q ∙ rw (← l) h))) ∙ e))
+
+    rows-from : (i : ℕ) (rs : List (List String)) → rowAmong s (namesFrom i rs) ≡ rowFrom i s rs
+    unfolding rowAmong namesFrom rowFrom
+    rows-from i [] = refl
+    rows-from i (r ∷ rs) = in-row i r (namesFrom (i + 1) rs) ∙ rw (rows-from (i + 1) rs)
+
+    -- The row of s in a table of these names is its row among all.
+    pub row-named : (rs : List (List String)) {table : List ℕ} {r : Row}
+        → ((ns : List Name) → table ≡ packed ns → r ≡ rowAnswer (rowAmong s ns)) → table ≡ packed (namesFrom 0 rs)
+        → r ≡ rowAnswer (rowOf s rs)
+    row-named rs f e = f (namesFrom 0 rs) e ∙ ap rowAnswer (rows-from 0 rs)

@@ -1,123 +1,48 @@
-// Words in lists of words, ignoring case, and the numbers of the rows that they stand in.
+// The rows that names stand in, ignoring case.
 ghost use mathlib.Core.Path.{_≡_};
-ghost use Prim.Native.Nat.{_≤_};
-ghost use lib.ListN.{length};
-ghost use Rattle.format.specs.Bytes.{LF, small, alike};
+ghost use mathlib.Core.List.{List};
+ghost use lib.Dec.{eqb};
+ghost use Rattle.format.specs.Bytes.{small, alike};
 ghost use Rattle.format.specs.Fields.{fieldNamed};
 ghost use Rattle.format.specs.Descriptors.{typeNamed, encodingNamed, endianNamed};
-ghost use Rattle.text.specs.Rows.{wordsOf, indexOf, rowAt, rowAnswer};
+ghost use Rattle.text.specs.Rows.{Name, packed, rowAmong, rowAnswer};
 
-// The names of the fields in both spellings, and the field of each.
-const FIELDS: [u8; 371] =
-    *b"dimension\ntype\nencoding\nendian\nsizes\nline skip\nlineskip\nbyte skip\nbyteskip\ndata file\ndatafile\nblock size\nblocksize\ncontent\nmin\nmax\nold min\noldmin\nold max\noldmax\nnumber\nsample units\nsampleunits\nspace\nspace dimension\nspace units\nspace origin\nspace directions\nmeasurement frame\nspacings\nthicknesses\naxis mins\naxismins\naxis maxs\naxismaxs\ncenters\ncenterings\nlabels\nunits\nkinds";
+// A table holds for each name its length, the number of its row, and its bytes in small letters.
+// A function that names a table builds it on the stack at each call: small tables, by the lengths of the names, cost the least.
 
-const FIELDS_ROWS: [u32; 40] = [
-    0,
-    1,
-    2,
-    3,
-    4,
-    5,
-    5,
-    6,
-    6,
-    7,
-    7,
-    8,
-    8,
-    9,
-    10,
-    11,
-    12,
-    12,
-    13,
-    13,
-    14,
-    15,
-    15,
-    16,
-    17,
-    18,
-    19,
-    20,
-    21,
-    22,
-    23,
-    24,
-    24,
-    25,
-    25,
-    26,
-    26,
-    27,
-    28,
-    29,
-];
+// The names of the fields in both spellings, of up to 6 bytes, 7 to 8, 9 to 10, and more.
+const FIELDS_6: [u8; 84] =
+    *b"\x04\x01type\x06\x03endian\x05\x04sizes\x03\x0amin\x03\x0bmax\x06\x0coldmin\x06\x0doldmax\x06\x0enumber\x05\x10space\x06\x1blabels\x05\x1cunits\x05\x1dkinds";
 
-// The names of the types, and the type of each.
-const TYPES: [u8; 403] =
-    *b"signed char\nint8\nint8_t\nuchar\nunsigned char\nuint8\nuint8_t\nshort\nshort int\nsigned short\nsigned short int\nint16\nint16_t\nushort\nunsigned short\nunsigned short int\nuint16\nuint16_t\nint\nsigned int\nint32\nint32_t\nuint\nunsigned int\nuint32\nuint32_t\nlonglong\nlong long\nlong long int\nsigned long long\nsigned long long int\nint64\nint64_t\nulonglong\nunsigned long long\nunsigned long long int\nuint64\nuint64_t\nfloat\ndouble";
+const FIELDS_8: [u8; 106] =
+    *b"\x08\x02encoding\x08\x05lineskip\x08\x06byteskip\x08\x07datafile\x07\x09content\x07\x0cold min\x07\x0dold max\x08\x16spacings\x08\x18axismins\x08\x19axismaxs\x07\x1acenters";
 
-const TYPES_ROWS: [u32; 40] = [
-    0,
-    0,
-    0,
-    1,
-    1,
-    1,
-    1,
-    2,
-    2,
-    2,
-    2,
-    2,
-    2,
-    3,
-    3,
-    3,
-    3,
-    3,
-    4,
-    4,
-    4,
-    4,
-    5,
-    5,
-    5,
-    5,
-    6,
-    6,
-    6,
-    6,
-    6,
-    6,
-    6,
-    7,
-    7,
-    7,
-    7,
-    7,
-    8,
-    9,
-];
+const FIELDS_10: [u8; 101] =
+    *b"\x09\x00dimension\x09\x05line skip\x09\x06byte skip\x09\x07data file\x0a\x08block size\x09\x08blocksize\x09\x18axis mins\x09\x19axis maxs\x0a\x1acenterings";
 
-// The names of the encodings, and the encoding of each.
-const ENCODINGS: [u8; 22] = *b"raw\ntxt\ntext\nascii\nhex";
+const FIELDS_LONG: [u8; 121] =
+    *b"\x0c\x0fsample units\x0b\x0fsampleunits\x0f\x11space dimension\x0b\x12space units\x0c\x13space origin\x10\x14space directions\x11\x15measurement frame\x0b\x17thicknesses";
 
-const ENCODINGS_ROWS: [u32; 5] = [0, 1, 1, 1, 2];
+// The names of the types, of up to 5 bytes, 6 to 8, 9 to 12, and more.
+const TYPES_5: [u8; 66] =
+    *b"\x04\x00int8\x05\x01uchar\x05\x01uint8\x05\x02short\x05\x02int16\x03\x04int\x05\x04int32\x04\x05uint\x05\x06int64\x05\x08float";
 
-// The names of the endians, and the endian of each.
-const ENDIANS: [u8; 10] = *b"little\nbig";
+const TYPES_8: [u8; 124] =
+    *b"\x06\x00int8_t\x07\x01uint8_t\x07\x02int16_t\x06\x03ushort\x06\x03uint16\x08\x03uint16_t\x07\x04int32_t\x06\x05uint32\x08\x05uint32_t\x08\x06longlong\x07\x06int64_t\x06\x07uint64\x08\x07uint64_t\x06\x09double";
 
-const ENDIANS_ROWS: [u32; 2] = [0, 1];
+const TYPES_12: [u8; 86] =
+    *b"\x0b\x00signed char\x09\x02short int\x0c\x02signed short\x0a\x04signed int\x0c\x05unsigned int\x09\x06long long\x09\x07ulonglong";
 
-// Which of the words it is, or none of them.
-pub enum Found {
-    At(usize),
-    Nothing,
-}
+const TYPES_LONG: [u8; 168] =
+    *b"\x0d\x01unsigned char\x10\x02signed short int\x0e\x03unsigned short\x12\x03unsigned short int\x0d\x06long long int\x10\x06signed long long\x14\x06signed long long int\x12\x07unsigned long long\x16\x07unsigned long long int";
 
-// The number of the row that a word stands in.
+// The names of the encodings.
+const ENCODINGS: [u8; 28] = *b"\x03\x00raw\x03\x01txt\x04\x01text\x05\x01ascii\x03\x02hex";
+
+// The names of the endians.
+const ENDIANS: [u8; 13] = *b"\x06\x00little\x03\x01big";
+
+// The number of the row that a name stands in.
 pub enum Row {
     Number(u32),
     Unknown,
@@ -136,6 +61,16 @@ pub fn lower(b: u8) -> u8
     }
 }
 
+// Whether two bytes are the same but for the case of a letter. Mostly they are the same, which one test tells.
+fn is_alike_byte(a: u8, b: u8) -> bool
+    ensures { λ r. ⌜ r ≡ eqb (small a) (small b) ⌝ }
+{
+    if a == b {
+        return true;
+    }
+    lower(a) == lower(b)
+}
+
 // Whether a and b are the same but for the case of letters.
 pub fn is_alike(a: &[u8], b: &[u8]) -> bool
     ensures { λ r. ⌜ r ≡ alike (now (a .entry)) (now (b .entry)) ⌝ }
@@ -145,7 +80,7 @@ pub fn is_alike(a: &[u8], b: &[u8]) -> bool
     }
     let mut i: usize = 0;
     while i < a.len() {
-        if lower(a[i]) != lower(b[i]) {
+        if !is_alike_byte(a[i], b[i]) {
             return false;
         }
         i += 1;
@@ -153,61 +88,57 @@ pub fn is_alike(a: &[u8], b: &[u8]) -> bool
     true
 }
 
-// Which of the words, one to a line, s is, ignoring case.
-pub fn find_word(words: &[u8], s: &[u8]) -> Found
-    ensures { λ r. ⌜ r ≡ indexOf 0 (now (s .entry)) (wordsOf LF (now (words .entry))) ⌝ }
+// The row of the name that s is, in a table of names.
+fn row_among(names: &[u8], s: &[u8]) -> Row
+    requires { ⌜ ((ns : List Name) × (now names ≡ packed ns)) ⌝ }
+    ensures { λ r. ⌜ ((ns : List Name) → now (names .entry) ≡ packed ns → r ≡ rowAnswer (rowAmong (now (s .entry)) ns)) ⌝ }
 {
     let mut at: usize = 0;
-    let mut k: usize = 0;
-    loop {
-        let e = at + crate::bytes::find_byte(&words[at..], b'\n');
-        if is_alike(s, &words[at..e]) {
-            return Found::At(k);
+    while at < names.len() {
+        let from = at + 2;
+        let to = from + names[at] as usize;
+        if is_alike(s, &names[from..to]) {
+            return Row::Number(names[at + 1] as u32);
         }
-        if words.len() <= e {
-            return Found::Nothing;
-        }
-        at = e + 1;
-        k += 1;
+        at = to;
     }
-}
-
-// The row of a word, from a table of the row of each word.
-fn row_of(words: &[u8], rows: &[u32], s: &[u8]) -> Row
-    requires { ⌜ length (wordsOf LF (now words)) ≤ length (now rows) ⌝ }
-    ensures { λ r. ⌜ r ≡ rowAt (now (rows .entry)) (indexOf 0 (now (s .entry)) (wordsOf LF (now (words .entry)))) ⌝ }
-{
-    let w = find_word(words, s);
-    match w {
-        Found::At(k) => Row::Number(rows[k]),
-        Found::Nothing => Row::Unknown,
-    }
+    Row::Unknown
 }
 
 // The field of a name.
 pub fn field_named(s: &[u8]) -> Row
     ensures { λ r. ⌜ r ≡ rowAnswer (fieldNamed (now (s .entry))) ⌝ }
 {
-    row_of(&FIELDS, &FIELDS_ROWS, s)
+    match s.len() {
+        0..=6 => row_among(&FIELDS_6, s),
+        7..=8 => row_among(&FIELDS_8, s),
+        9..=10 => row_among(&FIELDS_10, s),
+        _ => row_among(&FIELDS_LONG, s),
+    }
 }
 
 // The type of a name.
 pub fn type_named(s: &[u8]) -> Row
     ensures { λ r. ⌜ r ≡ rowAnswer (typeNamed (now (s .entry))) ⌝ }
 {
-    row_of(&TYPES, &TYPES_ROWS, s)
+    match s.len() {
+        0..=5 => row_among(&TYPES_5, s),
+        6..=8 => row_among(&TYPES_8, s),
+        9..=12 => row_among(&TYPES_12, s),
+        _ => row_among(&TYPES_LONG, s),
+    }
 }
 
 // The encoding of a name.
 pub fn encoding_named(s: &[u8]) -> Row
     ensures { λ r. ⌜ r ≡ rowAnswer (encodingNamed (now (s .entry))) ⌝ }
 {
-    row_of(&ENCODINGS, &ENCODINGS_ROWS, s)
+    row_among(&ENCODINGS, s)
 }
 
 // The endian of a name.
 pub fn endian_named(s: &[u8]) -> Row
     ensures { λ r. ⌜ r ≡ rowAnswer (endianNamed (now (s .entry))) ⌝ }
 {
-    row_of(&ENDIANS, &ENDIANS_ROWS, s)
+    row_among(&ENDIANS, s)
 }

@@ -1,27 +1,24 @@
--- `words::encoding_named` meets its contract: `ENCODINGS` holds the names of the encodings, and `ENCODINGS_ROWS` the encoding of each (both by computation).
+-- `words::encoding_named` meets its contract: the table holds the names of the encodings (by computation).
 -- Assumes nothing.
+use mathlib.Core.Bool.{true}
 use mathlib.Core.Path.{refl}
 use Rattle.format.specs.Descriptors.{encodings}
-use Rattle.text.specs.Rows.{wordsOf}
-use Rattle.text.proofs.Rows.{namesOf, numbersFrom, row-of-name}
+use Rattle.text.specs.Rows.{packed}
+use Rattle.text.proofs.Rows.{rowNames, namesFrom, row-named}
 use borrow.Author.Needs.{needs}
 use Rattle.text.proofs.words.encoding_named.Statement.{statement}
 use Rattle.text.proofs.words.encoding_named.Tie as tie
 
-slice-aggregate-row-of : tie.Need-slice-aggregate-row-of
-slice-aggregate-row-of c = search needs
+slice-aggregate-row-among : tie.Need-slice-aggregate-row-among
+slice-aggregate-row-among c = search needs
 
-slice-aggregate-row-of-2 : tie.Need-slice-aggregate-row-of-2
-slice-aggregate-row-of-2 c = search needs
-
-row-of-requires : tie.Need-row-of-requires
-unfolding wordsOf
-row-of-requires c κs = search needs
+row-among-requires : tie.Need-row-among-requires
+unfolding packed namesFrom rowNames
+row-among-requires c κs = (namesFrom (λ n. true) 0 encodings, refl)
 
 returns : tie.Need-returns
-unfolding wordsOf namesOf numbersFrom
-returns c = row-of-name (c .before .before .before .before .args .s .now) encodings (c .row-of .ensures) refl refl
+unfolding packed namesFrom rowNames
+returns c = row-named (λ n. true) (c .before .before .before .args .s .now) refl encodings (c .row-among .ensures) refl
 
 pub encoding-named-spec : {M : Type 1} → statement M
-encoding-named-spec =
-    tie.close (tie.spec slice-aggregate-row-of slice-aggregate-row-of-2 row-of-requires returns)
+encoding-named-spec = tie.close (tie.spec slice-aggregate-row-among row-among-requires returns)

@@ -6,7 +6,8 @@ use mathlib.Core.Path.{_≡_, sym, _∙_}
 use native.Mathlib.Omega.{arith}
 use lib.ListN.{length, drop}
 use Rattle.format.specs.Bytes.{alike}
-use Rattle.text.proofs.Rows.{alike-lengths, alike-no, alike-on, alike-end}
+use Rattle.text.proofs.Rows.{alike-lengths, alike-next, alike-end}
+use borrow.Author.Tests.{not-true, not-false}
 use borrow.Author.Needs.{needs}
 use Rattle.text.proofs.words.is_alike.Statement.{statement}
 use Rattle.text.proofs.words.is_alike.Tie as tie
@@ -25,26 +26,21 @@ returns c =
 loop-holds : tie.Need-loop-holds Inv-loop μ-loop
 loop-holds c = search needs
 
-shared-slice-read-lower : tie.Need-shared-slice-read-lower Inv-loop μ-loop
-shared-slice-read-lower c = search needs
+shared-slice-read-is-alike-byte : tie.Need-shared-slice-read-is-alike-byte Inv-loop μ-loop
+shared-slice-read-is-alike-byte c = search needs
 
-lower-requires : tie.Need-lower-requires Inv-loop μ-loop
-lower-requires c κs = search needs
+shared-slice-read-is-alike-byte-2 : tie.Need-shared-slice-read-is-alike-byte-2 Inv-loop μ-loop
+shared-slice-read-is-alike-byte-2 c = search needs
 
-shared-slice-read-lower-2 : tie.Need-shared-slice-read-lower-2 Inv-loop μ-loop
-shared-slice-read-lower-2 c = search needs
-
-lower-requires-2 : tie.Need-lower-requires-2 Inv-loop μ-loop
-lower-requires-2 c κs = search needs
+is-alike-byte-requires : tie.Need-is-alike-byte-requires Inv-loop μ-loop
+is-alike-byte-requires c κs = search needs
 
 returns-2 : tie.Need-returns-2 Inv-loop μ-loop
 returns-2 c =
-    let l = c .before .before .before .before .before .before .loop in
-    let a = c .before .before .before .before .before .before .before .before .before .before .args in
-    let x = c .before .before .before .lower .ensures in
-    let y = c .before .lower2 .ensures in
-    let n = alike-no (a .a .now) (a .b .now) (l .i) (search needs) (l .inv .1) (λ q. c .if2 .taken (x ∙ q ∙ sym y)) in
-    sym (l .inv .2 ∙ n)
+    let l = c .before .before .before .before .before .loop in
+    let a = c .before .before .before .before .before .before .before .before .before .args in
+    let n = alike-next (a .a .now) (a .b .now) (l .i) (search needs) (l .inv .1) (c .before .is-alike-byte .ensures) in
+    sym (rw (l .inv .2, n, not-true (c .before .is-alike-byte .result) (c .if2 .taken)))
 
 add-i : tie.Need-add-i Inv-loop μ-loop
 add-i c = search needs
@@ -54,12 +50,10 @@ loop-less c = search needs
 
 loop-again : tie.Need-loop-again Inv-loop μ-loop
 loop-again c =
-    let l = c .before .before .before .before .before .before .loop in
-    let a = c .before .before .before .before .before .before .before .before .before .before .args in
-    let x = c .before .before .before .lower .ensures in
-    let y = c .before .lower2 .ensures in
-    let n = alike-on (a .a .now) (a .b .now) (l .i) (search needs) (l .inv .1) (sym x ∙ c .if2 .left ∙ y) in
-    (search needs, l .inv .1, l .inv .2 ∙ n)
+    let l = c .before .before .before .before .before .loop in
+    let a = c .before .before .before .before .before .before .before .before .before .args in
+    let n = alike-next (a .a .now) (a .b .now) (l .i) (search needs) (l .inv .1) (c .before .is-alike-byte .ensures) in
+    (search needs, l .inv .1, rw (l .inv .2, n, not-false (c .before .is-alike-byte .result) (c .if2 .left)))
 
 returns-3 : tie.Need-returns-3 Inv-loop μ-loop
 returns-3 c =
@@ -75,10 +69,9 @@ is-alike-spec =
     μ-loop
     returns
     loop-holds
-    shared-slice-read-lower
-    lower-requires
-    shared-slice-read-lower-2
-    lower-requires-2
+    shared-slice-read-is-alike-byte
+    shared-slice-read-is-alike-byte-2
+    is-alike-byte-requires
     returns-2
     add-i
     loop-less
