@@ -1,10 +1,11 @@
 -- Laws of samples by their 64 bits: where they are read, and their range.
 -- Assumes nothing.
 use mathlib.Core.Path.{_≡_, refl, sym, ap, _∙_}
-use mathlib.Core.Bool.{Bool, true, false}
+use mathlib.Core.Bool.{Bool, true, false, _&&_}
 use mathlib.Core.List.{List}
+use lib.Bits.{bitOr, or-lt, or-add-and, and-le-l, and-le-r}
 use lib.Dec.{ltb, leb}
-use Prim.Native.Nat.{ℕ, _+_, _*_, _-_, _/_, _%_, _≤_, _<_}
+use Prim.Native.Nat.{ℕ, _+_, _*_, _-_, _/_, _%_, _^_, _≤_, _<_}
 use native.Mathlib.Omega.{arith}
 use borrow.Author.Tests.{ltb-true, ltb-false, lt-ltb, le-ltb, leb-true, leb-false, le-leb, lt-leb}
 use lib.ListN.{length, getD, take, drop, length-drop}
@@ -23,6 +24,19 @@ use Rattle.writable.specs.Refused.{inRange}
 -- a sample that is read from a list is itself
 pub read-back : (z : ℤ) → mag z < 9223372036854775808 → toZ w64 (ofZ w64 z) ≡ z
 read-back z h = toZ-ofZ {w = w64} {z = z} (record { sfits = h })
+
+-- ---- two numbers are below a power of 2 where their bits together are
+
+pub or-within : (k m a b : ℕ) → m + 1 ≡ 2 ^ k → leb (bitOr a b) m ≡ (leb a m && leb b m)
+or-within k m a b e = go (leb a m) (leb b m) refl refl
+  where
+    go : (x y : Bool) → leb a m ≡ x → leb b m ≡ y → leb (bitOr a b) m ≡ (x && y)
+    go true true p q =
+        let c : a < 2 ^ k = omega (arith, e, leb-true a m p) in
+        let d : b < 2 ^ k = omega (arith, e, leb-true b m q) in
+        le-leb (bitOr a b) m (omega (arith, e, or-lt k a b c d))
+    go true false p q = lt-leb (bitOr a b) m (omega (arith, leb-false b m q, or-add-and a b, and-le-l a b))
+    go false y p q = lt-leb (bitOr a b) m (omega (arith, leb-false a m p, or-add-and a b, and-le-r a b))
 
 -- ---- bits to samples and back
 

@@ -17,7 +17,7 @@ use Rattle.format.specs.Limits.{maxExtent}
 use Rattle.format.specs.Descriptors.{NumberKind, typeAt, sampleBytes, numberKind, isFloating, product, extent}
 use Rattle.format.specs.Samples.{inType, lowest, highest}
 use Rattle.format.specs.Writer.{allInType, writable}
-use Rattle.writable.specs.Refused.{inRange, allInRange, earlyRefusal, Numbers, Ready}
+use Rattle.writable.specs.Refused.{inRange, allInRange, WholeRange, earlyRefusal, Numbers, Ready}
 use Rattle.words.proofs.TypeLaws.{below-10}
 
 -- ---- a 0 among the numbers
@@ -88,6 +88,9 @@ module _ (ns : List ℕ) (i : ℕ) where
 
 -- ---- samples in a range
 
+pub range-start : (low high m : ℕ) (zs : List ℤ) → allInRange low high zs ≡ (leb 0 m && allInRange low high (drop 0 zs))
+range-start low high m zs = rw (le-leb 0 m (omega arith))
+
 module _ (low high : ℕ) (zs : List ℤ) (i : ℕ) where
   pub range-next : (fine one : Bool) → i < length zs → one ≡ inRange low high (getD zs i (pos 0)) → allInRange low high zs ≡ (fine && allInRange low high (drop i zs))
       → allInRange low high zs ≡ ((fine && one) && allInRange low high (drop (i + 1) zs))
@@ -123,6 +126,14 @@ sample-bytes = below-10 (λ t. 1 ≤ sampleBytes t) (lit≤ tt) (lit≤ tt) (lit
 floating-is : (t : ℕ) → t < 10 → isFloating (numberKind t) ≡ leb 8 t
 unfolding typeAt
 floating-is = below-10 (λ t. isFloating (numberKind t) ≡ leb 8 t) refl refl refl refl refl refl refl refl refl refl
+
+-- the range of every type
+pub type-range : (t : ℕ) → t < 10 → {low high : ℕ} → low ≡ lowest (numberKind t) (sampleBytes t) → high ≡ highest (numberKind t) (sampleBytes t) → WholeRange low high
+unfolding typeAt
+type-range t h el eh =
+    rw (el, eh)
+    (below-10 (λ t. WholeRange (lowest (numberKind t) (sampleBytes t)) (highest (numberKind t) (sampleBytes t)))
+    (8, refl) (8, refl) (16, refl) (16, refl) (32, refl) (32, refl) (64, refl) (63, refl) (0, refl) (0, refl) t h)
 
 -- ---- the early refusals, from what the code knows where it returns each
 

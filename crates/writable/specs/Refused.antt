@@ -1,6 +1,6 @@
 -- The samples of a call, and what is refused, in the words of the contracts. Each is tied to the definitions of `format` by a law of proofs/.
 use mathlib.Core.Path.{_≡_}
-use Prim.Native.Nat.{ℕ, _*_, _≤_, _<_}
+use Prim.Native.Nat.{ℕ, _+_, _*_, _^_, _≤_, _<_}
 use mathlib.Core.Bool.{Bool, true, not, _&&_}
 use mathlib.Core.List.{List, [], _∷_}
 use lib.Dec.{eqb, leb, ltb}
@@ -25,6 +25,10 @@ inRange low high (negsuc n) = ltb n low
 unfoldable pub allInRange : ℕ → ℕ → List ℤ → Bool
 allInRange low high [] = true
 allInRange low high (z ∷ zs) = inRange low high z && allInRange low high zs
+
+-- the values from -low to high are as many as a power of 2
+abbrev pub WholeRange : ℕ → ℕ → Type 0
+WholeRange low high = (k : ℕ) × (low + high + 1 ≡ 2 ^ k)
 
 -- the refusals that do not ask for the file's length, in the order of `writeRefusal`
 unfoldable pub earlyRefusal : ℕ → List ℕ → ℕ → ℕ → ℕ → List ℤ → ℕ

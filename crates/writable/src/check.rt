@@ -1,12 +1,13 @@
 // What the writer refuses.
 ghost use mathlib.Core.Path.{_≡_};
 ghost use mathlib.Core.Bool.{true};
-ghost use Prim.Native.Nat.{_*_, _≤_, _<_, min};
+ghost use Prim.Native.Nat.{ℕ, _+_, _*_, _≤_, _<_, min};
+ghost use lib.Dec.{leb};
 ghost use Rattle.format.specs.Bytes.{isIn};
 ghost use Rattle.format.specs.Descriptors.{product, sampleBytes, numberKind};
 ghost use Rattle.format.specs.Samples.{lowest, highest, toSigned};
 ghost use Rattle.format.specs.Writer.{writable};
-ghost use Rattle.writable.specs.Refused.{chosen, inRange, allInRange, earlyRefusal, lateRefusal, Numbers, Ready};
+ghost use Rattle.writable.specs.Refused.{chosen, inRange, allInRange, WholeRange, earlyRefusal, lateRefusal, Numbers, Ready};
 ghost use Rattle.words.specs.Widths.{Width};
 use crate::source;
 
@@ -87,27 +88,28 @@ fn product(ns: &[u64]) -> u64
     x
 }
 
-// Whether the sample of the bits x lies from -low to high. The range of every type begins and ends so that one test does.
-fn in_range(x: u64, low: u64, high: u64) -> bool
-    requires { ⌜ (low ≤ 9223372036854775808) × (high < 9223372036854775808) ⌝ }
-    ensures { λ r. ⌜ r ≡ inRange low high (toSigned 8 x) ⌝ }
+// The sample of the bits x, counted from -low on: the samples up to high are the numbers up to low + high.
+fn from_lowest(x: u64, low: u64) -> u64
+    requires { ⌜ low ≤ 9223372036854775808 ⌝ }
+    ensures { λ r. ⌜ ((high : ℕ) → high < 9223372036854775808 → leb r (low + high) ≡ inRange low high (toSigned 8 x)) ⌝ }
 {
-    std::num::wrapping_add_u64(x, low) <= low + high
+    std::num::wrapping_add_u64(x, low)
 }
 
-// Whether all samples do. There is no early exit.
+// Whether all samples lie from -low to high. These are as many values as a power of 2: the numbers are all below it where their bits together are.
 fn all_in_range(samples: &[i64], lent: &[u8], packed: bool, low: u64, high: u64) -> bool
     requires { ⌜ (low ≤ 9223372036854775808) × (high < 9223372036854775808) ⌝ }
+    requires { ⌜ WholeRange low high ⌝ }
     ensures { λ r. ⌜ r ≡ allInRange low high (chosen packed (now (samples .entry)) (now (lent .entry))) ⌝ }
 {
     let n = source::count(samples, lent, packed);
-    let mut fine = true;
+    let mut all: u64 = 0;
     let mut i: usize = 0;
     while i < n {
-        fine = fine & in_range(source::bits_at(samples, lent, packed, i), low, high);
+        all = all | from_lowest(source::bits_at(samples, lent, packed, i), low);
         i += 1;
     }
-    fine
+    all <= low + high
 }
 
 // The bytes of a sample of each type.

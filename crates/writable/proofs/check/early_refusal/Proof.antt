@@ -4,7 +4,7 @@ use native.Mathlib.Omega.{arith}
 use denote.Ref.{now}
 use borrow.Author.Tests.{not-true, not-false}
 use Rattle.writable.specs.Refused.{chosen}
-use Rattle.writable.proofs.Refuse.{early-11, early-15, early-19, early-27, early-20, early-0, ready}
+use Rattle.writable.proofs.Refuse.{type-range, early-11, early-15, early-19, early-27, early-20, early-0, ready}
 use Rattle.writable.proofs.check.early_refusal.Statement.{statement}
 use Rattle.writable.proofs.check.early_refusal.Tie as tie
 
@@ -61,7 +61,10 @@ highest-of-requires : tie.Need-highest-of-requires
 highest-of-requires c κs = search needs
 
 all-in-range-requires : tie.Need-all-in-range-requires
-all-in-range-requires c κs = search needs
+all-in-range-requires c κs =
+    let i = c .before .before .before .before .before .before .before .before .before .before .is-writable in
+    let t = i .ensures .1 (not-false (i .result) (c .before .before .before .before .before .before .before .before .before .if1 .left)) .type-in in
+    (search needs, type-range _ t (c .before .lowest-of .ensures .0) (c .highest-of .ensures .0))
 
 returns-5 : tie.Need-returns-5
 returns-5 c =
