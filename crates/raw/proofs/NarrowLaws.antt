@@ -1,26 +1,26 @@
--- Laws of samples of 1 or 2 bytes, which go by way of numbers of 16 bits, 64 at a time.
+-- Laws of samples of 1 or 2 bytes, which go by way of numbers of 16 bits.
 -- Assumes nothing.
-use Prim.Native.Nat.{ℕ, zero, suc, _+_, _*_, _-_, _^_, _/_, _%_, _≤_, _<_}
-use native.Mathlib.Nat.{suc-mul, zero-mul, mul-le-mul-right, mod-eq-of-lt}
+use Prim.Native.Nat.{ℕ, zero, suc, _+_, _*_, _-_, _^_, _%_, _≤_, _<_, min}
+use native.Mathlib.Nat.{suc-mul, mul-le-mul-right, mod-lt, mod-eq-of-lt}
 use native.Mathlib.Omega.{arith}
 use mathlib.Core.Path.{_≡_, refl, sym, ap, _∙_}
 use mathlib.Core.Bool.{Bool, true, false}
-use mathlib.Core.List.{List}
-use lib.Dec.{eqb, ltb, lit≤, lit<}
+use mathlib.Core.List.{List, [], _∷_, append-nil}
+use lib.Dec.{ltb, lit≤, lit<}
 use lib.IntN.{ℤ, pos, subℕ, _-ℤ_}
-use lib.ListN.{length, take, drop, getD, set, length-set}
-use lib.Seq.{getD-set-same, getD-set-other}
-use borrow.Author.Tests.{eq-eqb, ne-eqb, eqb-true, eqb-false, le-ltb}
+use lib.ListN.{length, take, drop, getD, set, length-drop, length-map, drop-of-length-le}
+use lib.Seq.{drop-drop, getD-drop, sets}
+use borrow.Author.Tests.{eq-eqb, ne-eqb, le-ltb}
 use mir.Syntax.{w64}
 use mir.Val.{SFits, toZ, ofZ}
 use mir.Facts.{toZ-pos, toZ-ofZ}
-use Rattle.format.specs.Bytes.{if_then_else_}
-use Rattle.format.specs.Descriptors.{NumberKind, signed, unsigned}
-use Rattle.format.specs.Samples.{sampleValue, valueOfBits}
+use Rattle.format.specs.Bytes.{if_then_else_, over}
+use Rattle.format.specs.Samples.{Decoded, rawSamples, sampleValue, inType, fromBytes, ordered, withSample, stopped}
 use Rattle.words.proofs.WidthLaws.{by-width}
 use Rattle.words.specs.Widths.{Width, kindBy, endianBy}
-use Rattle.raw.specs.Bits.{Bits, bitsAt, sampleAt, range, halfOf}
-use Rattle.raw.proofs.RawLaws.{shifted, sample-is}
+use Rattle.raw.specs.Bits.{bitsAt, range, lifts, low, lows, Shifts}
+use Rattle.raw.proofs.BlockLaws.{Storing, in-list, Run, run-none, run-more, run-done, Blocks, blocks-none, blocks-long, blocks-more, blocks-done}
+use Rattle.raw.proofs.RawLaws.{shifted, sample-is, bits-below, sets-over}
 
 -- the range by the width
 pub range-2 : (w : ℕ) → w ≡ 2 → range w ≡ 65536
@@ -29,137 +29,234 @@ range-2 w e = rw (eq-eqb w 2 e)
 pub range-1 : (w : ℕ) → (w ≡ 2 → ⊥) → range w ≡ 256
 range-1 w n = rw (ne-eqb w 2 n)
 
--- half is at most 32768
-pub half-below : (w : ℕ) (sign : Bool) → halfOf w sign ≤ 32768
-half-below w true = go (eqb w 2)
-  where
-    go : (t : Bool) → (if t then 32768 else 128) ≤ 32768
-    go true = lit≤ tt
-    go false = lit≤ tt
-half-below w false = lit≤ tt
-
-plain : (x r : ℕ) → x < r → subℕ ((x + 0) % r) 0 ≡ pos x
-plain x r h =
-    let q : x + 0 ≡ x = omega arith in
-    let m : x % r ≡ x = mod-eq-of-lt h in
-    let o : x - 0 ≡ x = omega arith in
-    rw (q, m, le-ltb x 0 (omega arith), o)
-
--- a lifted number with half taken off is the value
-pub lifted-value : (sign : Bool) (w x : ℕ) → Width w → w ≤ 2 → x < 256 ^ w → subℕ ((x + halfOf w sign) % range w) (halfOf w sign) ≡ valueOfBits (kindBy sign) w x
-lifted-value true w x d l h = by-width w d (λ e. rw e (shifted x 128 (rw e at h))) (λ e. rw e (shifted x 32768 (rw e at h))) (λ e. absurd (omega (arith, e))) (λ e. absurd (omega (arith, e)))
-lifted-value false w x d l h = by-width w d (λ e. rw e (plain x 256 (rw e at h))) (λ e. rw e (plain x 65536 (rw e at h))) (λ e. absurd (omega (arith, e))) (λ e. absurd (omega (arith, e)))
-
--- a number of 1 or 2 bytes, and half, are below the range
+-- a number of 1 or 2 bytes is below the range
 pub narrow-below : (w x : ℕ) → Width w → w ≤ 2 → x < 256 ^ w → x < range w
 narrow-below w x d l h = by-width w d (λ e. rw e (rw e at h)) (λ e. rw e (rw e at h)) (λ e. absurd (omega (arith, e))) (λ e. absurd (omega (arith, e)))
 
-pub half-in : (w : ℕ) (sign : Bool) → halfOf w sign < range w
-half-in w sign = go (eqb w 2) sign
-  where
-    go : (t u : Bool) → (if u then (if t then 32768 else 128) else 0) < (if t then 65536 else 256)
-    go true true = lit< tt
-    go true false = lit< tt
-    go false true = lit< tt
-    go false false = lit< tt
+-- the width that is left
+pub width-2 : (w : ℕ) → Width w → (w ≡ 1 → ⊥) → (w ≡ 8 → ⊥) → (w ≡ 4 → ⊥) → w ≡ 2
+width-2 w d n1 n8 n4 = by-width w d (λ e. absurd (n1 e)) (λ e. e) (λ e. absurd (n4 e)) (λ e. absurd (n8 e))
 
--- the lifted number at a place with half taken off is the sample there
-pub lifted-sample : (s : List ℕ) (at w : ℕ) → at + w ≤ length s → (sign big : Bool) (x r half : ℕ) → Width w → w ≤ 2 → half ≡ halfOf w sign → Bits w (bitsAt big w s at) x → r ≡ (x + half) % range w
-    → subℕ r half ≡ sampleAt sign big w s at
-lifted-sample s at w h sign big x r half d l p b q =
-    rw (q, p, sample-is s at w h (kindBy sign) (endianBy big), sym (b .is)) (lifted-value sign w x d l (b .less))
+-- ---- the shifts of the types
 
--- the difference of a number of 16 bits and half
-module _ (x h : ℕ) (b : x < 65536) (l : h ≤ 32768) where
-  minus : pos x -ℤ pos h ≡ subℕ x h
-  minus = go h
+pos-low : (n : ℕ) → subℕ n 0 ≡ pos n
+pos-low n =
+    let o : n - 0 ≡ n = omega arith in
+    rw (le-ltb n 0 (omega arith), o)
+
+-- what is not lifted stays as it is
+plain : (x r : ℕ) → x < r → r ≤ 65536 → low 0 0 ((x + 0) % r) ≡ pos x
+plain x r h l =
+    let e : (x + 0) % r ≡ x = ap (λ (n : ℕ). n % r) (omega arith) ∙ mod-eq-of-lt h in
+    let m : ((x + 0) % r + 0) % 65536 ≡ x = ap (λ (n : ℕ). (n + 0) % 65536) e ∙ omega arith in
+    ap (λ (n : ℕ). subℕ n 0) m ∙ pos-low x
+
+-- half the range added, and taken off
+half : (x h : ℕ) → x < 2 * h → 2 * h ≤ 65536 → low 0 h ((x + h) % (2 * h)) ≡ subℕ ((x + h) % (2 * h)) h
+half x h b l =
+    let m : (x + h) % (2 * h) < 2 * h = mod-lt (x + h) (omega arith) in
+    ap (λ (n : ℕ). subℕ n h) (ap (λ (n : ℕ). n % 65536) (omega arith) ∙ mod-eq-of-lt (omega arith))
+
+pub int8 : Shifts 1 true 128 0 128
+int8 = record { within = lit< tt; small = lit≤ tt; back = λ x h. half x 128 h (lit≤ tt) ∙ shifted x 128 h }
+
+pub uint8 : Shifts 1 false 0 0 0
+uint8 = record { within = lit< tt; small = lit≤ tt; back = λ x h. plain x 256 h (lit≤ tt) }
+
+pub int16 : Shifts 2 true 32768 0 32768
+int16 = record { within = lit< tt; small = lit≤ tt; back = λ x h. half x 32768 h (lit≤ tt) ∙ shifted x 32768 h }
+
+pub uint16 : Shifts 2 false 0 0 0
+uint16 = record { within = lit< tt; small = lit≤ tt; back = λ x h. plain x 65536 h (lit≤ tt) }
+
+-- 32768 added twice
+pub uint16-biased : Shifts 2 false 32768 32768 0
+uint16-biased = record {
+  within = lit< tt;
+  small = lit≤ tt;
+  back = λ x h.
+      let e : ((x + 32768) % 65536 + 32768) % 65536 ≡ x = omega arith in
+      ap (λ (n : ℕ). subℕ n 0) e ∙ pos-low x;
+}
+
+-- ---- the difference of a number of 16 bits and q
+
+module _ (x q : ℕ) (b : x < 65536) (l : q ≤ 32768) where
+  minus : pos x -ℤ pos q ≡ subℕ x q
+  minus = go q
     where
-      go : (h : ℕ) → pos x -ℤ pos h ≡ subℕ x h
+      go : (q : ℕ) → pos x -ℤ pos q ≡ subℕ x q
       go zero =
           let o : x - 0 ≡ x = omega arith in
-          let q : x + 0 ≡ x = omega arith in
-          rw (le-ltb x 0 (omega arith), o, q)
-      go (suc h) = refl
+          let p : x + 0 ≡ x = omega arith in
+          rw (le-ltb x 0 (omega arith), o, p)
+      go (suc q) = refl
 
-  sub-fits : SFits w64 (subℕ x h)
-  sub-fits = go (ltb x h) refl
+  sub-fits : SFits w64 (subℕ x q)
+  sub-fits = go (ltb x q) refl
     where
-      go : (t : Bool) → ltb x h ≡ t → SFits w64 (subℕ x h)
+      go : (t : Bool) → ltb x q ≡ t → SFits w64 (subℕ x q)
       go true e = rw e (record { sfits = omega arith })
       go false e = rw e (record { sfits = omega arith })
 
-  lowered-value : toZ w64 x -ℤ toZ w64 h ≡ subℕ x h
-  lowered-value = rw (toZ-pos w64 {n = x} (omega arith), toZ-pos w64 {n = h} (omega arith)) minus
+  lowered-value : toZ w64 x -ℤ toZ w64 q ≡ subℕ x q
+  lowered-value = rw (toZ-pos w64 {n = x} (omega arith), toZ-pos w64 {n = q} (omega arith)) minus
 
-  pub lowered-fits : SFits w64 (toZ w64 x -ℤ toZ w64 h)
+  pub lowered-fits : SFits w64 (toZ w64 x -ℤ toZ w64 q)
   lowered-fits = rw lowered-value sub-fits
 
-  pub lowered-kept : toZ w64 (ofZ w64 (toZ w64 x -ℤ toZ w64 h)) ≡ subℕ x h
+  pub lowered-kept : toZ w64 (ofZ w64 (toZ w64 x -ℤ toZ w64 q)) ≡ subℕ x q
   lowered-kept = toZ-ofZ lowered-fits ∙ lowered-value
 
--- ---- 64 numbers
+-- ---- the numbers of samples, lifted
 
-module _ (k : NumberKind) (w e : ℕ) (s : List ℕ) (half : ℕ) where
-  abbrev sampleFrom : ℕ → ℤ
-  sampleFrom at = sampleValue k e (take w (drop at s))
+module _ (big : Bool) (w up : ℕ) where
+  pub length-lifts : (n : ℕ) (s : List ℕ) → length (lifts big w up n s) ≡ n
+  unfolding lifts
+  length-lifts zero s = refl
+  length-lifts (suc n) s = ap suc (length-lifts n (drop w s))
 
-  -- the first i numbers are those of the samples from `at` on
-  pub record Lifted (a : List ℕ) (at from i : ℕ) : Type 0 where
-    pub long : length a ≡ 64
-    pub place : from ≡ at + i * w
-    pub most : i ≤ 64
-    pub are : (m : ℕ) → m < i → subℕ (getD a m 0) half ≡ sampleFrom (at + m * w)
+  -- number i
+  pub lifts-at : (n : ℕ) (s : List ℕ) (i z : ℕ) → i < n → getD (lifts big w up n s) i z ≡ (bitsAt big w s (i * w) + up) % range w
+  unfolding lifts
+  lifts-at zero s i z h = absurd (omega arith)
+  lifts-at (suc n) s zero z h =
+      let q : 0 * w ≡ 0 = omega arith in
+      rw q
+  lifts-at (suc n) s (suc i) z h =
+      let q : w + i * w ≡ suc i * w = omega (arith, suc-mul i w) in
+      lifts-at n (drop w s) i z (omega arith) ∙ rw (drop-drop (i * w) w s, q)
 
-  pub lifted-none : (a : List ℕ) (at : ℕ) → length a ≡ 64 → Lifted a at at 0
-  lifted-none a at l = record { long = l; place = omega arith; most = omega arith; are = λ m h. absurd (omega arith) }
+  module _ (p q : ℕ) where
+    first-part : (m n : ℕ) (s : List ℕ) → m ≤ n → take m (lows p q (lifts big w up n s)) ≡ lows p q (lifts big w up m s)
+    unfolding lifts
+    first-part zero n s h = refl
+    first-part (suc m) zero s h = absurd (omega arith)
+    first-part (suc m) (suc n) s h = ap (λ (l : List ℤ). low p q ((bitsAt big w s 0 + up) % range w) ∷ l) (first-part m n (drop w s) (omega arith))
 
-  module _ {a : List ℕ} {at from i : ℕ} (f : Lifted a at from i) (h : i < 64) where
-    pub lifted-room : (n j : ℕ) → j + 64 ≤ n → at + (n - j) * w ≤ length s → from + w ≤ length s
-    lifted-room n j r l =
-        let q : suc i ≤ n - j = omega arith in
-        omega (arith, f .place, suc-mul i w, mul-le-mul-right w q)
+    -- those of m samples from k on
+    pub block-part : (k m n : ℕ) (s : List ℕ) → k + m ≤ n → lows p q (lifts big w up m (drop (k * w) s)) ≡ take m (drop k (lows p q (lifts big w up n s)))
+    unfolding lifts
+    block-part zero m n s h =
+        let e : 0 * w ≡ 0 = omega arith in
+        rw e (sym (first-part m n s (omega arith)))
+    block-part (suc k) m zero s h = absurd (omega arith)
+    block-part (suc k) m (suc n) s h =
+        let e : w + k * w ≡ suc k * w = omega (arith, suc-mul k w) in
+        ap (λ (l : List ℕ). lows p q (lifts big w up m l)) (ap (λ (i : ℕ). drop i s) (sym e) ∙ sym (drop-drop (k * w) w s)) ∙ block-part k m n (drop w s) (omega arith)
 
-    pub lifted-more : (x : ℕ) → subℕ x half ≡ sampleFrom from → Lifted (set a i x) at (from + w) (i + 1)
-    lifted-more x q = record {
-      long = length-set a i x ∙ f .long;
-      place = omega (arith, f .place, suc-mul i w);
-      most = omega arith;
-      are = λ m l. go m l (eqb m i) refl;
-    }
+    -- lowered they are the samples
+    pub lowered-samples : (sign : Bool) → Width w → w ≤ 2 → Shifts w sign up p q → (n : ℕ) (s : List ℕ) → ((i : ℕ) → getD s i 0 < 256) → n * w ≤ length s
+        → rawSamples (kindBy sign) w (endianBy big) n s .number ≡ 0 → lows p q (lifts big w up n s) ≡ rawSamples (kindBy sign) w (endianBy big) n s .seen
+    unfolding lifts rawSamples
+    lowered-samples sign d l f zero s b h z = refl
+    lowered-samples sign d l f (suc n) s b h z =
+        go (inType (kindBy sign) w v) z (λ y. lowered-samples sign d l f n (drop w s) (λ i. rw (getD-drop w s i 0) (b (w + i))) (omega (arith, suc-mul n w, length-drop w s)) y)
       where
-        go : (m : ℕ) → m < i + 1 → (t : Bool) → eqb m i ≡ t → subℕ (getD (set a i x) m 0) half ≡ sampleFrom (at + m * w)
-        go m l true p =
-            let r : m ≡ i = eqb-true m i p in
-            rw (r, getD-set-same a i x 0 (omega (arith, f .long)), sym (f .place)) q
-        go m l false p =
-            let n : (m ≡ i → ⊥) = eqb-false m i p in
-            rw (getD-set-other a i m x 0 n) (f .are m (omega (arith, n)))
+        v : ℤ
+        v = sampleValue (kindBy sign) (endianBy big) (take w s)
 
-  -- the numbers from j on are those of the samples from `at` on
-  pub record Rest (a : List ℕ) (at j : ℕ) : Type 0 where
-    pub most : j ≤ 64
-    pub are : (m : ℕ) → j ≤ m → m < 64 → subℕ (getD a m 0) half ≡ sampleFrom (at + (m - j) * w)
+        rest : Decoded
+        rest = rawSamples (kindBy sign) w (endianBy big) n (drop w s)
 
-  pub rest-all : {a : List ℕ} {at from i : ℕ} → Lifted a at from i → 64 ≤ i → Rest a at 0
-  rest-all f h = record {
-    most = lit≤ tt;
-    are = λ m z l.
-        let q : m - 0 ≡ m = omega arith in
-        rw q (f .are m (omega arith));
-  }
+        x : ℕ
+        x = bitsAt big w s 0
 
-  module _ {a : List ℕ} {at j : ℕ} (f : Rest a at j) (h : j < 64) where
-    pub rest-first : subℕ (getD a j 0) half ≡ sampleFrom at
-    rest-first =
-        let p : j - j ≡ 0 = omega arith in
-        let q : at + (j - j) * w ≡ at = omega (arith, ap (λ (n : ℕ). n * w) p, zero-mul w) in
-        rw q at (f .are j (omega arith) h)
+        r : 0 + w ≤ length s
+        r = omega (arith, suc-mul n w)
 
-    pub rest-more : Rest a (at + w) (j + 1)
-    rest-more = record {
-      most = omega arith;
-      are = λ m g l.
-          let p : m - j ≡ suc (m - (j + 1)) = omega arith in
-          let q : at + (m - j) * w ≡ at + w + (m - (j + 1)) * w = omega (arith, ap (λ (n : ℕ). n * w) p, suc-mul (m - (j + 1)) w) in
-          rw q at (f .are m (omega arith) l);
-    }
+        first : low p q ((x + up) % range w) ≡ v
+        first = f .back x (narrow-below w x d l (bits-below s 0 w r (endianBy big) b)) ∙ sym (sample-is s 0 w r (kindBy sign) (endianBy big))
+
+        go : (t : Bool) → (if t then withSample v rest else stopped 20) .number ≡ 0 → (rest .number ≡ 0 → lows p q (lifts big w up n (drop w s)) ≡ rest .seen)
+            → low p q ((x + up) % range w) ∷ lows p q (lifts big w up n (drop w s)) ≡ (if t then withSample v rest else stopped 20) .seen
+        go true y g = rw (first, g y)
+        go false y g = absurd (omega arith)
+
+-- ---- the loops of a block of n numbers
+
+-- number i goes to its place, and is read at `from`
+module _ (big : Bool) (w up n : ℕ) (s : List ℕ) (at : ℕ) (a₀ : List ℕ) where
+  abbrev pub numbers : List ℕ
+  numbers = lifts big w up n (drop at s)
+
+  pub record Lifting (a : List ℕ) (from i : ℕ) : Type 0 where
+    pub run : Run in-list numbers a₀ 0 a i i
+    pub place : from ≡ at + i * w
+
+  pub lifting-none : Lifting a₀ at 0
+  lifting-none = record { run = run-none in-list numbers a₀ 0 0 refl; place = omega arith }
+
+  module _ {a : List ℕ} {from i : ℕ} (l : Lifting a from i) where
+    pub lifting-room : i < n → at + n * w ≤ length s → from + w ≤ length s
+    lifting-room h r = omega (arith, l .place, suc-mul i w, mul-le-mul-right w h)
+
+    pub lifting-more : i < n → (y : ℕ) → y ≡ (bitsAt big w s from + up) % range w → Lifting (set a i y) (from + w) (i + 1)
+    lifting-more h y q =
+        let e : getD numbers i y ≡ (bitsAt big w s from + up) % range w = lifts-at big w up n (drop at s) i y h ∙ rw (drop-drop (i * w) at s, sym (l .place)) in
+        record {
+          run = run-more in-list numbers a₀ 0 (l .run) y (omega (arith, length-lifts big w up n (drop at s))) (q ∙ sym e) (set a i y) refl (i + 1) refl;
+          place = omega (arith, l .place, suc-mul i w);
+        }
+
+    pub lifting-done : n ≤ i → length a₀ ≡ n → a ≡ numbers
+    lifting-done h r =
+        let e : length numbers ≡ n = length-lifts big w up n (drop at s) in
+        run-done in-list numbers a₀ 0 (l .run) (omega (arith, e))
+        ∙ sets-over numbers a₀ (omega (arith, e, r))
+        ∙ rw (drop-of-length-le a₀ {i = length numbers} (omega (arith, e, r)), append-nil)
+
+lows-at : (p q : ℕ) (a : List ℕ) (j : ℕ) (z : ℤ) → j < length a → getD (lows p q a) j z ≡ low p q (getD a j 0)
+lows-at p q [] j z h = absurd (omega arith)
+lows-at p q (y ∷ a) zero z h = refl
+lows-at p q (y ∷ a) (suc j) z h = lows-at p q a j z (omega arith)
+
+-- the samples of the numbers a go to the places from k on
+module _ {A : Type 0} (f : Storing ℤ A) (p q n : ℕ) (a : List ℕ) (r : length a ≡ n) (d₀ : List A) (k : ℕ) where
+  abbrev pub Lowering : List A → ℕ → ℕ → Type 0
+  Lowering d o j = Run f (lows p q a) d₀ k d o j
+
+  module _ {d : List A} {o j : ℕ} (l : Lowering d o j) where
+    pub lowering-more : j < n → (z : ℤ) → z ≡ low p q (getD a j 0) → (x d′ : List A) → x ≡ f .store (z ∷ []) → d′ ≡ sets d o x → (o′ : ℕ) → o′ ≡ o + f .place 1 → Lowering d′ o′ (j + 1)
+    lowering-more h z e x d′ g i o′ y =
+        run-more f (lows p q a) d₀ k l z (omega (arith, r, length-map a (low p q))) (e ∙ sym (lows-at p q a j z (omega (arith, r)))) d′ (i ∙ ap (sets d o) g) o′ y
+
+    pub lowering-done : n ≤ j → d ≡ sets d₀ k (f .store (lows p q a))
+    lowering-done h = run-done f (lows p q a) d₀ k l (omega (arith, r, length-map a (low p q)))
+
+-- ---- n samples by blocks of 64
+
+module _ {A : Type 0} (f : Storing ℤ A) (s : List ℕ) (n w : ℕ) (big : Bool) (up p q : ℕ) (d₀ : List A) (last : ℕ) where
+  abbrev all : List ℤ
+  all = lows p q (lifts big w up n s)
+
+  abbrev pub Narrow : List A → ℕ → Type 0
+  Narrow d k = Blocks f (lows p q (lifts big w up n s)) d₀ last 64 d k
+
+  long : length all ≡ n
+  long = length-map (lifts big w up n s) (low p q) ∙ length-lifts big w up n s
+
+  pub narrow-none : n ≡ last + 64 → f .place n ≤ length d₀ → Narrow d₀ 0
+  narrow-none e r = blocks-none f all d₀ last 64 (long ∙ e) (rw e at r)
+
+  module _ {d : List A} {k : ℕ} (b : Narrow d k) where
+    pub narrow-long : length d ≡ length d₀
+    narrow-long = blocks-long f all d₀ last 64 b
+
+    -- a block is within the samples
+    pub narrow-within : k + 64 ≤ n
+    narrow-within = omega (arith, b .size, b .most, long)
+
+    pub narrow-room : n * w ≤ length s → (k + 64) * w ≤ length s
+    narrow-room h = omega (arith, mul-le-mul-right w narrow-within)
+
+    module _ {d′ : List A} (e : d′ ≡ sets d (f .place k) (f .store (lows p q (lifts big w up 64 (drop (k * w) s))))) where
+      block : d′ ≡ sets d (f .place k) (f .store (take 64 (drop k all)))
+      block = e ∙ ap (λ (l : List ℤ). sets d (f .place k) (f .store l)) (block-part big w up p q k 64 n s narrow-within)
+
+      pub narrow-more : (k′ : ℕ) → k′ ≡ min (k + 64) last → Narrow d′ k′
+      narrow-more = blocks-more f all d₀ last 64 b block
+
+      pub narrow-done : (sign : Bool) → Width w → w ≤ 2 → Shifts w sign up p q → ((i : ℕ) → getD s i 0 < 256) → n * w ≤ length s → k ≡ last
+          → rawSamples (kindBy sign) w (endianBy big) n s .number ≡ 0 → d′ ≡ over (f .store (rawSamples (kindBy sign) w (endianBy big) n s .seen)) d₀
+      narrow-done sign x l g i h y z = blocks-done f all d₀ last 64 b block y ∙ ap (λ (u : List ℤ). over (f .store u) d₀) (lowered-samples big w up p q sign x l g n s i h z)

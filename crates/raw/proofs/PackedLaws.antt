@@ -2,7 +2,7 @@
 -- Assumes nothing.
 use Prim.Native.Nat.{ℕ, _+_, _*_, _/_, _≤_, _<_}
 use native.Mathlib.Omega.{arith}
-use mathlib.Core.Path.{_≡_}
+use mathlib.Core.Path.{_≡_, sym, _∙_}
 use mathlib.Core.Bool.{true}
 use mathlib.Core.List.{List}
 use lib.IntN.{ℤ}
@@ -10,10 +10,13 @@ use lib.ListN.{length, take, drop, getD}
 use lib.Seq.{sets}
 use Rattle.format.specs.Descriptors.{NumberKind, little}
 use Rattle.format.specs.Samples.{rawSamples, sampleValue, valueBytes, inType}
-use Rattle.format.specs.Boundary.{samplesLent}
+use Rattle.format.specs.Bytes.{over}
+use Rattle.format.specs.Boundary.{samplesLent, wordsOfSamples}
+use Rattle.format.proofs.Samples.{all-bytes}
+use Rattle.words.proofs.Groups.{samples-over}
 use Rattle.words.proofs.PackedLaws.{Packed, room-lent, packed-none, packed-more, packed-done}
 use Rattle.words.specs.Packed.{samplesOver}
-use Rattle.raw.proofs.RawLaws.{Filling, filling-none, filling-room, filling-more, filling-done}
+use Rattle.raw.proofs.RawLaws.{Filling, filling-none, filling-room, filling-more, filling-done, raw-few}
 
 -- ---- raw samples: j of n are stored, from place `at` on they follow
 
@@ -35,3 +38,7 @@ module _ (k : NumberKind) (w e n : ℕ) (s d₀ : List ℕ) where
 
     pub raw-done : n ≤ j → n ≤ length d₀ / 8 → rawSamples k w e n s .number ≡ 0 → d ≡ samplesOver (rawSamples k w e n s .seen) d₀
     raw-done h l z = packed-done d₀ p (filling-done k w e n s (samplesLent d₀) (p .held) h (room-lent d₀ n l) z)
+
+  -- the bytes of the samples stand in front
+  pub raw-words : {d : List ℕ} → ((i : ℕ) → getD d₀ i 0 < 256) → n ≤ length d₀ / 8 → d ≡ over (wordsOfSamples (rawSamples k w e n s .seen)) d₀ → d ≡ samplesOver (rawSamples k w e n s .seen) d₀
+  raw-words f l q = q ∙ sym (samples-over d₀ (all-bytes d₀ f) (rawSamples k w e n s .seen) (omega (arith, raw-few k w e n s)))

@@ -66,7 +66,7 @@ module _ (s : List ℕ) (at w : ℕ) (h : at + w ≤ length s) where
       let p : AllBytes (take w (drop at s)) = bytes-take w (drop at s) (bytes-drop at s (all-bytes s f)) in
       ap (λ (l : List ℕ). fromBytes (reverse l)) (rw (length-part s at w h) at (to-from-bytes (take w (drop at s)) p))
 
-  bits-below : (e : ℕ) → ((i : ℕ) → getD s i 0 < 256) → fromBytes (ordered e (take w (drop at s))) < 256 ^ w
+  pub bits-below : (e : ℕ) → ((i : ℕ) → getD s i 0 < 256) → fromBytes (ordered e (take w (drop at s))) < 256 ^ w
   bits-below e f =
       let l = take w (drop at s) in
       let p : AllBytes l = bytes-take w (drop at s) (bytes-drop at s (all-bytes s f)) in
@@ -178,7 +178,7 @@ at-most-one false e = omega (arith, e)
 -- ---- the samples of a list
 
 -- there are at most n samples
-raw-few : (k : NumberKind) (w e n : ℕ) (s : List ℕ) → length (rawSamples k w e n s .seen) ≤ n
+pub raw-few : (k : NumberKind) (w e n : ℕ) (s : List ℕ) → length (rawSamples k w e n s .seen) ≤ n
 unfolding rawSamples
 raw-few k w e zero s = lit≤ tt
 raw-few k w e (suc n) s = go (raw-few k w e n (drop w s)) (inType k w (sampleValue k e (take w s)))

@@ -1,12 +1,13 @@
 -- Numbers between bytes and samples, for the contracts of the functions below the public ones.
-use Prim.Native.Nat.{ℕ, _*_, _-_}
+use Prim.Native.Nat.{ℕ, zero, suc, _+_, _*_, _-_, _%_, _≤_, _<_}
+use mathlib.Core.Path.{_≡_}
 use mathlib.Core.Bool.{Bool}
-use mathlib.Core.List.{List, reverse}
+use mathlib.Core.List.{List, [], _∷_, map, reverse}
 use lib.Dec.{ltb, eqb}
-use lib.IntN.{ℤ, pos, negsuc}
+use lib.IntN.{ℤ, pos, negsuc, subℕ}
 use lib.ListN.{take, drop}
 use Rattle.format.specs.Bytes.{if_then_else_}
-use Rattle.format.specs.Samples.{fromBytes, toBytes, ordered, sampleValue}
+use Rattle.format.specs.Samples.{fromBytes, toBytes, ordered, sampleValue, valueOfBits}
 pub use Rattle.words.specs.Bits.{Bits}
 use Rattle.words.specs.Widths.{kindBy, endianBy}
 
@@ -26,9 +27,24 @@ sampleAt signed big w s at = sampleValue (kindBy signed) (endianBy big) (take w 
 abbrev pub folded : ℕ → ℕ → ℤ
 folded half n = if ltb n half then pos n else negsuc (2 * half - 1 - n)
 
--- the range of a type of 1 or 2 bytes, and half of it for a signed one
+-- the range of a type of 1 or 2 bytes
 abbrev pub range : ℕ → ℕ
 range w = if eqb w 2 then 65536 else 256
 
-abbrev pub halfOf : ℕ → Bool → ℕ
-halfOf w signed = if signed then (if eqb w 2 then 32768 else 128) else 0
+-- the numbers of n samples of 1 or 2 bytes, up added to each, modulo the range
+unfoldable pub lifts : Bool → ℕ → ℕ → ℕ → List ℕ → List ℕ
+lifts big w up zero s = []
+lifts big w up (suc n) s = (bitsAt big w s 0 + up) % range w ∷ lifts big w up n (drop w s)
+
+-- a number of 16 bits, p added, modulo 65536, and q taken off
+abbrev pub low : ℕ → ℕ → ℕ → ℤ
+low p q y = subℕ ((y + p) % 65536) q
+
+abbrev pub lows : ℕ → ℕ → List ℕ → List ℤ
+lows p q ys = map (low p q) ys
+
+-- of every number x of the type, lifted by up and lowered by p and q, the sample is what x means
+pub record Shifts (w : ℕ) (sign : Bool) (up p q : ℕ) : Type 0 where
+  pub within : up < range w
+  pub small : q ≤ 32768
+  pub back : (x : ℕ) → x < range w → low p q ((x + up) % range w) ≡ valueOfBits (kindBy sign) w x

@@ -1,11 +1,10 @@
 // The number that is at a place in raw data, and the sample that it is.
 ghost use mathlib.Core.Path.{_≡_};
 ghost use mathlib.Core.Bool.{true};
-ghost use Prim.Native.Nat.{_+_, _*_, _^_, _%_, _≤_, _<_};
-ghost use lib.IntN.{subℕ};
+ghost use Prim.Native.Nat.{_+_, _*_, _^_, _%_, _≤_, _<_, min};
 ghost use lib.ListN.{length, take, drop};
 ghost use Rattle.format.specs.Samples.{fromBytes, inType, valueOfBits, toSigned};
-ghost use Rattle.raw.specs.Bits.{Bits, turned, bitsAt, sampleAt, folded, halfOf, range};
+ghost use Rattle.raw.specs.Bits.{Bits, turned, bitsAt, sampleAt, folded, range, lifts, low};
 ghost use Rattle.words.specs.Widths.{Width, kindBy};
 
 fn wide(b: u8) -> u64
@@ -129,44 +128,49 @@ pub(crate) fn sample_at(s: &[u8], at: usize, w: usize, signed: bool, big: bool) 
     value(x, w, signed)
 }
 
-// Half the range of a signed type of 1 or 2 bytes, and 0 for an unsigned one: what is added to a number before it is taken to 16 bits, and taken off after.
-pub(crate) fn half_of(w: usize, signed: bool) -> u64
-    ensures { λ r. ⌜ r ≡ halfOf w signed ⌝ }
-{
-    if signed {
-        if w == 2 { 32768 } else { 128 }
-    } else {
-        0
-    }
-}
+// Samples of 1 or 2 bytes go by way of 64 numbers of 16 bits in a local array: the compiler then unpacks eight of them at once. `up` is added before, modulo the range
+// of the type, and with `p` added and `q` taken off the number is the sample. Where nothing is added to little-endian numbers of 16 bits on either way, the compiler sees through
+// the array and takes two samples at once; so uint16 goes with a bias, 32768 up and 32768 more.
 
-// The number at a place, half the range added, modulo the range.
-fn lifted(x: u64, w: usize, half: u64) -> u16
-    requires { ⌜ (x < range w) × (half < range w) ⌝ }
-    ensures { λ r. ⌜ r ≡ (x + half) % range w ⌝ }
+// A number, up added, modulo the range.
+fn lifted(x: u64, w: usize, up: u64) -> u16
+    requires { ⌜ (x < range w) × (up < range w) ⌝ }
+    ensures { λ r. ⌜ r ≡ (x + up) % range w ⌝ }
 {
     if w == 2 {
-        std::num::wrapping_add_u16(x as u16, half as u16)
+        std::num::wrapping_add_u16(x as u16, up as u16)
     } else {
-        std::num::wrapping_add_u8(x as u8, half as u8) as u16
+        std::num::wrapping_add_u8(x as u8, up as u8) as u16
     }
 }
 
-// The number at a place, lifted: with half taken off again it is the sample.
-pub(crate) fn lifted_at(s: &[u8], at: usize, w: usize, signed: bool, half: u64, big: bool) -> u16
+// The 64 numbers from a place on, lifted.
+pub(crate) fn lift(s: &[u8], at: usize, w: usize, up: u64, big: bool, a: &mut [u16])
     requires { ⌜ Width w ⌝ }
-    requires { ⌜ (w ≤ 2) × (half ≡ halfOf w signed) ⌝ }
-    requires { ⌜ at + w ≤ length (now s) ⌝ }
-    ensures { λ r. ⌜ subℕ r half ≡ sampleAt signed big w (now (s .entry)) at ⌝ }
+    requires { ⌜ (w ≤ 2) × (up < range w) ⌝ }
+    requires { ⌜ at + 64 * w ≤ length (now s) ⌝ }
+    requires { ⌜ length (now a) ≡ 64 ⌝ }
+    ensures { λ _. ⌜ now (a .exit) ≡ lifts big w up 64 (drop at (now (s .entry))) ⌝ }
 {
-    let y = word(s, at, w, big);
-    lifted(y, w, half)
+    let mut from = at;
+    let mut i: usize = 0;
+    while i < 64 {
+        a[i] = lifted(word(s, from, w, big), w, up);
+        from += w;
+        i += 1;
+    }
 }
 
-// A lifted number with what was added taken off.
-pub(crate) fn lowered(x: u16, half: u64) -> i64
-    requires { ⌜ half ≤ 32768 ⌝ }
-    ensures { λ r. ⌜ r ≡ subℕ x half ⌝ }
+// The sample of a lifted number.
+pub(crate) fn lowered(y: u16, p: u16, q: u64) -> i64
+    requires { ⌜ q ≤ 32768 ⌝ }
+    ensures { λ r. ⌜ r ≡ low p q y ⌝ }
 {
-    (x as i64) - (half as i64)
+    (std::num::wrapping_add_u16(y, p) as i64) - (q as i64)
+}
+
+pub(crate) fn least(a: usize, b: usize) -> usize
+    ensures { λ r. ⌜ r ≡ min a b ⌝ }
+{
+    if a < b { a } else { b }
 }

@@ -3,12 +3,13 @@
 use lib.Dec.{lit≤}
 use mathlib.Core.Path.{refl}
 use mathlib.Core.Logic.{inl, inr}
+use Rattle.raw.proofs.NarrowLaws.{int16, uint16}
 use borrow.Author.Needs.{needs}
 use Rattle.raw.proofs.packed.put_big_shorts.Statement.{statement}
 use Rattle.raw.proofs.packed.put_big_shorts.Tie as tie
 
 put-narrow-requires : tie.Need-put-narrow-requires
-put-narrow-requires c κs = (inr (inl refl), (lit≤ tt, c .before .before .before .before .pre))
+put-narrow-requires c κs = (inr (inl refl), (lit≤ tt, (int16, c .before .before .before .before .pre)))
 
 same-length : tie.Need-same-length
 same-length c = search needs
@@ -17,7 +18,7 @@ returns : tie.Need-returns
 returns c = rw (c .before .before .before .before .if1 .taken) (c .before .before .put-narrow .ensures)
 
 put-narrow-requires-2 : tie.Need-put-narrow-requires-2
-put-narrow-requires-2 c κs = (inr (inl refl), (lit≤ tt, c .before .before .before .before .pre))
+put-narrow-requires-2 c κs = (inr (inl refl), (lit≤ tt, (uint16, c .before .before .before .before .pre)))
 
 same-length-2 : tie.Need-same-length-2
 same-length-2 c = search needs
