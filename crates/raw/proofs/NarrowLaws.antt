@@ -1,7 +1,7 @@
 -- Laws of samples of 1 or 2 bytes, which go by way of numbers of 16 bits.
 -- Assumes nothing.
 use Prim.Native.Nat.{ℕ, zero, suc, _+_, _*_, _-_, _^_, _%_, _≤_, _<_, min}
-use native.Mathlib.Nat.{suc-mul, mul-le-mul-right, mod-lt, mod-eq-of-lt}
+use native.Mathlib.Nat.{add-mul, suc-mul, mul-le-mul-right, mod-lt, mod-eq-of-lt}
 use native.Mathlib.Omega.{arith}
 use mathlib.Core.Path.{_≡_, refl, sym, ap, _∙_}
 use mathlib.Core.Bool.{Bool, true, false}
@@ -247,16 +247,16 @@ module _ {A : Type 0} (f : Storing ℤ A) (s : List ℕ) (n w : ℕ) (big : Bool
     pub narrow-within : k + 64 ≤ n
     narrow-within = omega (arith, b .size, b .most, long)
 
-    pub narrow-room : n * w ≤ length s → (k + 64) * w ≤ length s
-    narrow-room h = omega (arith, mul-le-mul-right w narrow-within)
+    pub narrow-room : n * w ≤ length s → k * w + 64 * w ≤ length s
+    narrow-room h = omega (arith, mul-le-mul-right w narrow-within, add-mul k 64 w)
 
-    module _ {d′ : List A} (e : d′ ≡ sets d (f .place k) (f .store (lows p q (lifts big w up 64 (drop (k * w) s))))) where
+    module _ {a : List ℕ} {d′ : List A} (g : a ≡ lifts big w up 64 (drop (k * w) s)) (e : d′ ≡ sets d (f .place k) (f .store (lows p q a))) where
       block : d′ ≡ sets d (f .place k) (f .store (take 64 (drop k all)))
-      block = e ∙ ap (λ (l : List ℤ). sets d (f .place k) (f .store l)) (block-part big w up p q k 64 n s narrow-within)
+      block = e ∙ ap (λ (l : List ℤ). sets d (f .place k) (f .store l)) (ap (lows p q) g ∙ block-part big w up p q k 64 n s narrow-within)
 
       pub narrow-more : (k′ : ℕ) → k′ ≡ min (k + 64) last → Narrow d′ k′
       narrow-more = blocks-more f all d₀ last 64 b block
 
       pub narrow-done : (sign : Bool) → Width w → w ≤ 2 → Shifts w sign up p q → ((i : ℕ) → getD s i 0 < 256) → n * w ≤ length s → k ≡ last
           → rawSamples (kindBy sign) w (endianBy big) n s .number ≡ 0 → d′ ≡ over (f .store (rawSamples (kindBy sign) w (endianBy big) n s .seen)) d₀
-      narrow-done sign x l g i h y z = blocks-done f all d₀ last 64 b block y ∙ ap (λ (u : List ℤ). over (f .store u) d₀) (lowered-samples big w up p q sign x l g n s i h z)
+      narrow-done sign x l v i h y z = blocks-done f all d₀ last 64 b block y ∙ ap (λ (u : List ℤ). over (f .store u) d₀) (lowered-samples big w up p q sign x l v n s i h z)

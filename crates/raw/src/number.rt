@@ -145,13 +145,13 @@ fn lifted(x: u64, w: usize, up: u64) -> u16
 }
 
 // The 64 numbers from a place on, lifted.
-pub(crate) fn lift(s: &[u8], at: usize, w: usize, up: u64, big: bool, a: &mut [u16])
+pub(crate) fn lift(s: &[u8], at: usize, w: usize, up: u64, big: bool) -> [u16; 64]
     requires { ⌜ Width w ⌝ }
     requires { ⌜ (w ≤ 2) × (up < range w) ⌝ }
     requires { ⌜ at + 64 * w ≤ length (now s) ⌝ }
-    requires { ⌜ length (now a) ≡ 64 ⌝ }
-    ensures { λ _. ⌜ now (a .exit) ≡ lifts big w up 64 (drop at (now (s .entry))) ⌝ }
+    ensures { λ r. ⌜ r ≡ lifts big w up 64 (drop at (now (s .entry))) ⌝ }
 {
+    let mut a = [0u16; 64];
     let mut from = at;
     let mut i: usize = 0;
     while i < 64 {
@@ -159,6 +159,7 @@ pub(crate) fn lift(s: &[u8], at: usize, w: usize, up: u64, big: bool, a: &mut [u
         from += w;
         i += 1;
     }
+    a
 }
 
 // The sample of a lifted number.

@@ -1,12 +1,12 @@
 // Raw samples into lent bytes, 8 for each, the low byte first.
 ghost use mathlib.Core.Path.{_≡_};
 ghost use mathlib.Core.Bool.{true, false};
-ghost use Prim.Native.Nat.{_+_, _*_, _/_, _≤_, _<_};
-ghost use lib.ListN.{length, drop};
+ghost use Prim.Native.Nat.{_+_, _*_, _/_, _≤_};
+ghost use lib.ListN.{length};
 ghost use lib.Seq.{sets};
 ghost use Rattle.format.specs.Boundary.{wordsOfSamples};
 ghost use Rattle.format.specs.Samples.{rawSamples};
-ghost use Rattle.raw.specs.Bits.{Shifts, lifts, lows, range};
+ghost use Rattle.raw.specs.Bits.{Shifts, lows};
 ghost use Rattle.words.specs.Packed.{samplesOver};
 ghost use Rattle.words.specs.Widths.{Width, kindBy, endianBy};
 use crate::number;
@@ -51,30 +51,16 @@ fn put_pairs(s: &[u8], n: usize, w: usize, signed: bool, big: bool, dst: &mut [u
 }
 
 // The samples of 64 lifted numbers, from place k on.
-fn put_lifted(a: &[u16], p: u16, q: u64, dst: &mut [u8], k: usize)
-    requires { ⌜ length (now a) ≡ 64 ⌝ }
+fn put_lifted(a: [u16; 64], p: u16, q: u64, dst: &mut [u8], k: usize)
     requires { ⌜ q ≤ 32768 ⌝ }
     requires { ⌜ k + 64 ≤ length (now dst) / 8 ⌝ }
-    ensures { λ _. ⌜ now (dst .exit) ≡ sets (now (dst .entry)) (8 * k) (wordsOfSamples (lows p q (now (a .entry)))) ⌝ }
+    ensures { λ _. ⌜ now (dst .exit) ≡ sets (now (dst .entry)) (8 * k) (wordsOfSamples (lows p q a)) ⌝ }
 {
     let mut j: usize = 0;
     while j < 64 {
         words::put_sample(dst, k + j, number::lowered(a[j], p, q));
         j += 1;
     }
-}
-
-// The samples k to k + 63, lifted and lowered.
-fn put_block(s: &[u8], k: usize, w: usize, big: bool, up: u64, p: u16, q: u64, dst: &mut [u8])
-    requires { ⌜ Width w ⌝ }
-    requires { ⌜ (w ≤ 2) × (up < range w) × (q ≤ 32768) ⌝ }
-    requires { ⌜ (k + 64) * w ≤ length (now s) ⌝ }
-    requires { ⌜ k + 64 ≤ length (now dst) / 8 ⌝ }
-    ensures { λ _. ⌜ now (dst .exit) ≡ sets (now (dst .entry)) (8 * k) (wordsOfSamples (lows p q (lifts big w up 64 (drop (k * w) (now (s .entry)))))) ⌝ }
-{
-    let mut a = [0u16; 64];
-    number::lift(s, k * w, w, up, big, &mut a);
-    put_lifted(&a, p, q, dst, k);
 }
 
 // Samples of 1 or 2 bytes, by blocks of 64. The last block ends with the last sample, and may store again what the one before it stored: so none is left over.
@@ -102,7 +88,7 @@ fn put_narrow(
     let last = n - 64;
     let mut k: usize = 0;
     loop {
-        put_block(s, k, w, big, up, p, q, dst);
+        put_lifted(number::lift(s, k * w, w, up, big), p, q, dst, k);
         if k == last {
             return;
         }

@@ -14,31 +14,31 @@ use Rattle.raw.proofs.list.put_lifted.Statement.{statement}
 use Rattle.raw.proofs.list.put_lifted.Tie as tie
 
 abbrev Inv-loop : tie.InvT-loop
-Inv-loop a p q dst₀ k j₀ dst j = Run in-list (lows p q a) dst₀ k dst (k + j) j
+Inv-loop p q dst₀ k a j₀ dst j = Run in-list (lows p q a) dst₀ k dst (k + j) j
 
 abbrev μ-loop : tie.MeasureT-loop
-μ-loop a p q dst₀ k j₀ dst j = 64 - j
+μ-loop p q dst₀ k a j₀ dst j = 64 - j
 
 loop-holds : tie.Need-loop-holds Inv-loop μ-loop
-loop-holds c = let a = c .before .args in run-none in-list (lows (a .p) (a .q) (now (a .a))) (now (a .dst)) (a .k) (a .k + 0) (omega arith)
+loop-holds c = let a = c .args in run-none in-list (lows (a .p) (a .q) (a .t1)) (now (a .dst)) (a .k) (a .k + 0) (omega arith)
 
 mul-lowered : tie.Need-mul-lowered Inv-loop μ-loop
 mul-lowered c = search needs
 
-shared-slice-read-lowered : tie.Need-shared-slice-read-lowered Inv-loop μ-loop
-shared-slice-read-lowered c = search needs
+array-read-lowered : tie.Need-array-read-lowered Inv-loop μ-loop
+array-read-lowered c = search needs
 
 lowered-requires : tie.Need-lowered-requires Inv-loop μ-loop
 lowered-requires c κs = search needs
 
-add-t12 : tie.Need-add-t12 Inv-loop μ-loop
-add-t12 c = search needs
+add-t14 : tie.Need-add-t14 Inv-loop μ-loop
+add-t14 c = search needs
 
-mul-t13 : tie.Need-mul-t13 Inv-loop μ-loop
-mul-t13 c = search needs
+mul-t15 : tie.Need-mul-t15 Inv-loop μ-loop
+mul-t15 c = search needs
 
 slice-set-from-dst : tie.Need-slice-set-from-dst Inv-loop μ-loop
-slice-set-from-dst c = omega (arith, c .before .before .before .loop .inv .long)
+slice-set-from-dst c = omega (arith, c .before .before .loop .inv .long)
 
 add-j : tie.Need-add-j Inv-loop μ-loop
 add-j c = search needs
@@ -48,10 +48,10 @@ loop-less c = search needs
 
 loop-again : tie.Need-loop-again Inv-loop μ-loop
 loop-again c =
-    let l = c .before .before .before in
-    let f = l .before .before in
+    let l = c .before .before in
+    let f = l .before in
     let a = f .args in
-    lowering-more in-list (a .p) (a .q) 64 (now (a .a)) (f .pre .0) (now (a .dst)) (a .k) (l .loop .inv) (c .before .before .loop-test .taken) _ (toZ-ofZ (sfits-of (c .lowered .ok)) ∙ c .lowered .ensures) _ _ refl refl _ (omega arith)
+    lowering-more in-list (a .p) (a .q) 64 (a .t1) (f .good .0 .1 .0 .1) (now (a .dst)) (a .k) (l .loop .inv) (c .before .loop-test .taken) _ (toZ-ofZ (sfits-of (c .lowered .ok)) ∙ c .lowered .ensures) _ _ refl refl _ (omega arith)
 
 same-length : tie.Need-same-length Inv-loop μ-loop
 same-length c = c .before .loop .inv .long
@@ -59,9 +59,9 @@ same-length c = c .before .loop .inv .long
 returns : tie.Need-returns Inv-loop μ-loop
 returns c =
     let l = c .before in
-    let f = l .before .before in
+    let f = l .before in
     let a = f .args in
-    lowering-done in-list (a .p) (a .q) 64 (now (a .a)) (f .pre .0) (now (a .dst)) (a .k) (l .loop .inv) (c .loop-test .left)
+    lowering-done in-list (a .p) (a .q) 64 (a .t1) (f .good .0 .1 .0 .1) (now (a .dst)) (a .k) (l .loop .inv) (c .loop-test .left)
 
 pub put-lifted-spec : {M : Type 1} → statement M
 put-lifted-spec =
@@ -71,10 +71,10 @@ put-lifted-spec =
     μ-loop
     loop-holds
     mul-lowered
-    shared-slice-read-lowered
+    array-read-lowered
     lowered-requires
-    add-t12
-    mul-t13
+    add-t14
+    mul-t15
     slice-set-from-dst
     add-j
     loop-less

@@ -3,7 +3,7 @@
 use Prim.Native.Nat.{_-_}
 use native.Mathlib.Omega.{arith}
 use denote.Ref.{now}
-use mathlib.Core.Path.{ap, _∙_}
+use mathlib.Core.Path.{refl, ap, _∙_}
 use Prim.Native.Nat.{ℕ, _+_, _%_}
 use Rattle.raw.specs.Bits.{range}
 use Rattle.raw.proofs.NarrowLaws.{narrow-below, Lifting, lifting-none, lifting-room, lifting-more, lifting-done}
@@ -18,32 +18,32 @@ abbrev μ-loop : tie.MeasureT-loop
 μ-loop s at w up big a₀ from₀ i₀ a from i = 64 - i
 
 loop-holds : tie.Need-loop-holds Inv-loop μ-loop
-loop-holds c = let a = c .before .before .args in lifting-none (a .big) (a .w) (a .up) 64 (now (a .s)) (a .at) (now (a .a))
+loop-holds c = let a = c .before .args in lifting-none (a .big) (a .w) (a .up) 64 (now (a .s)) (a .at) _
 
 word-requires : tie.Need-word-requires Inv-loop μ-loop
 word-requires c κs =
     let l = c .before in
-    let f = l .before .before .before in
+    let f = l .before .before in
     let a = f .args in
-    (f .pre .0, lifting-room (a .big) (a .w) (a .up) 64 (now (a .s)) (a .at) (now (a .a)) (l .loop .inv) (c .loop-test .taken) (f .pre .1 .1 .0))
+    (f .pre .0, lifting-room (a .big) (a .w) (a .up) 64 (now (a .s)) (a .at) _ (l .loop .inv) (c .loop-test .taken) (f .pre .1 .1))
 
 lifted-requires : tie.Need-lifted-requires Inv-loop μ-loop
 lifted-requires c κs =
-    let f = c .before .before .before .before .before in
+    let f = c .before .before .before .before in
     (narrow-below (f .args .w) _ (f .pre .0) (f .pre .1 .0 .0) (c .word .ensures .less), f .pre .1 .0 .1)
 
 mul-a : tie.Need-mul-a Inv-loop μ-loop
 mul-a c = search needs
 
-slice-write-a : tie.Need-slice-write-a Inv-loop μ-loop
-slice-write-a c = omega (arith, c .before .before .before .loop .inv .run .long)
+array-write-a : tie.Need-array-write-a Inv-loop μ-loop
+array-write-a c = omega (arith, c .before .before .before .loop .inv .run .long)
 
 add-from : tie.Need-add-from Inv-loop μ-loop
 add-from c =
     let l = c .before .before .before in
-    let f = l .before .before .before in
+    let f = l .before .before in
     let a = f .args in
-    omega (arith, lifting-room (a .big) (a .w) (a .up) 64 (now (a .s)) (a .at) (now (a .a)) (l .loop .inv) (c .before .before .loop-test .taken) (f .pre .1 .1 .0))
+    omega (arith, lifting-room (a .big) (a .w) (a .up) 64 (now (a .s)) (a .at) _ (l .loop .inv) (c .before .before .loop-test .taken) (f .pre .1 .1))
 
 add-i : tie.Need-add-i Inv-loop μ-loop
 add-i c = search needs
@@ -54,18 +54,14 @@ loop-less c = search needs
 loop-again : tie.Need-loop-again Inv-loop μ-loop
 loop-again c =
     let l = c .before .before .before in
-    let a = l .before .before .before .args in
-    lifting-more (a .big) (a .w) (a .up) 64 (now (a .s)) (a .at) (now (a .a)) (l .loop .inv) (c .before .before .loop-test .taken) _ (c .lifted .ensures ∙ ap (λ (n : ℕ). (n + a .up) % range (a .w)) (c .before .word .ensures .is))
-
-same-length : tie.Need-same-length Inv-loop μ-loop
-same-length c = c .before .loop .inv .run .long
+    let a = l .before .before .args in
+    lifting-more (a .big) (a .w) (a .up) 64 (now (a .s)) (a .at) _ (l .loop .inv) (c .before .before .loop-test .taken) _ (c .lifted .ensures ∙ ap (λ (n : ℕ). (n + a .up) % range (a .w)) (c .before .word .ensures .is))
 
 returns : tie.Need-returns Inv-loop μ-loop
 returns c =
     let l = c .before in
-    let f = l .before .before .before in
-    let a = f .args in
-    lifting-done (a .big) (a .w) (a .up) 64 (now (a .s)) (a .at) (now (a .a)) (l .loop .inv) (c .loop-test .left) (f .pre .1 .1 .1)
+    let a = l .before .before .args in
+    lifting-done (a .big) (a .w) (a .up) 64 (now (a .s)) (a .at) _ (l .loop .inv) (c .loop-test .left) refl
 
 pub lift-spec : {M : Type 1} → statement M
 lift-spec =
@@ -77,10 +73,9 @@ lift-spec =
     word-requires
     lifted-requires
     mul-a
-    slice-write-a
+    array-write-a
     add-from
     add-i
     loop-less
     loop-again
-    same-length
     returns)

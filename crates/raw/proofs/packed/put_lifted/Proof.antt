@@ -14,13 +14,13 @@ use Rattle.raw.proofs.packed.put_lifted.Statement.{statement}
 use Rattle.raw.proofs.packed.put_lifted.Tie as tie
 
 abbrev Inv-loop : tie.InvT-loop
-Inv-loop a p q dst₀ k j₀ dst j = Run in-bytes (lows p q a) dst₀ (8 * k) dst (8 * (k + j)) j
+Inv-loop p q dst₀ k a j₀ dst j = Run in-bytes (lows p q a) dst₀ (8 * k) dst (8 * (k + j)) j
 
 abbrev μ-loop : tie.MeasureT-loop
-μ-loop a p q dst₀ k j₀ dst j = 64 - j
+μ-loop p q dst₀ k a j₀ dst j = 64 - j
 
 loop-holds : tie.Need-loop-holds Inv-loop μ-loop
-loop-holds c = let a = c .before .before .args in run-none in-bytes (lows (a .p) (a .q) (now (a .a))) (now (a .dst)) (8 * a .k) (8 * (a .k + 0)) (omega arith)
+loop-holds c = let a = c .before .args in run-none in-bytes (lows (a .p) (a .q) (a .t1)) (now (a .dst)) (8 * a .k) (8 * (a .k + 0)) (omega arith)
 
 add-put-sample : tie.Need-add-put-sample Inv-loop μ-loop
 add-put-sample c = search needs
@@ -28,14 +28,14 @@ add-put-sample c = search needs
 mul-lowered : tie.Need-mul-lowered Inv-loop μ-loop
 mul-lowered c = search needs
 
-shared-slice-read-lowered : tie.Need-shared-slice-read-lowered Inv-loop μ-loop
-shared-slice-read-lowered c = search needs
+array-read-lowered : tie.Need-array-read-lowered Inv-loop μ-loop
+array-read-lowered c = search needs
 
 lowered-requires : tie.Need-lowered-requires Inv-loop μ-loop
 lowered-requires c κs = search needs
 
 put-sample-requires : tie.Need-put-sample-requires Inv-loop μ-loop
-put-sample-requires c κs = omega (arith, c .before .before .before .before .loop .inv .long)
+put-sample-requires c κs = omega (arith, c .before .before .before .loop .inv .long)
 
 add-j : tie.Need-add-j Inv-loop μ-loop
 add-j c = search needs
@@ -47,11 +47,11 @@ loop-again : tie.Need-loop-again Inv-loop μ-loop
 loop-again c =
     let put = c .before .before in
     let one = put .before in
-    let t = one .before .before .before in
+    let t = one .before .before in
     let l = t .before in
-    let f = l .before .before .before in
+    let f = l .before .before in
     let a = f .args in
-    lowering-more in-bytes (a .p) (a .q) 64 (now (a .a)) (f .pre .0) (now (a .dst)) (8 * a .k) (l .loop .inv) (t .loop-test .taken) _ (toZ-ofZ (sfits-of (one .lowered .ok)) ∙ one .lowered .ensures) _ _ (sym (words-one _)) (put .put-sample .ensures) _ (omega arith)
+    lowering-more in-bytes (a .p) (a .q) 64 (a .t1) (f .good .0 .1 .0 .1) (now (a .dst)) (8 * a .k) (l .loop .inv) (t .loop-test .taken) _ (toZ-ofZ (sfits-of (one .lowered .ok)) ∙ one .lowered .ensures) _ _ (sym (words-one _)) (put .put-sample .ensures) _ (omega arith)
 
 same-length : tie.Need-same-length Inv-loop μ-loop
 same-length c = c .before .loop .inv .long
@@ -59,9 +59,9 @@ same-length c = c .before .loop .inv .long
 returns : tie.Need-returns Inv-loop μ-loop
 returns c =
     let l = c .before in
-    let f = l .before .before .before in
+    let f = l .before .before in
     let a = f .args in
-    lowering-done in-bytes (a .p) (a .q) 64 (now (a .a)) (f .pre .0) (now (a .dst)) (8 * a .k) (l .loop .inv) (c .loop-test .left)
+    lowering-done in-bytes (a .p) (a .q) 64 (a .t1) (f .good .0 .1 .0 .1) (now (a .dst)) (8 * a .k) (l .loop .inv) (c .loop-test .left)
 
 pub put-lifted-spec : {M : Type 1} → statement M
 put-lifted-spec =
@@ -72,7 +72,7 @@ put-lifted-spec =
     loop-holds
     add-put-sample
     mul-lowered
-    shared-slice-read-lowered
+    array-read-lowered
     lowered-requires
     put-sample-requires
     add-j

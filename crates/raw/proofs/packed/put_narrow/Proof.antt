@@ -32,42 +32,54 @@ loop-holds c =
     let a = c .before .before .before .args in
     narrow-none in-bytes (now (a .s)) (a .n) (a .w) (a .big) (a .up) (a .p) (a .q) (now (a .dst)) _ (omega arith) (omega arith)
 
-put-block-requires : tie.Need-put-block-requires Inv-loop μ-loop
-put-block-requires c κs =
-    let l = c .before in
-    let f = c .before .before .before .before .before in
+mul-lift : tie.Need-mul-lift Inv-loop μ-loop
+mul-lift c =
+    let f = c .before .before .before .before in
     let a = f .args in
-    let h = narrow-within in-bytes (now (a .s)) (a .n) (a .w) (a .big) (a .up) (a .p) (a .q) (now (a .dst)) _ (l .loop .inv) in
-    let m = narrow-long in-bytes (now (a .s)) (a .n) (a .w) (a .big) (a .up) (a .p) (a .q) (now (a .dst)) _ (l .loop .inv) in
-    (f .pre .0, ((f .pre .1 .0, f .pre .1 .1 .0 .within, f .pre .1 .1 .0 .small), (narrow-room in-bytes (now (a .s)) (a .n) (a .w) (a .big) (a .up) (a .p) (a .q) (now (a .dst)) _ (l .loop .inv) (f .pre .1 .1 .1 .0), omega (arith, h, m))))
+    omega (arith, narrow-room in-bytes (now (a .s)) (a .n) (a .w) (a .big) (a .up) (a .p) (a .q) (now (a .dst)) _ (c .loop .inv) (f .pre .1 .1 .1 .0))
+
+lift-requires : tie.Need-lift-requires Inv-loop μ-loop
+lift-requires c κs =
+    let f = c .before .before .before .before in
+    let a = f .args in
+    (f .pre .0, ((f .pre .1 .0, f .pre .1 .1 .0 .within), narrow-room in-bytes (now (a .s)) (a .n) (a .w) (a .big) (a .up) (a .p) (a .q) (now (a .dst)) _ (c .loop .inv) (f .pre .1 .1 .1 .0)))
+
+put-lifted-requires : tie.Need-put-lifted-requires Inv-loop μ-loop
+put-lifted-requires c κs =
+    let l = c .before .before in
+    let f = c .before .before .before .before .before .before in
+    let a = f .args in
+    (f .pre .1 .1 .0 .small, omega (arith, narrow-within in-bytes (now (a .s)) (a .n) (a .w) (a .big) (a .up) (a .p) (a .q) (now (a .dst)) _ (l .loop .inv), narrow-long in-bytes (now (a .s)) (a .n) (a .w) (a .big) (a .up) (a .p) (a .q) (now (a .dst)) _ (l .loop .inv)))
 
 same-length-2 : tie.Need-same-length-2 Inv-loop μ-loop
 same-length-2 c =
-    let l = c .before .before .before .before .before in
-    let a = c .before .before .before .before .before .before .before .before .before .args in
+    let l = c .before .before .before .before .before .before in
+    let a = c .before .before .before .before .before .before .before .before .before .before .args in
     omega (arith, narrow-long in-bytes (now (a .s)) (a .n) (a .w) (a .big) (a .up) (a .p) (a .q) (now (a .dst)) _ (l .loop .inv))
 
 returns-2 : tie.Need-returns-2 Inv-loop μ-loop
 returns-2 c =
-    let l = c .before .before .before .before .before in
-    let f = c .before .before .before .before .before .before .before .before .before in
+    let l = c .before .before .before .before .before .before in
+    let f = c .before .before .before .before .before .before .before .before .before .before in
     let a = f .args in
-    λ z. raw-words (kindBy (a .signed)) (a .w) (endianBy (a .big)) (a .n) (now (a .s)) (now (a .dst)) (λ i. c .before .before .before .before .before .before .before .slice-known .given i .fits) (f .pre .1 .1 .1 .1) (narrow-done in-bytes (now (a .s)) (a .n) (a .w) (a .big) (a .up) (a .p) (a .q) (now (a .dst)) _ (l .loop .inv) (c .before .before .before .put-block .ensures) (a .signed) (f .pre .0) (f .pre .1 .0) (f .pre .1 .1 .0) (λ i. c .before .before .before .before .before .before .before .before .shared-slice-known .given i .fits) (f .pre .1 .1 .1 .0) (c .if2 .taken) z)
+    λ z.
+    raw-words (kindBy (a .signed)) (a .w) (endianBy (a .big)) (a .n) (now (a .s)) (now (a .dst)) (λ i. c .before .before .before .before .before .before .before .before .slice-known .given i .fits) (f .pre .1 .1 .1 .1)
+    (narrow-done in-bytes (now (a .s)) (a .n) (a .w) (a .big) (a .up) (a .p) (a .q) (now (a .dst)) _ (l .loop .inv) (c .before .before .before .before .before .lift .ensures) (c .before .before .before .put-lifted .ensures) (a .signed) (f .pre .0) (f .pre .1 .0) (f .pre .1 .1 .0) (λ i. c .before .before .before .before .before .before .before .before .before .shared-slice-known .given i .fits) (f .pre .1 .1 .1 .0) (c .if2 .taken) z)
 
 add-least : tie.Need-add-least Inv-loop μ-loop
-add-least c = omega (arith, c .before .before .before .before .before .loop .inv .most)
+add-least c = omega (arith, c .before .before .before .before .before .before .loop .inv .most)
 
 least-requires : tie.Need-least-requires Inv-loop μ-loop
 least-requires c κs = search needs
 
 loop-less : tie.Need-loop-less Inv-loop μ-loop
-loop-less c = omega (arith, c .before .before .before .before .before .before .loop .inv .most, c .least .ensures, c .before .if2 .left)
+loop-less c = omega (arith, c .before .before .before .before .before .before .before .loop .inv .most, c .least .ensures, c .before .if2 .left)
 
 loop-again : tie.Need-loop-again Inv-loop μ-loop
 loop-again c =
-    let l = c .before .before .before .before .before .before in
-    let a = c .before .before .before .before .before .before .before .before .before .before .args in
-    narrow-more in-bytes (now (a .s)) (a .n) (a .w) (a .big) (a .up) (a .p) (a .q) (now (a .dst)) _ (l .loop .inv) (c .before .before .before .before .put-block .ensures) _ (c .least .ensures)
+    let l = c .before .before .before .before .before .before .before in
+    let a = c .before .before .before .before .before .before .before .before .before .before .before .args in
+    narrow-more in-bytes (now (a .s)) (a .n) (a .w) (a .big) (a .up) (a .p) (a .q) (now (a .dst)) _ (l .loop .inv) (c .before .before .before .before .before .before .lift .ensures) (c .before .before .before .before .put-lifted .ensures) _ (c .least .ensures)
 
 pub put-narrow-spec : {M : Type 1} → statement M
 put-narrow-spec =
@@ -79,7 +91,9 @@ put-narrow-spec =
     same-length
     returns
     loop-holds
-    put-block-requires
+    mul-lift
+    lift-requires
+    put-lifted-requires
     same-length-2
     returns-2
     add-least
