@@ -1,26 +1,26 @@
 -- Laws of samples of 1 or 2 bytes, which go by way of numbers of 16 bits.
 -- Assumes nothing.
 use Prim.Native.Nat.{ℕ, zero, suc, _+_, _*_, _-_, _^_, _%_, _≤_, _<_, min}
-use native.Mathlib.Nat.{add-mul, suc-mul, mul-le-mul-right, mod-lt, mod-eq-of-lt}
+use native.Mathlib.Nat.{add-mul, suc-mul, mul-le-mul-right}
 use native.Mathlib.Omega.{arith}
 use mathlib.Core.Path.{_≡_, refl, sym, ap, _∙_}
 use mathlib.Core.Bool.{Bool, true, false}
 use mathlib.Core.List.{List, [], _∷_, append-nil}
-use lib.Dec.{ltb, lit≤, lit<}
+use lib.Dec.{ltb, lit<}
 use lib.IntN.{ℤ, pos, subℕ, _-ℤ_}
 use lib.ListN.{length, take, drop, getD, set, length-drop, length-map, drop-of-length-le}
 use lib.Seq.{drop-drop, getD-drop, sets}
-use borrow.Author.Tests.{eq-eqb, ne-eqb, le-ltb}
+use borrow.Author.Tests.{eq-eqb, ne-eqb}
 use mir.Syntax.{w64}
 use mir.Val.{SFits, toZ, ofZ}
 use mir.Facts.{toZ-pos, toZ-ofZ}
 use Rattle.format.specs.Bytes.{if_then_else_, over}
-use Rattle.format.specs.Samples.{Decoded, rawSamples, sampleValue, inType, fromBytes, ordered, withSample, stopped}
+use Rattle.format.specs.Samples.{Decoded, rawSamples, sampleValue, inType, withSample, stopped}
 use Rattle.words.proofs.WidthLaws.{by-width}
 use Rattle.words.specs.Widths.{Width, kindBy, endianBy}
 use Rattle.raw.specs.Bits.{bitsAt, range, lifts, low, lows, Shifts}
 use Rattle.raw.proofs.BlockLaws.{Storing, in-list, Run, run-none, run-more, run-done, Blocks, blocks-none, blocks-long, blocks-more, blocks-done}
-use Rattle.raw.proofs.RawLaws.{shifted, sample-is, bits-below, sets-over}
+use Rattle.raw.proofs.RawLaws.{minus, shifted, sample-is, bits-below, sets-over}
 
 -- the range by the width
 pub range-2 : (w : ℕ) → w ≡ 2 → range w ≡ 65536
@@ -39,59 +39,24 @@ width-2 w d n1 n8 n4 = by-width w d (λ e. absurd (n1 e)) (λ e. e) (λ e. absur
 
 -- ---- the shifts of the types
 
-pos-low : (n : ℕ) → subℕ n 0 ≡ pos n
-pos-low n =
-    let o : n - 0 ≡ n = omega arith in
-    rw (le-ltb n 0 (omega arith), o)
+pub int8 : Shifts 1 true 128
+int8 = record { within = lit< tt; back = λ x h. shifted x 128 h }
 
--- what is not lifted stays as it is
-plain : (x r : ℕ) → x < r → r ≤ 65536 → low 0 0 ((x + 0) % r) ≡ pos x
-plain x r h l =
-    let e : (x + 0) % r ≡ x = ap (λ (n : ℕ). n % r) (omega arith) ∙ mod-eq-of-lt h in
-    let m : ((x + 0) % r + 0) % 65536 ≡ x = ap (λ (n : ℕ). (n + 0) % 65536) e ∙ omega arith in
-    ap (λ (n : ℕ). subℕ n 0) m ∙ pos-low x
+pub int16 : Shifts 2 true 32768
+int16 = record { within = lit< tt; back = λ x h. shifted x 32768 h }
 
--- half the range added, and taken off
-half : (x h : ℕ) → x < 2 * h → 2 * h ≤ 65536 → low 0 h ((x + h) % (2 * h)) ≡ subℕ ((x + h) % (2 * h)) h
-half x h b l =
-    let m : (x + h) % (2 * h) < 2 * h = mod-lt (x + h) (omega arith) in
-    ap (λ (n : ℕ). subℕ n h) (ap (λ (n : ℕ). n % 65536) (omega arith) ∙ mod-eq-of-lt (omega arith))
+pub uint8 : Shifts 1 false 0
+uint8 = record { within = lit< tt; back = λ x h. ap pos (omega arith) }
 
-pub int8 : Shifts 1 true 128 0 128
-int8 = record { within = lit< tt; small = lit≤ tt; back = λ x h. half x 128 h (lit≤ tt) ∙ shifted x 128 h }
+pub uint16 : Shifts 2 false 0
+uint16 = record { within = lit< tt; back = λ x h. ap pos (omega arith) }
 
-pub uint8 : Shifts 1 false 0 0 0
-uint8 = record { within = lit< tt; small = lit≤ tt; back = λ x h. plain x 256 h (lit≤ tt) }
+pub uint16-biased : Shifts 2 false 32768
+uint16-biased = record { within = lit< tt; back = λ x h. ap pos (omega arith) }
 
-pub int16 : Shifts 2 true 32768 0 32768
-int16 = record { within = lit< tt; small = lit≤ tt; back = λ x h. half x 32768 h (lit≤ tt) ∙ shifted x 32768 h }
+-- ---- the difference of two numbers of 16 bits
 
-pub uint16 : Shifts 2 false 0 0 0
-uint16 = record { within = lit< tt; small = lit≤ tt; back = λ x h. plain x 65536 h (lit≤ tt) }
-
--- 32768 added twice
-pub uint16-biased : Shifts 2 false 32768 32768 0
-uint16-biased = record {
-  within = lit< tt;
-  small = lit≤ tt;
-  back = λ x h.
-      let e : ((x + 32768) % 65536 + 32768) % 65536 ≡ x = omega arith in
-      ap (λ (n : ℕ). subℕ n 0) e ∙ pos-low x;
-}
-
--- ---- the difference of a number of 16 bits and q
-
-module _ (x q : ℕ) (b : x < 65536) (l : q ≤ 32768) where
-  minus : pos x -ℤ pos q ≡ subℕ x q
-  minus = go q
-    where
-      go : (q : ℕ) → pos x -ℤ pos q ≡ subℕ x q
-      go zero =
-          let o : x - 0 ≡ x = omega arith in
-          let p : x + 0 ≡ x = omega arith in
-          rw (le-ltb x 0 (omega arith), o, p)
-      go (suc q) = refl
-
+module _ (x q : ℕ) (b : x < 65536) (l : q < 65536) where
   sub-fits : SFits w64 (subℕ x q)
   sub-fits = go (ltb x q) refl
     where
@@ -100,7 +65,7 @@ module _ (x q : ℕ) (b : x < 65536) (l : q ≤ 32768) where
       go false e = rw e (record { sfits = omega arith })
 
   lowered-value : toZ w64 x -ℤ toZ w64 q ≡ subℕ x q
-  lowered-value = rw (toZ-pos w64 {n = x} (omega arith), toZ-pos w64 {n = q} (omega arith)) minus
+  lowered-value = rw (toZ-pos w64 {n = x} (omega arith), toZ-pos w64 {n = q} (omega arith)) (minus x q)
 
   pub lowered-fits : SFits w64 (toZ w64 x -ℤ toZ w64 q)
   lowered-fits = rw lowered-value sub-fits
@@ -127,15 +92,15 @@ module _ (big : Bool) (w up : ℕ) where
       let q : w + i * w ≡ suc i * w = omega (arith, suc-mul i w) in
       lifts-at n (drop w s) i z (omega arith) ∙ rw (drop-drop (i * w) w s, q)
 
-  module _ (p q : ℕ) where
-    first-part : (m n : ℕ) (s : List ℕ) → m ≤ n → take m (lows p q (lifts big w up n s)) ≡ lows p q (lifts big w up m s)
+  module _ (sign : Bool) where
+    first-part : (m n : ℕ) (s : List ℕ) → m ≤ n → take m (lows sign up (lifts big w up n s)) ≡ lows sign up (lifts big w up m s)
     unfolding lifts
     first-part zero n s h = refl
     first-part (suc m) zero s h = absurd (omega arith)
-    first-part (suc m) (suc n) s h = ap (λ (l : List ℤ). low p q ((bitsAt big w s 0 + up) % range w) ∷ l) (first-part m n (drop w s) (omega arith))
+    first-part (suc m) (suc n) s h = ap (λ (l : List ℤ). low sign up ((bitsAt big w s 0 + up) % range w) ∷ l) (first-part m n (drop w s) (omega arith))
 
     -- those of m samples from k on
-    pub block-part : (k m n : ℕ) (s : List ℕ) → k + m ≤ n → lows p q (lifts big w up m (drop (k * w) s)) ≡ take m (drop k (lows p q (lifts big w up n s)))
+    pub block-part : (k m n : ℕ) (s : List ℕ) → k + m ≤ n → lows sign up (lifts big w up m (drop (k * w) s)) ≡ take m (drop k (lows sign up (lifts big w up n s)))
     unfolding lifts
     block-part zero m n s h =
         let e : 0 * w ≡ 0 = omega arith in
@@ -143,15 +108,15 @@ module _ (big : Bool) (w up : ℕ) where
     block-part (suc k) m zero s h = absurd (omega arith)
     block-part (suc k) m (suc n) s h =
         let e : w + k * w ≡ suc k * w = omega (arith, suc-mul k w) in
-        ap (λ (l : List ℕ). lows p q (lifts big w up m l)) (ap (λ (i : ℕ). drop i s) (sym e) ∙ sym (drop-drop (k * w) w s)) ∙ block-part k m n (drop w s) (omega arith)
+        ap (λ (l : List ℕ). lows sign up (lifts big w up m l)) (ap (λ (i : ℕ). drop i s) (sym e) ∙ sym (drop-drop (k * w) w s)) ∙ block-part k m n (drop w s) (omega arith)
 
     -- lowered they are the samples
-    pub lowered-samples : (sign : Bool) → Width w → w ≤ 2 → Shifts w sign up p q → (n : ℕ) (s : List ℕ) → ((i : ℕ) → getD s i 0 < 256) → n * w ≤ length s
-        → rawSamples (kindBy sign) w (endianBy big) n s .number ≡ 0 → lows p q (lifts big w up n s) ≡ rawSamples (kindBy sign) w (endianBy big) n s .seen
+    pub lowered-samples : Width w → w ≤ 2 → Shifts w sign up → (n : ℕ) (s : List ℕ) → ((i : ℕ) → getD s i 0 < 256) → n * w ≤ length s
+        → rawSamples (kindBy sign) w (endianBy big) n s .number ≡ 0 → lows sign up (lifts big w up n s) ≡ rawSamples (kindBy sign) w (endianBy big) n s .seen
     unfolding lifts rawSamples
-    lowered-samples sign d l f zero s b h z = refl
-    lowered-samples sign d l f (suc n) s b h z =
-        go (inType (kindBy sign) w v) z (λ y. lowered-samples sign d l f n (drop w s) (λ i. rw (getD-drop w s i 0) (b (w + i))) (omega (arith, suc-mul n w, length-drop w s)) y)
+    lowered-samples d l f zero s b h z = refl
+    lowered-samples d l f (suc n) s b h z =
+        go (inType (kindBy sign) w v) z (λ y. lowered-samples d l f n (drop w s) (λ i. rw (getD-drop w s i 0) (b (w + i))) (omega (arith, suc-mul n w, length-drop w s)) y)
       where
         v : ℤ
         v = sampleValue (kindBy sign) (endianBy big) (take w s)
@@ -165,11 +130,11 @@ module _ (big : Bool) (w up : ℕ) where
         r : 0 + w ≤ length s
         r = omega (arith, suc-mul n w)
 
-        first : low p q ((x + up) % range w) ≡ v
+        first : low sign up ((x + up) % range w) ≡ v
         first = f .back x (narrow-below w x d l (bits-below s 0 w r (endianBy big) b)) ∙ sym (sample-is s 0 w r (kindBy sign) (endianBy big))
 
-        go : (t : Bool) → (if t then withSample v rest else stopped 20) .number ≡ 0 → (rest .number ≡ 0 → lows p q (lifts big w up n (drop w s)) ≡ rest .seen)
-            → low p q ((x + up) % range w) ∷ lows p q (lifts big w up n (drop w s)) ≡ (if t then withSample v rest else stopped 20) .seen
+        go : (t : Bool) → (if t then withSample v rest else stopped 20) .number ≡ 0 → (rest .number ≡ 0 → lows sign up (lifts big w up n (drop w s)) ≡ rest .seen)
+            → low sign up ((x + up) % range w) ∷ lows sign up (lifts big w up n (drop w s)) ≡ (if t then withSample v rest else stopped 20) .seen
         go true y g = rw (first, g y)
         go false y g = absurd (omega arith)
 
@@ -206,35 +171,35 @@ module _ (big : Bool) (w up n : ℕ) (s : List ℕ) (at : ℕ) (a₀ : List ℕ)
         ∙ sets-over numbers a₀ (omega (arith, e, r))
         ∙ rw (drop-of-length-le a₀ {i = length numbers} (omega (arith, e, r)), append-nil)
 
-lows-at : (p q : ℕ) (a : List ℕ) (j : ℕ) (z : ℤ) → j < length a → getD (lows p q a) j z ≡ low p q (getD a j 0)
-lows-at p q [] j z h = absurd (omega arith)
-lows-at p q (y ∷ a) zero z h = refl
-lows-at p q (y ∷ a) (suc j) z h = lows-at p q a j z (omega arith)
+lows-at : (sign : Bool) (up : ℕ) (a : List ℕ) (j : ℕ) (z : ℤ) → j < length a → getD (lows sign up a) j z ≡ low sign up (getD a j 0)
+lows-at sign up [] j z h = absurd (omega arith)
+lows-at sign up (y ∷ a) zero z h = refl
+lows-at sign up (y ∷ a) (suc j) z h = lows-at sign up a j z (omega arith)
 
 -- the samples of the numbers a go to the places from k on
-module _ {A : Type 0} (f : Storing ℤ A) (p q n : ℕ) (a : List ℕ) (r : length a ≡ n) (d₀ : List A) (k : ℕ) where
+module _ {A : Type 0} (f : Storing ℤ A) (sign : Bool) (up n : ℕ) (a : List ℕ) (r : length a ≡ n) (d₀ : List A) (k : ℕ) where
   abbrev pub Lowering : List A → ℕ → ℕ → Type 0
-  Lowering d o j = Run f (lows p q a) d₀ k d o j
+  Lowering d o j = Run f (lows sign up a) d₀ k d o j
 
   module _ {d : List A} {o j : ℕ} (l : Lowering d o j) where
-    pub lowering-more : j < n → (z : ℤ) → z ≡ low p q (getD a j 0) → (x d′ : List A) → x ≡ f .store (z ∷ []) → d′ ≡ sets d o x → (o′ : ℕ) → o′ ≡ o + f .place 1 → Lowering d′ o′ (j + 1)
+    pub lowering-more : j < n → (z : ℤ) → z ≡ low sign up (getD a j 0) → (x d′ : List A) → x ≡ f .store (z ∷ []) → d′ ≡ sets d o x → (o′ : ℕ) → o′ ≡ o + f .place 1 → Lowering d′ o′ (j + 1)
     lowering-more h z e x d′ g i o′ y =
-        run-more f (lows p q a) d₀ k l z (omega (arith, r, length-map a (low p q))) (e ∙ sym (lows-at p q a j z (omega (arith, r)))) d′ (i ∙ ap (sets d o) g) o′ y
+        run-more f (lows sign up a) d₀ k l z (omega (arith, r, length-map a (low sign up))) (e ∙ sym (lows-at sign up a j z (omega (arith, r)))) d′ (i ∙ ap (sets d o) g) o′ y
 
-    pub lowering-done : n ≤ j → d ≡ sets d₀ k (f .store (lows p q a))
-    lowering-done h = run-done f (lows p q a) d₀ k l (omega (arith, r, length-map a (low p q)))
+    pub lowering-done : n ≤ j → d ≡ sets d₀ k (f .store (lows sign up a))
+    lowering-done h = run-done f (lows sign up a) d₀ k l (omega (arith, r, length-map a (low sign up)))
 
 -- ---- n samples by blocks of 64
 
-module _ {A : Type 0} (f : Storing ℤ A) (s : List ℕ) (n w : ℕ) (big : Bool) (up p q : ℕ) (d₀ : List A) (last : ℕ) where
+module _ {A : Type 0} (f : Storing ℤ A) (s : List ℕ) (n w : ℕ) (sign big : Bool) (up : ℕ) (d₀ : List A) (last : ℕ) where
   abbrev all : List ℤ
-  all = lows p q (lifts big w up n s)
+  all = lows sign up (lifts big w up n s)
 
   abbrev pub Narrow : List A → ℕ → Type 0
-  Narrow d k = Blocks f (lows p q (lifts big w up n s)) d₀ last 64 d k
+  Narrow d k = Blocks f (lows sign up (lifts big w up n s)) d₀ last 64 d k
 
   long : length all ≡ n
-  long = length-map (lifts big w up n s) (low p q) ∙ length-lifts big w up n s
+  long = length-map (lifts big w up n s) (low sign up) ∙ length-lifts big w up n s
 
   pub narrow-none : n ≡ last + 64 → f .place n ≤ length d₀ → Narrow d₀ 0
   narrow-none e r = blocks-none f all d₀ last 64 (long ∙ e) (rw e at r)
@@ -250,13 +215,13 @@ module _ {A : Type 0} (f : Storing ℤ A) (s : List ℕ) (n w : ℕ) (big : Bool
     pub narrow-room : n * w ≤ length s → k * w + 64 * w ≤ length s
     narrow-room h = omega (arith, mul-le-mul-right w narrow-within, add-mul k 64 w)
 
-    module _ {a : List ℕ} {d′ : List A} (g : a ≡ lifts big w up 64 (drop (k * w) s)) (e : d′ ≡ sets d (f .place k) (f .store (lows p q a))) where
+    module _ {a : List ℕ} {d′ : List A} (g : a ≡ lifts big w up 64 (drop (k * w) s)) (e : d′ ≡ sets d (f .place k) (f .store (lows sign up a))) where
       block : d′ ≡ sets d (f .place k) (f .store (take 64 (drop k all)))
-      block = e ∙ ap (λ (l : List ℤ). sets d (f .place k) (f .store l)) (ap (lows p q) g ∙ block-part big w up p q k 64 n s narrow-within)
+      block = e ∙ ap (λ (l : List ℤ). sets d (f .place k) (f .store l)) (ap (lows sign up) g ∙ block-part big w up sign k 64 n s narrow-within)
 
       pub narrow-more : (k′ : ℕ) → k′ ≡ min (k + 64) last → Narrow d′ k′
       narrow-more = blocks-more f all d₀ last 64 b block
 
-      pub narrow-done : (sign : Bool) → Width w → w ≤ 2 → Shifts w sign up p q → ((i : ℕ) → getD s i 0 < 256) → n * w ≤ length s → k ≡ last
+      pub narrow-done : Width w → w ≤ 2 → Shifts w sign up → ((i : ℕ) → getD s i 0 < 256) → n * w ≤ length s → k ≡ last
           → rawSamples (kindBy sign) w (endianBy big) n s .number ≡ 0 → d′ ≡ over (f .store (rawSamples (kindBy sign) w (endianBy big) n s .seen)) d₀
-      narrow-done sign x l v i h y z = blocks-done f all d₀ last 64 b block y ∙ ap (λ (u : List ℤ). over (f .store u) d₀) (lowered-samples big w up p q sign x l v n s i h z)
+      narrow-done x l v i h y z = blocks-done f all d₀ last 64 b block y ∙ ap (λ (u : List ℤ). over (f .store u) d₀) (lowered-samples big w up sign x l v n s i h z)

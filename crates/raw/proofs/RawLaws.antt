@@ -105,15 +105,18 @@ module _ (x h : ℕ) (b : x < 2 * h) where
       go true e = rw e (record { sfits = omega (arith, ltb-true x h e) })
       go false e = rw e (record { sfits = omega (arith, ltb-false x h e) })
 
-minus : (m h : ℕ) → 0 < h → pos m -ℤ pos h ≡ subℕ m h
-minus m zero l = absurd (omega arith)
-minus m (suc h) l = refl
+pub minus : (m h : ℕ) → pos m -ℤ pos h ≡ subℕ m h
+minus m zero =
+    let o : m - 0 ≡ m = omega arith in
+    let p : m + 0 ≡ m = omega arith in
+    rw (le-ltb m 0 (omega arith), o, p)
+minus m (suc h) = refl
 
 module _ (x h : ℕ) (b : x < 2 * h) (l : h ≤ 2147483648) where
   fold-value : toZ w64 ((x + h) % (2 * h)) -ℤ toZ w64 h ≡ folded h x
   fold-value =
       let m : (x + h) % (2 * h) < 2 * h = mod-lt (x + h) (omega arith) in
-      rw (toZ-pos w64 {n = (x + h) % (2 * h)} (omega arith), toZ-pos w64 {n = h} (omega arith)) (minus _ h (omega arith) ∙ shifted x h b)
+      rw (toZ-pos w64 {n = (x + h) % (2 * h)} (omega arith), toZ-pos w64 {n = h} (omega arith)) (minus _ h ∙ shifted x h b)
 
   pub fold-fits : SFits w64 (toZ w64 ((x + h) % (2 * h)) -ℤ toZ w64 h)
   fold-fits = rw fold-value (folded-fits x h b l)

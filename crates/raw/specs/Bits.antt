@@ -1,7 +1,7 @@
 -- Numbers between bytes and samples, for the contracts of the functions below the public ones.
-use Prim.Native.Nat.{ℕ, zero, suc, _+_, _*_, _-_, _%_, _≤_, _<_}
+use Prim.Native.Nat.{ℕ, zero, suc, _+_, _*_, _-_, _%_, _<_}
 use mathlib.Core.Path.{_≡_}
-use mathlib.Core.Bool.{Bool}
+use mathlib.Core.Bool.{Bool, true, false}
 use mathlib.Core.List.{List, [], _∷_, map, reverse}
 use lib.Dec.{ltb, eqb}
 use lib.IntN.{ℤ, pos, negsuc, subℕ}
@@ -36,15 +36,15 @@ unfoldable pub lifts : Bool → ℕ → ℕ → ℕ → List ℕ → List ℕ
 lifts big w up zero s = []
 lifts big w up (suc n) s = (bitsAt big w s 0 + up) % range w ∷ lifts big w up n (drop w s)
 
--- a number of 16 bits, p added, modulo 65536, and q taken off
-abbrev pub low : ℕ → ℕ → ℕ → ℤ
-low p q y = subℕ ((y + p) % 65536) q
+-- such a number lowered: of a signed type up is taken off, of an unsigned one it is added again, modulo 65536
+abbrev pub low : Bool → ℕ → ℕ → ℤ
+low true up y = subℕ y up
+low false up y = pos ((y + up) % 65536)
 
-abbrev pub lows : ℕ → ℕ → List ℕ → List ℤ
-lows p q ys = map (low p q) ys
+abbrev pub lows : Bool → ℕ → List ℕ → List ℤ
+lows sign up ys = map (low sign up) ys
 
--- of every number x of the type, lifted by up and lowered by p and q, the sample is what x means
-pub record Shifts (w : ℕ) (sign : Bool) (up p q : ℕ) : Type 0 where
+-- of every number x of the type, lifted and lowered by up, the sample is what x means
+pub record Shifts (w : ℕ) (sign : Bool) (up : ℕ) : Type 0 where
   pub within : up < range w
-  pub small : q ≤ 32768
-  pub back : (x : ℕ) → x < range w → low p q ((x + up) % range w) ≡ valueOfBits (kindBy sign) w x
+  pub back : (x : ℕ) → x < range w → low sign up ((x + up) % range w) ≡ valueOfBits (kindBy sign) w x

@@ -128,24 +128,24 @@ pub(crate) fn sample_at(s: &[u8], at: usize, w: usize, signed: bool, big: bool) 
     value(x, w, signed)
 }
 
-// Samples of 1 or 2 bytes go by way of 64 numbers of 16 bits in a local array: the compiler then unpacks eight of them at once. `up` is added before, modulo the range
-// of the type, and with `p` added and `q` taken off the number is the sample. Where nothing is added to little-endian numbers of 16 bits on either way, the compiler sees through
-// the array and takes two samples at once; so uint16 goes with a bias, 32768 up and 32768 more.
+// Samples of 1 or 2 bytes go by way of 64 numbers of 16 bits: the compiler then unpacks eight of them at once. Each is lifted, `up` added modulo the range of its type, and
+// then lowered: of a signed type `up` is taken off, of an unsigned one it is added again, modulo 65536. Little-endian uint16 needs no `up`, but without one the compiler sees
+// through the copy and takes two samples at once.
 
 // A number, up added, modulo the range.
-fn lifted(x: u64, w: usize, up: u64) -> u16
+fn lifted(x: u64, w: usize, up: u16) -> u16
     requires { ⌜ (x < range w) × (up < range w) ⌝ }
     ensures { λ r. ⌜ r ≡ (x + up) % range w ⌝ }
 {
     if w == 2 {
-        std::num::wrapping_add_u16(x as u16, up as u16)
+        std::num::wrapping_add_u16(x as u16, up)
     } else {
         std::num::wrapping_add_u8(x as u8, up as u8) as u16
     }
 }
 
 // The 64 numbers from a place on, lifted.
-pub(crate) fn lift(s: &[u8], at: usize, w: usize, up: u64, big: bool) -> [u16; 64]
+pub(crate) fn lift(s: &[u8], at: usize, w: usize, up: u16, big: bool) -> [u16; 64]
     requires { ⌜ Width w ⌝ }
     requires { ⌜ (w ≤ 2) × (up < range w) ⌝ }
     requires { ⌜ at + 64 * w ≤ length (now s) ⌝ }
@@ -163,11 +163,14 @@ pub(crate) fn lift(s: &[u8], at: usize, w: usize, up: u64, big: bool) -> [u16; 6
 }
 
 // The sample of a lifted number.
-pub(crate) fn lowered(y: u16, p: u16, q: u64) -> i64
-    requires { ⌜ q ≤ 32768 ⌝ }
-    ensures { λ r. ⌜ r ≡ low p q y ⌝ }
+pub(crate) fn lowered(y: u16, signed: bool, up: u16) -> i64
+    ensures { λ r. ⌜ r ≡ low signed up y ⌝ }
 {
-    (std::num::wrapping_add_u16(y, p) as i64) - (q as i64)
+    if signed {
+        (y as i64) - (up as i64)
+    } else {
+        std::num::wrapping_add_u16(y, up) as i64
+    }
 }
 
 pub(crate) fn least(a: usize, b: usize) -> usize

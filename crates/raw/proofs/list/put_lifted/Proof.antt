@@ -1,9 +1,9 @@
 -- `list::put_lifted` meets its contract: the samples before j are stored.
 -- Assumes nothing.
-use Prim.Native.Nat.{_+_, _*_, _-_}
+use Prim.Native.Nat.{_+_, _-_}
 use native.Mathlib.Omega.{arith}
 use denote.Ref.{now}
-use mathlib.Core.Path.{refl, sym, _∙_}
+use mathlib.Core.Path.{refl, _∙_}
 use borrow.Author.Needs.{sfits-of}
 use mir.Facts.{toZ-ofZ}
 use Rattle.raw.specs.Bits.{lows}
@@ -14,13 +14,13 @@ use Rattle.raw.proofs.list.put_lifted.Statement.{statement}
 use Rattle.raw.proofs.list.put_lifted.Tie as tie
 
 abbrev Inv-loop : tie.InvT-loop
-Inv-loop p q dst₀ k a j₀ dst j = Run in-list (lows p q a) dst₀ k dst (k + j) j
+Inv-loop signed up dst₀ k a j₀ dst j = Run in-list (lows signed up a) dst₀ k dst (k + j) j
 
 abbrev μ-loop : tie.MeasureT-loop
-μ-loop p q dst₀ k a j₀ dst j = 64 - j
+μ-loop signed up dst₀ k a j₀ dst j = 64 - j
 
 loop-holds : tie.Need-loop-holds Inv-loop μ-loop
-loop-holds c = let a = c .args in run-none in-list (lows (a .p) (a .q) (a .t1)) (now (a .dst)) (a .k) (a .k + 0) (omega arith)
+loop-holds c = let a = c .args in run-none in-list (lows (a .signed) (a .up) (a .t1)) (now (a .dst)) (a .k) (a .k + 0) (omega arith)
 
 mul-lowered : tie.Need-mul-lowered Inv-loop μ-loop
 mul-lowered c = search needs
@@ -51,7 +51,7 @@ loop-again c =
     let l = c .before .before in
     let f = l .before in
     let a = f .args in
-    lowering-more in-list (a .p) (a .q) 64 (a .t1) (f .good .0 .1 .0 .1) (now (a .dst)) (a .k) (l .loop .inv) (c .before .loop-test .taken) _ (toZ-ofZ (sfits-of (c .lowered .ok)) ∙ c .lowered .ensures) _ _ refl refl _ (omega arith)
+    lowering-more in-list (a .signed) (a .up) 64 (a .t1) (f .good .0 .1 .0 .1) (now (a .dst)) (a .k) (l .loop .inv) (c .before .loop-test .taken) _ (toZ-ofZ (sfits-of (c .lowered .ok)) ∙ c .lowered .ensures) _ _ refl refl _ (omega arith)
 
 same-length : tie.Need-same-length Inv-loop μ-loop
 same-length c = c .before .loop .inv .long
@@ -61,7 +61,7 @@ returns c =
     let l = c .before in
     let f = l .before in
     let a = f .args in
-    lowering-done in-list (a .p) (a .q) 64 (a .t1) (f .good .0 .1 .0 .1) (now (a .dst)) (a .k) (l .loop .inv) (c .loop-test .left)
+    lowering-done in-list (a .signed) (a .up) 64 (a .t1) (f .good .0 .1 .0 .1) (now (a .dst)) (a .k) (l .loop .inv) (c .loop-test .left)
 
 pub put-lifted-spec : {M : Type 1} → statement M
 put-lifted-spec =

@@ -9,9 +9,6 @@ use Rattle.raw.proofs.number.lifted.Tie as tie
 cast-wrapping-add-u16 : tie.Need-cast-wrapping-add-u16
 cast-wrapping-add-u16 c = omega (arith, range-2 _ (c .if1 .taken))
 
-cast-wrapping-add-u16-2 : tie.Need-cast-wrapping-add-u16-2
-cast-wrapping-add-u16-2 c = omega (arith, range-2 _ (c .if1 .taken))
-
 wrapping-add-u16-requires : tie.Need-wrapping-add-u16-requires
 wrapping-add-u16-requires c κs = search needs
 
@@ -38,7 +35,6 @@ lifted-spec =
     tie.close
     (tie.spec
     cast-wrapping-add-u16
-    cast-wrapping-add-u16-2
     wrapping-add-u16-requires
     cast-wrapping-add-u8
     cast-wrapping-add-u8-2

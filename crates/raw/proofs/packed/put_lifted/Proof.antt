@@ -3,7 +3,7 @@
 use Prim.Native.Nat.{_+_, _*_, _-_}
 use native.Mathlib.Omega.{arith}
 use denote.Ref.{now}
-use mathlib.Core.Path.{refl, sym, _∙_}
+use mathlib.Core.Path.{sym, _∙_}
 use borrow.Author.Needs.{sfits-of}
 use mir.Facts.{toZ-ofZ}
 use Rattle.raw.specs.Bits.{lows}
@@ -14,13 +14,13 @@ use Rattle.raw.proofs.packed.put_lifted.Statement.{statement}
 use Rattle.raw.proofs.packed.put_lifted.Tie as tie
 
 abbrev Inv-loop : tie.InvT-loop
-Inv-loop p q dst₀ k a j₀ dst j = Run in-bytes (lows p q a) dst₀ (8 * k) dst (8 * (k + j)) j
+Inv-loop signed up dst₀ k a j₀ dst j = Run in-bytes (lows signed up a) dst₀ (8 * k) dst (8 * (k + j)) j
 
 abbrev μ-loop : tie.MeasureT-loop
-μ-loop p q dst₀ k a j₀ dst j = 64 - j
+μ-loop signed up dst₀ k a j₀ dst j = 64 - j
 
 loop-holds : tie.Need-loop-holds Inv-loop μ-loop
-loop-holds c = let a = c .before .args in run-none in-bytes (lows (a .p) (a .q) (a .t1)) (now (a .dst)) (8 * a .k) (8 * (a .k + 0)) (omega arith)
+loop-holds c = let a = c .before .args in run-none in-bytes (lows (a .signed) (a .up) (a .t1)) (now (a .dst)) (8 * a .k) (8 * (a .k + 0)) (omega arith)
 
 add-put-sample : tie.Need-add-put-sample Inv-loop μ-loop
 add-put-sample c = search needs
@@ -51,7 +51,7 @@ loop-again c =
     let l = t .before in
     let f = l .before .before in
     let a = f .args in
-    lowering-more in-bytes (a .p) (a .q) 64 (a .t1) (f .good .0 .1 .0 .1) (now (a .dst)) (8 * a .k) (l .loop .inv) (t .loop-test .taken) _ (toZ-ofZ (sfits-of (one .lowered .ok)) ∙ one .lowered .ensures) _ _ (sym (words-one _)) (put .put-sample .ensures) _ (omega arith)
+    lowering-more in-bytes (a .signed) (a .up) 64 (a .t1) (f .good .0 .1 .0 .1) (now (a .dst)) (8 * a .k) (l .loop .inv) (t .loop-test .taken) _ (toZ-ofZ (sfits-of (one .lowered .ok)) ∙ one .lowered .ensures) _ _ (sym (words-one _)) (put .put-sample .ensures) _ (omega arith)
 
 same-length : tie.Need-same-length Inv-loop μ-loop
 same-length c = c .before .loop .inv .long
@@ -61,7 +61,7 @@ returns c =
     let l = c .before in
     let f = l .before .before in
     let a = f .args in
-    lowering-done in-bytes (a .p) (a .q) 64 (a .t1) (f .good .0 .1 .0 .1) (now (a .dst)) (8 * a .k) (l .loop .inv) (c .loop-test .left)
+    lowering-done in-bytes (a .signed) (a .up) 64 (a .t1) (f .good .0 .1 .0 .1) (now (a .dst)) (8 * a .k) (l .loop .inv) (c .loop-test .left)
 
 pub put-lifted-spec : {M : Type 1} → statement M
 put-lifted-spec =

@@ -2,7 +2,6 @@
 -- Assumes nothing.
 use Prim.Native.Nat.{_-_}
 use native.Mathlib.Omega.{arith}
-use mathlib.Core.Path.{_∙_}
 use denote.Ref.{now}
 use Rattle.raw.proofs.BlockLaws.{in-bytes}
 use Rattle.raw.proofs.NarrowLaws.{Narrow, narrow-none, narrow-long, narrow-within, narrow-room, narrow-more, narrow-done}
@@ -13,10 +12,10 @@ use Rattle.raw.proofs.packed.put_narrow.Statement.{statement}
 use Rattle.raw.proofs.packed.put_narrow.Tie as tie
 
 abbrev Inv-loop : tie.InvT-loop
-Inv-loop s n w signed big up p q dst₀ last k₀ dst k = Narrow in-bytes s n w big up p q dst₀ last dst k
+Inv-loop s n w signed big up dst₀ last k₀ dst k = Narrow in-bytes s n w signed big up dst₀ last dst k
 
 abbrev μ-loop : tie.MeasureT-loop
-μ-loop s n w signed big up p q dst₀ last k₀ dst k = last - k
+μ-loop s n w signed big up dst₀ last k₀ dst k = last - k
 
 put-requires : tie.Need-put-requires Inv-loop μ-loop
 put-requires c κs = let f = c .before .before .before .before in (f .pre .0, (f .pre .1 .1 .1 .0, f .pre .1 .1 .1 .1))
@@ -30,32 +29,32 @@ returns c = c .before .before .put .ensures
 loop-holds : tie.Need-loop-holds Inv-loop μ-loop
 loop-holds c =
     let a = c .before .before .before .args in
-    narrow-none in-bytes (now (a .s)) (a .n) (a .w) (a .big) (a .up) (a .p) (a .q) (now (a .dst)) _ (omega arith) (omega arith)
+    narrow-none in-bytes (now (a .s)) (a .n) (a .w) (a .signed) (a .big) (a .up) (now (a .dst)) _ (omega arith) (omega arith)
 
 mul-lift : tie.Need-mul-lift Inv-loop μ-loop
 mul-lift c =
     let f = c .before .before .before .before in
     let a = f .args in
-    omega (arith, narrow-room in-bytes (now (a .s)) (a .n) (a .w) (a .big) (a .up) (a .p) (a .q) (now (a .dst)) _ (c .loop .inv) (f .pre .1 .1 .1 .0))
+    omega (arith, narrow-room in-bytes (now (a .s)) (a .n) (a .w) (a .signed) (a .big) (a .up) (now (a .dst)) _ (c .loop .inv) (f .pre .1 .1 .1 .0))
 
 lift-requires : tie.Need-lift-requires Inv-loop μ-loop
 lift-requires c κs =
     let f = c .before .before .before .before in
     let a = f .args in
-    (f .pre .0, ((f .pre .1 .0, f .pre .1 .1 .0 .within), narrow-room in-bytes (now (a .s)) (a .n) (a .w) (a .big) (a .up) (a .p) (a .q) (now (a .dst)) _ (c .loop .inv) (f .pre .1 .1 .1 .0)))
+    (f .pre .0, ((f .pre .1 .0, f .pre .1 .1 .0 .within), narrow-room in-bytes (now (a .s)) (a .n) (a .w) (a .signed) (a .big) (a .up) (now (a .dst)) _ (c .loop .inv) (f .pre .1 .1 .1 .0)))
 
 put-lifted-requires : tie.Need-put-lifted-requires Inv-loop μ-loop
 put-lifted-requires c κs =
     let l = c .before .before in
     let f = c .before .before .before .before .before .before in
     let a = f .args in
-    (f .pre .1 .1 .0 .small, omega (arith, narrow-within in-bytes (now (a .s)) (a .n) (a .w) (a .big) (a .up) (a .p) (a .q) (now (a .dst)) _ (l .loop .inv), narrow-long in-bytes (now (a .s)) (a .n) (a .w) (a .big) (a .up) (a .p) (a .q) (now (a .dst)) _ (l .loop .inv)))
+    omega (arith, narrow-within in-bytes (now (a .s)) (a .n) (a .w) (a .signed) (a .big) (a .up) (now (a .dst)) _ (l .loop .inv), narrow-long in-bytes (now (a .s)) (a .n) (a .w) (a .signed) (a .big) (a .up) (now (a .dst)) _ (l .loop .inv))
 
 same-length-2 : tie.Need-same-length-2 Inv-loop μ-loop
 same-length-2 c =
     let l = c .before .before .before .before .before .before in
     let a = c .before .before .before .before .before .before .before .before .before .before .args in
-    omega (arith, narrow-long in-bytes (now (a .s)) (a .n) (a .w) (a .big) (a .up) (a .p) (a .q) (now (a .dst)) _ (l .loop .inv))
+    omega (arith, narrow-long in-bytes (now (a .s)) (a .n) (a .w) (a .signed) (a .big) (a .up) (now (a .dst)) _ (l .loop .inv))
 
 returns-2 : tie.Need-returns-2 Inv-loop μ-loop
 returns-2 c =
@@ -64,7 +63,7 @@ returns-2 c =
     let a = f .args in
     λ z.
     raw-words (kindBy (a .signed)) (a .w) (endianBy (a .big)) (a .n) (now (a .s)) (now (a .dst)) (λ i. c .before .before .before .before .before .before .before .before .slice-known .given i .fits) (f .pre .1 .1 .1 .1)
-    (narrow-done in-bytes (now (a .s)) (a .n) (a .w) (a .big) (a .up) (a .p) (a .q) (now (a .dst)) _ (l .loop .inv) (c .before .before .before .before .before .lift .ensures) (c .before .before .before .put-lifted .ensures) (a .signed) (f .pre .0) (f .pre .1 .0) (f .pre .1 .1 .0) (λ i. c .before .before .before .before .before .before .before .before .before .shared-slice-known .given i .fits) (f .pre .1 .1 .1 .0) (c .if2 .taken) z)
+    (narrow-done in-bytes (now (a .s)) (a .n) (a .w) (a .signed) (a .big) (a .up) (now (a .dst)) _ (l .loop .inv) (c .before .before .before .before .before .lift .ensures) (c .before .before .before .put-lifted .ensures) (f .pre .0) (f .pre .1 .0) (f .pre .1 .1 .0) (λ i. c .before .before .before .before .before .before .before .before .before .shared-slice-known .given i .fits) (f .pre .1 .1 .1 .0) (c .if2 .taken) z)
 
 add-least : tie.Need-add-least Inv-loop μ-loop
 add-least c = omega (arith, c .before .before .before .before .before .before .loop .inv .most)
@@ -79,7 +78,7 @@ loop-again : tie.Need-loop-again Inv-loop μ-loop
 loop-again c =
     let l = c .before .before .before .before .before .before .before in
     let a = c .before .before .before .before .before .before .before .before .before .before .before .args in
-    narrow-more in-bytes (now (a .s)) (a .n) (a .w) (a .big) (a .up) (a .p) (a .q) (now (a .dst)) _ (l .loop .inv) (c .before .before .before .before .before .before .lift .ensures) (c .before .before .before .before .put-lifted .ensures) _ (c .least .ensures)
+    narrow-more in-bytes (now (a .s)) (a .n) (a .w) (a .signed) (a .big) (a .up) (now (a .dst)) _ (l .loop .inv) (c .before .before .before .before .before .before .lift .ensures) (c .before .before .before .before .put-lifted .ensures) _ (c .least .ensures)
 
 pub put-narrow-spec : {M : Type 1} → statement M
 put-narrow-spec =
