@@ -10,14 +10,14 @@ use lib.ListN.{length, take, drop, getD, length-append, length-drop, drop-of-len
 use lib.Seq.{drop-drop, take-all, take-at, drop-at}
 use Rattle.format.specs.Bytes.{over}
 use Rattle.format.specs.Boundary.{wordsOfSamples}
-use Rattle.format.specs.Descriptors.{NumberKind, little}
-use Rattle.format.specs.Samples.{Decoded, hexSamples, rawSamples, valueBytes, withoutBlanks}
+use Rattle.format.specs.Descriptors.{NumberKind}
+use Rattle.format.specs.Samples.{Decoded, hexSamples, rawSamples, withoutBlanks}
 use Rattle.format.proofs.Samples.{all-bytes}
 use Rattle.words.specs.Packed.{samplesOver}
 use Rattle.words.specs.Widths.{Width}
-use Rattle.words.proofs.Groups.{length-words, samples-over, words-flat}
-use Rattle.words.proofs.Stores.{flat-append}
+use Rattle.words.proofs.Groups.{samples-over}
 use Rattle.words.proofs.WidthLaws.{width-le, width-pos}
+pub use Rattle.raw.proofs.BlockLaws.{Storing, in-list, in-bytes}
 use Rattle.hex.specs.Forms.{digitsAt, digitsRefusal, bytesOf, Enough, Past, Taken, samplesAt}
 use Rattle.hex.proofs.DigitLaws.{refusal-first, refusal-after}
 use Rattle.hex.proofs.JoinLaws.{joined, joined-bad, joined-good, joined-first, raw-then, raw-front, raw-all}
@@ -111,27 +111,6 @@ module _ (k : NumberKind) (w e n : ℕ) (s : List ℕ) where
 
 -- ---- what is lent, filled by blocks
 
--- how samples are stored: each in a place of `size` elements, one after another
-pub record Storing (A : Type 0) : Type 1 where
-  pub store : List ℤ → List A
-  pub size : ℕ
-  pub none : store [] ≡ []
-  pub join : (a x : List ℤ) → store (a ++ x) ≡ store a ++ store x
-  pub long : (a : List ℤ) → length (store a) ≡ size * length a
-
-abbrev pub in-list : Storing ℤ
-in-list = record { store = λ a. a; size = 1; none = refl; join = λ a x. refl; long = λ a. omega arith }
-
-pub words-join : (a x : List ℤ) → wordsOfSamples (a ++ x) ≡ wordsOfSamples a ++ wordsOfSamples x
-words-join a x = words-flat (a ++ x) ∙ flat-append (valueBytes 8 little) a x ∙ rw (words-flat a, words-flat x)
-
-pub words-none : wordsOfSamples [] ≡ []
-unfolding wordsOfSamples
-words-none = refl
-
-abbrev pub in-bytes : Storing ℕ
-in-bytes = record { store = wordsOfSamples; size = 8; none = words-none; join = words-join; long = length-words }
-
 -- the part from i on, where a run is put to its front
 put-part : {A : Type 0} (i : ℕ) (p x d₀ d y : List A) → d ≡ over p d₀ → length p ≡ i → y ≡ over x (take (length d - i) (drop i d))
     → take i d ++ (y ++ drop (length d - i) (drop i d)) ≡ over (p ++ x) d₀
@@ -146,7 +125,7 @@ put-part i p x d₀ d y e l q =
 pub block-size : (w : ℕ) → Width w → (0 < 128 / w) × (128 / w * w ≤ 128)
 block-size w d = (le-div-iff-mul-le (width-pos w d) .1 (omega (arith, width-le w d)), div-mul-le-self 128 w)
 
-module _ {A : Type 0} (f : Storing A) (k : NumberKind) (w e n : ℕ) (s : List ℕ) (d₀ : List A) where
+module _ {A : Type 0} (f : Storing ℤ A) (k : NumberKind) (w e n : ℕ) (s : List ℕ) (d₀ : List A) where
   -- the samples before a place stand in front
   pub record Filling (d : List A) (at j : ℕ) : Type 0 where
     pub few : j ≤ n
@@ -177,7 +156,7 @@ module _ {A : Type 0} (f : Storing A) (k : NumberKind) (w e n : ℕ) (s : List �
   module _ {d : List A} {at j : ℕ} (c : Filling d at j) where
     -- m samples more, stored from element i on
     pub filling-more :
-        (m : ℕ) → j + m ≤ n → (next : ℕ) → next ≤ length s → (i : ℕ) → i ≡ f .size * j → (y : List A) →
+        (m : ℕ) → j + m ≤ n → (next : ℕ) → next ≤ length s → (i : ℕ) → i ≡ f .place j → (y : List A) →
         (Enough s at (m * w) → Past s at (m * w) next × (samplesAt k w e m s at .number ≡ 0 → y ≡ over (f .store (samplesAt k w e m s at .seen)) (take (length d - i) (drop i d)))) →
         length (take i d ++ (y ++ drop (length d - i) (drop i d))) ≡ length d → Filling (take i d ++ (y ++ drop (length d - i) (drop i d))) next (j + m)
     filling-more m h next l i x y p r = record { few = h; within = l; long = r ∙ c .long; goes = goes }
@@ -191,7 +170,7 @@ module _ {A : Type 0} (f : Storing A) (k : NumberKind) (w e n : ℕ) (s : List �
             let t : samplesAt k w e (j + m) s 0 ≡ record { number = samplesAt k w e m s at .number; seen = a ++ b } =
             block-join k w e s j m at place ∙ joined-good (samplesAt k w e j s 0) (samplesAt k w e m s at) (first-number z j (c .few)) in
             let v : samplesAt k w e m s at .number ≡ 0 = sym (ap (λ (x : Decoded). x .number) t) ∙ first-number z (j + m) h in
-            let u : length (f .store a) ≡ i = f .long a ∙ ap (λ (o : ℕ). f .size * o) (first-length z j (c .few)) ∙ sym x in
+            let u : length (f .store a) ≡ i = f .long a ∙ ap (f .place) (first-length z j (c .few)) ∙ sym x in
             (after-more k w e s j m at place next (q .0), rw (t, f .join a b) (put-part i (f .store a) (f .store b) d₀ d y (c .goes z .1) u (q .1 v)))
 
     pub filling-done : n ≤ j → hexSamples k w e n (withoutBlanks s) .number ≡ 0 → d ≡ over (f .store (hexSamples k w e n (withoutBlanks s) .seen)) d₀

@@ -8,6 +8,7 @@ use lib.ListN.{length-take, length-drop}
 use Rattle.words.specs.Widths.{kindBy, endianBy}
 use Rattle.words.proofs.WidthLaws.{width-pos}
 use Rattle.hex.proofs.LoopLaws.{in-list, Filling, filling-none, filling-more, filling-done, block-size}
+use mathlib.Core.Path.{refl}
 use borrow.Author.Needs.{needs}
 use Rattle.hex.proofs.list.fill_blocks.Statement.{statement}
 use Rattle.hex.proofs.list.fill_blocks.Tie as tie
@@ -61,7 +62,7 @@ loop-again c =
     let a = c .before .before .before .before .before .before .before .args in
     let i = c .before .before .before .before .before .loop in
     let b = c .before .fill-block in
-    filling-more in-list (kindBy (a .signed)) (a .w) (endianBy (a .big)) (a .n) (now (a .s)) (now (a .dst)) (i .inv) (c .before .before .before .least .result) (omega (arith, c .before .before .before .least .ensures)) (b .result) (b .ensures .0) (i .k) (omega arith) _ (b .ensures .1) (search needs)
+    filling-more in-list (kindBy (a .signed)) (a .w) (endianBy (a .big)) (a .n) (now (a .s)) (now (a .dst)) (i .inv) (c .before .before .before .least .result) (omega (arith, c .before .before .before .least .ensures)) (b .result) (b .ensures .0) (i .k) refl _ (b .ensures .1) (search needs)
 
 same-length : tie.Need-same-length Inv-loop μ-loop
 same-length c = c .before .loop .inv .long
