@@ -85,40 +85,29 @@ fn put_narrow(s: &[u8], n: usize, w: usize, signed: bool, big: bool, up: u16, ds
     }
 }
 
-// Samples of 1 byte. Width, sign and `up` are literals: the compiler makes a loop of its own of each call.
-fn put_bytes(s: &[u8], n: usize, signed: bool, big: bool, dst: &mut [u8])
-    requires { ⌜ n * 1 ≤ length (now s) ⌝ }
+// The same by the sign, with `up` for each. The callers give literals for width, endian and `up`: the compiler makes a loop of its own of each.
+fn put_by_sign(
+    s: &[u8],
+    n: usize,
+    w: usize,
+    signed: bool,
+    big: bool,
+    half: u16,
+    up: u16,
+    dst: &mut [u8],
+)
+    requires { ⌜ Width w ⌝ }
+    requires { ⌜ w ≤ 2 ⌝ }
+    requires { ⌜ Shifts w true half ⌝ }
+    requires { ⌜ Shifts w false up ⌝ }
+    requires { ⌜ n * w ≤ length (now s) ⌝ }
     requires { ⌜ n ≤ length (now dst) / 8 ⌝ }
-    ensures { λ _. ⌜ (rawSamples (kindBy signed) 1 (endianBy big) n (now (s .entry)) .number ≡ 0 → now (dst .exit) ≡ samplesOver (rawSamples (kindBy signed) 1 (endianBy big) n (now (s .entry)) .seen) (now (dst .entry))) ⌝ }
+    ensures { λ _. ⌜ (rawSamples (kindBy signed) w (endianBy big) n (now (s .entry)) .number ≡ 0 → now (dst .exit) ≡ samplesOver (rawSamples (kindBy signed) w (endianBy big) n (now (s .entry)) .seen) (now (dst .entry))) ⌝ }
 {
     if signed {
-        return put_narrow(s, n, 1, true, big, 128, dst);
+        return put_narrow(s, n, w, true, big, half, dst);
     }
-    put_narrow(s, n, 1, false, big, 0, dst)
-}
-
-// Big-endian samples of 2 bytes.
-fn put_big_shorts(s: &[u8], n: usize, signed: bool, dst: &mut [u8])
-    requires { ⌜ n * 2 ≤ length (now s) ⌝ }
-    requires { ⌜ n ≤ length (now dst) / 8 ⌝ }
-    ensures { λ _. ⌜ (rawSamples (kindBy signed) 2 (endianBy true) n (now (s .entry)) .number ≡ 0 → now (dst .exit) ≡ samplesOver (rawSamples (kindBy signed) 2 (endianBy true) n (now (s .entry)) .seen) (now (dst .entry))) ⌝ }
-{
-    if signed {
-        return put_narrow(s, n, 2, true, true, 32768, dst);
-    }
-    put_narrow(s, n, 2, false, true, 0, dst)
-}
-
-// Little-endian samples of 2 bytes.
-fn put_little_shorts(s: &[u8], n: usize, signed: bool, dst: &mut [u8])
-    requires { ⌜ n * 2 ≤ length (now s) ⌝ }
-    requires { ⌜ n ≤ length (now dst) / 8 ⌝ }
-    ensures { λ _. ⌜ (rawSamples (kindBy signed) 2 (endianBy false) n (now (s .entry)) .number ≡ 0 → now (dst .exit) ≡ samplesOver (rawSamples (kindBy signed) 2 (endianBy false) n (now (s .entry)) .seen) (now (dst .entry))) ⌝ }
-{
-    if signed {
-        return put_narrow(s, n, 2, true, false, 32768, dst);
-    }
-    put_narrow(s, n, 2, false, false, 32768, dst)
+    put_narrow(s, n, w, false, big, up, dst)
 }
 
 // Big-endian samples of more than a byte. A call for each width: the compiler makes a loop of its own of each.
@@ -135,7 +124,7 @@ fn put_big(s: &[u8], n: usize, w: usize, signed: bool, dst: &mut [u8])
     if w == 4 {
         return put_pairs(s, n, 4, signed, true, dst);
     }
-    put_big_shorts(s, n, signed, dst)
+    put_by_sign(s, n, 2, signed, true, 32768, 0, dst)
 }
 
 // Little-endian samples, in the same way.
@@ -152,7 +141,7 @@ fn put_little(s: &[u8], n: usize, w: usize, signed: bool, dst: &mut [u8])
     if w == 4 {
         return put(s, n, 4, signed, false, dst);
     }
-    put_little_shorts(s, n, signed, dst)
+    put_by_sign(s, n, 2, signed, false, 32768, 32768, dst)
 }
 
 fn put_by_endian(s: &[u8], n: usize, w: usize, signed: bool, big: bool, dst: &mut [u8])
@@ -162,7 +151,7 @@ fn put_by_endian(s: &[u8], n: usize, w: usize, signed: bool, big: bool, dst: &mu
     ensures { λ _. ⌜ (rawSamples (kindBy signed) w (endianBy big) n (now (s .entry)) .number ≡ 0 → now (dst .exit) ≡ samplesOver (rawSamples (kindBy signed) w (endianBy big) n (now (s .entry)) .seen) (now (dst .entry))) ⌝ }
 {
     if w == 1 {
-        return put_bytes(s, n, signed, big, dst);
+        return put_by_sign(s, n, 1, signed, big, 128, 0, dst);
     }
     if big {
         return put_big(s, n, w, signed, dst);

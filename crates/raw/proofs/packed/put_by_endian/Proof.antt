@@ -1,17 +1,21 @@
 -- `packed::put_by_endian` meets its contract, by the width and the endian.
 -- Assumes nothing.
+use lib.Dec.{lit≤}
+use mathlib.Core.Path.{refl}
+use mathlib.Core.Logic.{inl}
+use Rattle.raw.proofs.NarrowLaws.{int8, uint8}
 use borrow.Author.Needs.{needs}
 use Rattle.raw.proofs.packed.put_by_endian.Statement.{statement}
 use Rattle.raw.proofs.packed.put_by_endian.Tie as tie
 
-put-bytes-requires : tie.Need-put-bytes-requires
-put-bytes-requires c κs = rw (c .before .if1 .taken) at (c .before .before .before .before .pre .1)
+put-by-sign-requires : tie.Need-put-by-sign-requires
+put-by-sign-requires c κs = (inl refl, (lit≤ tt, (int8, (uint8, rw (c .before .if1 .taken) at (c .before .before .before .before .pre .1)))))
 
 same-length : tie.Need-same-length
 same-length c = search needs
 
 returns : tie.Need-returns
-returns c = rw (c .before .before .before .before .if1 .taken) (c .before .before .put-bytes .ensures)
+returns c = rw (c .before .before .before .before .if1 .taken) (c .before .before .put-by-sign .ensures)
 
 put-big-requires : tie.Need-put-big-requires
 put-big-requires c κs = (c .before .before .before .before .before .pre .0, (c .before .before .if1 .left, c .before .before .before .before .before .pre .1))
@@ -35,7 +39,7 @@ pub put-by-endian-spec : {M : Type 1} → statement M
 put-by-endian-spec =
     tie.close
     (tie.spec
-    put-bytes-requires
+    put-by-sign-requires
     same-length
     returns
     put-big-requires
