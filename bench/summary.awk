@@ -14,7 +14,7 @@ $5 == "ratio" {
     next
 }
 
-$5 + 0 > 0 {
+$5 ~ /^[0-9]+[.][0-9]+$/ {
     row = kind SUBSEP $2
     cell = row SUBSEP samples
     if (!(row in known)) {

@@ -110,7 +110,7 @@ int main(void)
     v.copy = (uint8_t *)memory(2 * v.samples);
     v.list = (int64_t *)memory(v.samples * sizeof *v.list);
 
-    heading("headers", "libteem");
+    heading("headers beside libteem", "libteem");
     make_header(&v, 9, 4);
     compare("9 lines", our_header, teem_header, &v, 1);
     make_header(&v, 1000, 4);
@@ -118,7 +118,7 @@ int main(void)
     make_header(&v, 900, 54);
     compare("900 lines, 60 KB", our_header, teem_header, &v, 1);
 
-    heading("4 MB of raw data, uint16", "libteem");
+    heading("4 MB of raw uint16 beside libteem", "libteem");
     make_volume(&v);
     compare("its place (nothing is copied)", our_place, teem_data, &v, 1);
     compare("a copy, as libteem makes one", our_copy, teem_data, &v, 1);
