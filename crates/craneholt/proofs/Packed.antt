@@ -15,7 +15,7 @@ use Rattle.format.specs.Settings.{lent, setting, setKey}
 use Rattle.format.specs.Calls.{readCall, setKeyCall}
 use Rattle.format.proofs.Samples.{AllBytes}
 use Rattle.words.proofs.Groups.{length-numbers, numbers-over, numbers-back}
-use Rattle.craneholt.specs.EntryPoints.{readEntry, setKeyEntry}
+use Rattle.format.specs.EntryPoints.{readEntry, setKeyEntry}
 use Rattle.craneholt.proofs.CutTables.{over-front, read-lines, read-whole, kept-table, set-key-whole}
 use Rattle.craneholt.proofs.Fronts.{front-lent}
 

@@ -15,4 +15,5 @@ pub mod Calls
 pub mod Listing
 pub mod Trials
 pub mod Boundary
+pub mod EntryPoints
 pub mod Laws

@@ -13,7 +13,7 @@ use Rattle.format.specs.Calls.{checkSamplesCall, seenIn}
 use Rattle.format.proofs.Samples.{all-bytes}
 use Rattle.words.proofs.Groups.{length-samples, samples-back}
 use Rattle.words.specs.Packed.{samplesOver}
-use Rattle.samples.specs.Boundary.{samplesEntry}
+use Rattle.format.specs.EntryPoints.{samplesEntry}
 use Rattle.samples.proofs.Parts.{list-kept, list-filled}
 
 module _ (file second : List ℕ) (a : CountAnswer) (list : List ℕ) (e : a ≡ checkSamplesCall file second (length list / 8)) where

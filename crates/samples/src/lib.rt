@@ -14,7 +14,7 @@ ghost use Rattle.format.specs.declared.CountAnswer.{CountAnswer};
 ghost use Rattle.format.specs.Bytes.{if_then_else_};
 ghost use Rattle.format.specs.Refusals.{refusal, fine};
 ghost use Rattle.format.specs.Calls.{noSamples, checkSamplesCall, samplesCall};
-ghost use Rattle.samples.specs.Boundary.{samplesEntry};
+ghost use Rattle.format.specs.EntryPoints.{samplesEntry};
 ghost use Rattle.samples.specs.Parts.{Placed};
 
 // There are no samples.
