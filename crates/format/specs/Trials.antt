@@ -58,8 +58,16 @@ dataS = 1 ∷ 0 ∷ 2 ∷ 0 ∷ 0 ∷ 1 ∷ 255 ∷ []
 abbrev pub mostOfS : String → String → List ℕ
 mostOfS first pair = texts (first ∷ []) ++ (linesS pair ++ dataS)
 
+-- the whole of it
+abbrev pub wholeS : String → String → List ℕ
+wholeS first pair = mostOfS first pair ++ 255 ∷ []
+
 abbrev pub fileS : List ℕ
-fileS = mostOfS "NRRD0004" "utc offset:=37" ++ 255 ∷ []
+fileS = wholeS "NRRD0004" "utc offset:=37"
+
+-- S without its last byte
+abbrev pub shortS : List ℕ
+shortS = mostOfS "NRRD0004" "utc offset:=37"
 
 abbrev pub tableS : List ℕ
 tableS = 0 ∷ 9 ∷ 17 ∷ 30 ∷ 43 ∷ 54 ∷ 68 ∷ 83 ∷ 98 ∷ 113 ∷ []
@@ -127,12 +135,14 @@ starredTrials =
     ∷ trial DataAnswer (dataPlaceCall (fileS ++ 0 ∷ []) []) (dataPlaceCall fileS [])
     ∷ trial (List ℕ) (dataCall (fileS ++ 0 ∷ []) []) (dataCall fileS [])
     ∷ trial (CountAnswer × List ℤ) (samples (fileS ++ 0 ∷ [])) (samples fileS)
-    ∷ trial Refusal (dataPlaceCall (mostOfS "NRRD0004" "utc offset:=37") [] .refusal) (refusal 18)
+    ∷ trial Refusal (dataPlaceCall shortS [] .refusal) (refusal 18)
+    ∷ trial (List ℕ) (dataCall shortS []) []
+    ∷ trial (CountAnswer × List ℤ) (samples shortS) (record { refusal = refusal 18; count = 0 }, replicate 5 (pos 7))
     -- 2: S with `utc offset` set to 5, one byte shorter
     ∷ trial (SetAnswer × (List ℕ × List ℕ)) (setInS "utc offset" "5") (
       record { refusal = fine; length = 121; count = 10 },
       (
-        mostOfS "NRRD0004" "utc offset:=5" ++ 255 ∷ 0 ∷ replicate 8 9,
+        wholeS "NRRD0004" "utc offset:=5" ++ 0 ∷ replicate 8 9,
         0 ∷ 9 ∷ 17 ∷ 30 ∷ 43 ∷ 54 ∷ 68 ∷ 83 ∷ 98 ∷ 112 ∷ 7 ∷ 7 ∷ [],
       ),
     )
@@ -147,7 +157,7 @@ starredTrials =
     ∷ trial DataAnswer (dataPlaceCall (texts ("NRRD0004" ∷ "rig:=7" ∷ []) ++ (linesS "utc offset:=37" ++ (dataS ++ 255 ∷ []))) [])
     (record { refusal = fine; second = false; start = 121; length = 8 })
     -- 3
-    ∷ trial Refusal (refusalOf (mostOfS "NRRD0001" "utc offset:=37")) (atLine 8 8)
+    ∷ trial Refusal (refusalOf (wholeS "NRRD0001" "utc offset:=37")) (atLine 8 8)
     ∷ trial Refusal (refusalOf []) (atLine 2 1)
     ∷ trial Refusal (refusalOf (texts ("NRRD0001" ∷ "dimension:2" ∷ []))) (atLine 6 2)
     ∷ trial Refusal (refusalOf (texts ("NRRD0001" ∷ "sizes: 2 2" ∷ "dimension: 2" ∷ []))) (atLine 10 2)
