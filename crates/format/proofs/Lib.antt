@@ -6,5 +6,6 @@ pub mod Header
 pub mod Samples
 pub mod Writer
 pub mod Starred
+pub mod Listed
 pub mod AtLimits
 pub mod Believable

@@ -14,6 +14,7 @@ pub mod Settings
 pub mod Calls
 pub mod Listing
 pub mod Trials
+pub mod ListingTrials
 pub mod Boundary
 pub mod EntryPoints
 pub mod Laws

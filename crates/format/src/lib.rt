@@ -3,6 +3,7 @@
 ghost use mathlib.Core.Path.{_≡_};
 ghost use Rattle.format.specs.Laws.{Laws};
 ghost use Rattle.format.specs.Limits.{limits};
+ghost use Rattle.format.specs.ListingTrials.{ListingTrials};
 ghost use Rattle.format.specs.Refusals.{refusalNumbers};
 ghost use Rattle.format.specs.Trials.{StarredTrials};
 
@@ -270,6 +271,13 @@ pub fn refusal_numbers() -> [u32; 27]
 // The starred trials of document 01 hold of the definitions.
 pub fn starred_trials() -> u64
     ensures { λ r. ⌜ StarredTrials ⌝ }
+{
+    0
+}
+
+// What the listing prints for S and for files like it.
+pub fn listing_trials() -> u64
+    ensures { λ r. ⌜ ListingTrials ⌝ }
 {
     0
 }
