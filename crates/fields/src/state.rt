@@ -161,12 +161,14 @@ pub fn finish(state: State, bytes: usize, count: u32) -> ReadAnswer
     if format::MAX_EXTENT < x {
         return refuse(format::EXTENT_TOO_LARGE, 0);
     }
+    let form = state.given[field::DATA_FILE] as u32;
+    let length = bytes as u64;
     let sizes = state.sizes;
     ReadAnswer {
         refusal: Refusal { number: 0, line: 0 },
         reading: Reading {
             version: state.version,
-            form: state.given[field::DATA_FILE] as u32,
+            form: form,
             dimension: state.dimension,
             sampletype: state.sampletype,
             encoding: state.encoding,
@@ -175,7 +177,7 @@ pub fn finish(state: State, bytes: usize, count: u32) -> ReadAnswer
             lineskip: state.lineskip,
             byteskip: state.byteskip,
             extent: x,
-            length: bytes as u64,
+            length: length,
             lines: count,
         },
     }

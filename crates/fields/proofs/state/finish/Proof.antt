@@ -37,11 +37,11 @@ returns-2 c gs h =
     let l : maxExtent < extentOf gs = omega (arith, c .before .before .extent .ensures gs h (needs-sizes h e)) in
     c .refuse2 .ensures ∙ sym (finished-large (a .t1 .version) gs (a .bytes) (a .count) e l)
 
-element-copy-out-t9 : tie.Need-element-copy-out-t9
-element-copy-out-t9 c = search needs
+element-copy-out-form : tie.Need-element-copy-out-form
+element-copy-out-form c = search needs
 
-cast-t14 : tie.Need-cast-t14
-cast-t14 c = search needs
+cast-form : tie.Need-cast-form
+cast-form c = search needs
 
 returns-3 : tie.Need-returns-3
 returns-3 c gs h =
@@ -64,6 +64,6 @@ finish-spec =
     extent-requires
     refuse-requires-2
     returns-2
-    element-copy-out-t9
-    cast-t14
+    element-copy-out-form
+    cast-form
     returns-3)
