@@ -19,7 +19,7 @@ ghost use Rattle.format.specs.Limits.{maxLines};
 ghost use Rattle.format.specs.Boundary.{entryBytes};
 ghost use Rattle.format.specs.Calls.{readHeaderCall, findFieldCall, findKeyCall, copyValueCall, dataPlaceCall, checkSamplesCall};
 ghost use Rattle.format.specs.EntryPoints.{readEntry, samplesEntry, sampleNumberEntry, writeEntry, setKeyEntry};
-ghost use Rattle.describe.specs.Shown.{listingCall};
+ghost use Rattle.format.specs.Listing.{listingCall};
 
 // How many entries a table of so many bytes has, at most 1,024: no header has more lines.
 fn room_of(bytes: usize) -> usize

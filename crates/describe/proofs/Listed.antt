@@ -27,7 +27,7 @@ use Rattle.format.specs.Data.{Place, nowhere, part, afterSkips, placeFrom, plac
 use Rattle.format.specs.Settings.{beginsFine, hasKey, pairText}
 use Rattle.format.specs.Calls.{formOf, readAnswer, readHeaderCall, readingOf, dataAnswer}
 use Rattle.format.specs.Writer.{decimal, spaced, nameAt}
-use Rattle.format.specs.Listing.{shown, shownRefusal, shownItem, shownKeys, shownReading, shownForm, shownPlace, shownHeader, listing}
+use Rattle.format.specs.Listing.{shown, shownRefusal, shownItem, shownKeys, shownReading, shownForm, shownPlace, shownHeader, listing, listingCall}
 use Rattle.format.proofs.Bytes.{same-refl, same-true}
 use Rattle.format.proofs.Pairs.{mark-of-pair, begins-of-pair, pair-line, escape-injective}
 use Rattle.format.proofs.Header.{header-sound}
@@ -37,7 +37,7 @@ use Rattle.header.proofs.Accepted.{items}
 use Rattle.volume.specs.Places.{IsReading}
 use Rattle.volume.proofs.Headers.{header-axes, header-sizes}
 use Rattle.printed.specs.Lines.{formText, typeText, endianText, topText, middleText, endText}
-use Rattle.describe.specs.Shown.{listingCall, markOf, isKey, isLater, shownMark, shownLines, linesFrom, Within, readingText}
+use Rattle.describe.specs.Shown.{markOf, isKey, isLater, shownMark, shownLines, linesFrom, Within, readingText}
 
 -- ---- the mark of a judged line
 

@@ -1,25 +1,16 @@
--- The call that lists a file, and its parts: the lines of keys by the lines of the header, and all lines of a reading.
+-- The parts of a listing: the lines of keys by the lines of the header, and all lines of a reading.
 use Prim.Native.Nat.{ℕ, _+_, _≤_}
 use mathlib.Core.Bool.{Bool, false, _||_}
 use mathlib.Core.List.{List, [], _∷_, _++_}
-use lib.Dec.{eqb, ltb}
+use lib.Dec.{eqb}
 use lib.ListN.{length, take, drop}
 use Rattle.format.specs.declared.Reading.{Reading}
-use Rattle.format.specs.declared.WriteAnswer.{WriteAnswer}
 use Rattle.format.specs.Bytes.{if_then_else_, same, HASH, EQUALS}
 use Rattle.format.specs.Limits.{maxHeader}
-use Rattle.format.specs.Refusals.{lentTooShort}
 use Rattle.format.specs.Lines.{Line, text, lines, unlines}
 use Rattle.format.specs.Pairs.{Marked, unmarked, fieldMark, pairMark, mark}
-use Rattle.format.specs.Calls.{writeAnswer}
-use Rattle.format.specs.Listing.{shown, listing}
+use Rattle.format.specs.Listing.{shown}
 use Rattle.printed.specs.Lines.{topText, middleText, endText}
-
--- ---- describe::listing: the answer, and the lent buffer as it returns
-
--- 22 where the buffer is too short
-abbrev pub listingCall : List ℕ → List ℕ → WriteAnswer × List ℕ
-listingCall file out = writeAnswer (if ltb (length out) (length (listing file)) then lentTooShort else 0) (listing file) out
 
 -- no listing is longer: 480 bytes for the lines of a reading, the 65,535 bytes of the longest header, and 4 more for each of its 1,024 lines
 abbrev pub maxListing : ℕ

@@ -10,9 +10,9 @@ ghost use Prim.Native.Nat.{ℕ, _≤_};
 ghost use lib.ListN.{length};
 ghost use Rattle.format.specs.declared.WriteAnswer.{WriteAnswer};
 ghost use Rattle.format.specs.Limits.{maxLines};
-ghost use Rattle.format.specs.Listing.{shownRefusal, listing};
+ghost use Rattle.format.specs.Listing.{shownRefusal, listing, listingCall};
 ghost use Rattle.printed.specs.Printed.{Printed};
-ghost use Rattle.describe.specs.Shown.{maxListing, Within, readingText, listingCall};
+ghost use Rattle.describe.specs.Shown.{maxListing, Within, readingText};
 
 // The line of a refusal.
 fn put_refusal(out: &mut [u8], refusal: Refusal) -> usize

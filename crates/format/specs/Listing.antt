@@ -1,4 +1,4 @@
--- What the listing program prints (document 01, "Trials", the listing program).
+-- What the listing program prints (document 01, "Trials", the listing program), and the call that lists a file.
 use Prim.Native.Nat.{ℕ}
 use Prim.Native.String.{String}
 use mathlib.Core.Bool.{false}
@@ -7,6 +7,7 @@ use mathlib.Core.Option.{none}
 use lib.Dec.{eqb, ltb}
 use lib.ListN.{length}
 use Rattle.format.specs.declared.Refusal.{Refusal}
+use Rattle.format.specs.declared.WriteAnswer.{WriteAnswer}
 use Rattle.format.specs.Bytes.{if_then_else_, bytes, LF, SPACE, EQUALS}
 use Rattle.format.specs.Limits.{maxListed}
 use Rattle.format.specs.Refusals.{lentTooShort, refusal}
@@ -17,6 +18,7 @@ use Rattle.format.specs.Header.{Item, magic, comment, field, pair, closi
 use Rattle.format.specs.Data.{Place, nowhere, part, placeOf}
 use Rattle.format.specs.Writer.{decimal, spaced, nameAt}
 use Rattle.format.specs.Settings.{hasKey}
+use Rattle.format.specs.Calls.{writeAnswer}
 
 -- a line of output: a word, a space, a text
 abbrev pub shown : String → List ℕ → List ℕ
@@ -75,3 +77,9 @@ shownHeader file (accepted es gs ls) =
 -- the whole output for a file on standard input
 unfoldable pub listing : List ℕ → List ℕ
 listing file = if ltb maxListed (length file) then shownRefusal (refusal lentTooShort) else shownHeader file (header file)
+
+-- ---- describe::listing: the answer, and the lent buffer as it returns
+
+-- 22 where the buffer is too short
+abbrev pub listingCall : List ℕ → List ℕ → WriteAnswer × List ℕ
+listingCall file out = writeAnswer (if ltb (length out) (length (listing file)) then lentTooShort else 0) (listing file) out
