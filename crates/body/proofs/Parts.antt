@@ -7,7 +7,7 @@ use native.Mathlib.Numerals.{add-one}
 use native.Mathlib.Omega.{arith}
 use lib.ListN.{length, getD, take, drop, length-append, length-take, drop-of-length-le, take-append-drop}
 use lib.Seq.{slice, slice-cons, length-take-le, drop-cons, drop-append-le}
-use Rattle.words.proofs.Stores.{flat-append}
+use Rattle.format.proofs.Boundary.{flat-append}
 
 -- the elements of zs from i on
 module _ {A : Type 0} (f : A → List ℕ) (zs : List A) (i : ℕ) where

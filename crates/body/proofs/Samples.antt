@@ -19,7 +19,7 @@ use Rattle.format.specs.Samples.{inType, lowest, highest, toBytes, ordered, toS
 use Rattle.format.specs.Writer.{signedDecimal, hexText, rawData, textData, dataBytes, allInType}
 use Rattle.format.proofs.Bytes.{and-left, and-right}
 use Rattle.format.proofs.Samples.{length-to-bytes, length-ordered, length-value-bytes}
-use Rattle.words.proofs.Stores.{flat-length}
+use Rattle.format.proofs.Boundary.{flat-length}
 use Rattle.store.specs.Stored.{textLine}
 use Rattle.store.proofs.Digits.{at-most-20}
 use Rattle.store.proofs.HexLaws.{hex-length}

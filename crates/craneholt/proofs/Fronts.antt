@@ -8,7 +8,7 @@ use lib.ListN.{length, take, drop}
 use lib.Seq.{take-at, length-take-le, length-front}
 use Rattle.format.specs.Bytes.{over}
 use Rattle.format.specs.Boundary.{numbersOf}
-use Rattle.words.proofs.Groups.{length-numbers}
+use Rattle.format.proofs.Boundary.{length-numbers}
 use Rattle.words.proofs.Stores.{take-least}
 
 -- of n numbers at the front of a list with room for m, as many as there are and have room, the front is that of the numbers

@@ -14,7 +14,7 @@ use Rattle.format.specs.Boundary.{entryBytes, numbersOf, numberBytes, lentNumbe
 use Rattle.format.specs.Settings.{lent, setting, setKey}
 use Rattle.format.specs.Calls.{readCall, setKeyCall}
 use Rattle.format.proofs.Samples.{AllBytes}
-use Rattle.words.proofs.Groups.{length-numbers, numbers-over, numbers-back}
+use Rattle.format.proofs.Boundary.{length-numbers, numbers-over, lent-of-numbers}
 use Rattle.format.specs.EntryPoints.{readEntry, setKeyEntry}
 use Rattle.craneholt.proofs.CutTables.{over-front, read-lines, read-whole, kept-table, set-key-whole}
 use Rattle.craneholt.proofs.Fronts.{front-lent}
@@ -73,7 +73,7 @@ module _ (table : List ℕ) (bytes : AllBytes table) where
         let w = set-key-whole buf used entries count k v r buf′ front (is ∙ ap (λ (t : List ℕ). setKeyCall buf used t count k v) same-front) in
         let p : table ≡ lentNumbers entryBytes (over front entries) table =
         sym (ap (λ (t : List ℕ). lentNumbers entryBytes (over t entries) table) (f ∙ same-front)
-        ∙ ap (λ (t : List ℕ). lentNumbers entryBytes t table) (over-front maxLines entries) ∙ numbers-back entryBytes table bytes) in
+        ∙ ap (λ (t : List ℕ). lentNumbers entryBytes t table) (over-front maxLines entries) ∙ lent-of-numbers entryBytes table bytes) in
         (λ i. (r, (buf′, p i))) ∙ ap (λ (a : SetAnswer × (List ℕ × List ℕ)). (a .0, (a .1 .0, lentNumbers entryBytes (a .1 .1) table))) w
 
     pub entry-set : (r : SetAnswer) (buf′ front rest table′ : List ℕ)

@@ -4,6 +4,7 @@ use Rattle.format.proofs.Lines.{unlines-of-lines, shape-of-lines, lines
 use Rattle.format.proofs.Pairs.{unescape-of-escape, escape-of-unescape, escape-injective, mark-of-pair, judge-of-pair, pair-key-fine, pair-value-fine}
 use Rattle.format.proofs.Header.{header-ends, data-area}
 use Rattle.format.proofs.Samples.{value-of-bytes, bytes-of-value}
+use Rattle.format.proofs.Boundary.{numbers-of-lent, lent-of-numbers, samples-of-lent, lent-of-samples, numbers-of-front}
 use Rattle.format.proofs.Writer.{number-of-decimal, value-of-decimal, hex-of-text, data-read-back}
 use Rattle.format.proofs.AtLimits.{at-limits}
 
@@ -25,6 +26,11 @@ laws =
       data-area = data-area;
       value-of-bytes = value-of-bytes;
       bytes-of-value = bytes-of-value;
+      numbers-of-lent = numbers-of-lent;
+      lent-of-numbers = lent-of-numbers;
+      samples-of-lent = samples-of-lent;
+      lent-of-samples = lent-of-samples;
+      numbers-of-front = numbers-of-front;
       number-of-decimal = number-of-decimal;
       value-of-decimal = value-of-decimal;
       hex-of-text = hex-of-text;

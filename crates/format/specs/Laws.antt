@@ -1,5 +1,5 @@
 -- The laws that make the definitions believable, as one statement: `Laws`. proofs/ proves them; the crates above use most of them.
-use Prim.Native.Nat.{ℕ, _≤_, _<_}
+use Prim.Native.Nat.{ℕ, _^_, _/_, _≤_, _<_}
 use mathlib.Core.Path.{_≡_}
 use mathlib.Core.Bool.{Bool, true, false, not}
 use mathlib.Core.List.{List, [], _∷_, _++_}
@@ -7,17 +7,18 @@ use mathlib.Core.Option.{some}
 use lib.Dec.{eqb}
 use lib.IntN.{ℤ}
 use lib.ListN.{length, drop, getD}
-use Rattle.format.specs.Bytes.{every, LF, CR}
+use Rattle.format.specs.Bytes.{every, over, LF, CR}
 use Rattle.format.specs.Limits.{maxFile}
 use Rattle.format.specs.Lines.{Line, line, lf, crlf, eof, lines, unlines, starts}
 use Rattle.format.specs.Pairs.{pairMark, mark, escape, unescape}
 use Rattle.format.specs.Fields.{Given}
-use Rattle.format.specs.Descriptors.{NumberKind, number}
+use Rattle.format.specs.Descriptors.{NumberKind, signed, number}
 use Rattle.format.specs.Header.{Entry, itemOf, linesOf, right, judge, pair, closes, accepted, header, headerLength}
 use Rattle.format.specs.Samples.{inType, sampleValue, valueBytes, hexRun, hexBytes, tokenValue, samplesOf}
 use Rattle.format.specs.Writer.{decimal, signedDecimal, hexText, dataBytes, allInType}
 use Rattle.format.specs.Settings.{keyFine, valueFine, pairText}
 use Rattle.format.specs.Trials.{AtLimits}
+use Rattle.format.specs.Boundary.{wordBytes, numbersOf, samplesLent, numberBytes, lentNumbers, lentSamples}
 
 -- ---- the line rule (document 01, "Lines and headers", the first point), said of lines instead of computed
 
@@ -44,10 +45,18 @@ pub data Shape : List Line → Type 0 where
 
 -- ---- bytes and entries
 
+-- it holds of each element
+abbrev pub Each {ℓ} : {A : Type ℓ} → (A → Type 0) → List A → Type 0
+Each p [] = Unit {0}
+Each p (a ∷ s) = p a × Each p s
+
+-- every number is below m
+abbrev pub AllBelow : ℕ → List ℕ → Type 0
+AllBelow m ns = Each (λ (n : ℕ). n < m) ns
+
 -- every number is a byte
 abbrev pub AllBytes : List ℕ → Type 0
-AllBytes [] = Unit {0}
-AllBytes (b ∷ s) = (b < 256) × AllBytes s
+AllBytes s = AllBelow 256 s
 
 -- the last entry is the closing line
 unfoldable pub closed : List Entry → Bool
@@ -79,6 +88,13 @@ pub record Laws : Type 0 where
   -- bytes of a sample and its value are inverse, over the width, for either endian
   pub value-of-bytes : (k : NumberKind) (w endian : ℕ) (z : ℤ) → 1 ≤ w → inType k w z ≡ true → sampleValue k endian (valueBytes w endian z) ≡ z
   pub bytes-of-value : (k : NumberKind) (endian : ℕ) (s : List ℕ) → AllBytes s → valueBytes (length s) endian (sampleValue k endian s) ≡ s
+  -- numbers and samples put into lent bytes are taken out as they were; bytes taken out and put in are as they were, a short rest too
+  pub numbers-of-lent : (w : ℕ) (ns s : List ℕ) → length ns ≡ length s / w → AllBelow (256 ^ w) ns → numbersOf w (lentNumbers w ns s) ≡ ns
+  pub lent-of-numbers : (w : ℕ) (s : List ℕ) → AllBytes s → lentNumbers w (numbersOf w s) s ≡ s
+  pub samples-of-lent : (zs : List ℤ) (s : List ℕ) → length zs ≡ length s / wordBytes → allInType signed wordBytes zs ≡ true → samplesLent (lentSamples zs s) ≡ zs
+  pub lent-of-samples : (s : List ℕ) → AllBytes s → lentSamples (samplesLent s) s ≡ s
+  -- numbers put in at the front only: the others are taken out as they were
+  pub numbers-of-front : (w : ℕ) (ns s : List ℕ) → length ns ≤ length s / w → AllBelow (256 ^ w) ns → numbersOf w (over (numberBytes w ns) s) ≡ over ns (numbersOf w s)
   -- decimal and hex text of a value read back as it
   pub number-of-decimal : (n : ℕ) → number (decimal n) ≡ some n
   pub value-of-decimal : (z : ℤ) → tokenValue (signedDecimal z) ≡ some z

@@ -15,7 +15,7 @@ use Rattle.format.specs.Samples.{Decoded, hexSamples, rawSamples, withoutBlanks
 use Rattle.format.proofs.Samples.{all-bytes}
 use Rattle.words.specs.Packed.{samplesOver}
 use Rattle.words.specs.Widths.{Width}
-use Rattle.words.proofs.Groups.{samples-over}
+use Rattle.format.proofs.Boundary.{samples-over}
 use Rattle.words.proofs.WidthLaws.{width-le, width-pos}
 pub use Rattle.raw.proofs.BlockLaws.{Storing, in-list, in-bytes}
 use Rattle.hex.specs.Forms.{digitsAt, digitsRefusal, bytesOf, Enough, Past, Taken, samplesAt}

@@ -13,8 +13,7 @@ use Rattle.format.specs.Boundary.{wordsOfSamples}
 use Rattle.format.specs.Descriptors.{little}
 use Rattle.format.specs.Samples.{valueBytes}
 use Rattle.format.proofs.Stores.{sets-then}
-use Rattle.words.proofs.Groups.{length-words, words-flat}
-use Rattle.words.proofs.Stores.{flat-append}
+use Rattle.format.proofs.Boundary.{flat-append, length-words, words-flat}
 
 -- ---- how elements are stored: the place of element k, and what stands there
 

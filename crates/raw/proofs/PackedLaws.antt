@@ -13,7 +13,7 @@ use Rattle.format.specs.Samples.{rawSamples, sampleValue, valueBytes, inType}
 use Rattle.format.specs.Bytes.{over}
 use Rattle.format.specs.Boundary.{samplesLent, wordsOfSamples}
 use Rattle.format.proofs.Samples.{all-bytes}
-use Rattle.words.proofs.Groups.{samples-over}
+use Rattle.format.proofs.Boundary.{samples-over}
 use Rattle.words.proofs.PackedLaws.{Packed, room-lent, packed-none, packed-more, packed-done}
 use Rattle.words.specs.Packed.{samplesOver}
 use Rattle.raw.proofs.RawLaws.{Filling, filling-none, filling-room, filling-more, filling-done, raw-few}

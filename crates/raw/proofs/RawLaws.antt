@@ -23,7 +23,7 @@ use Rattle.format.proofs.Samples.{AllBytes, all-bytes, length-to-bytes, to-from
 pub use Rattle.words.proofs.Halves.{from-append, from-one, sample-is}
 pub use Rattle.words.proofs.Stores.{sets-over}
 use Rattle.words.proofs.Halves.{to-bytes-halves, length-part}
-use Rattle.words.proofs.Groups.{bytes-take, bytes-drop}
+use Rattle.format.proofs.Boundary.{bytes-take, bytes-drop}
 use Rattle.words.proofs.WidthLaws.{by-width}
 use Rattle.raw.specs.Bits.{Bits, turned, folded, bitsAt, sampleAt}
 use Rattle.words.specs.Widths.{Width, kindBy, endianBy}

@@ -11,7 +11,7 @@ use Rattle.format.specs.Header.{header}
 use Rattle.format.specs.Boundary.{samplesLent, lentSamples}
 use Rattle.format.specs.Calls.{checkSamplesCall, seenIn}
 use Rattle.format.proofs.Samples.{all-bytes}
-use Rattle.words.proofs.Groups.{length-samples, samples-back}
+use Rattle.format.proofs.Boundary.{length-samples, lent-of-samples}
 use Rattle.words.specs.Packed.{samplesOver}
 use Rattle.format.specs.EntryPoints.{samplesEntry}
 use Rattle.samples.proofs.Parts.{list-kept, list-filled}
@@ -26,7 +26,7 @@ module _ (file second : List ℕ) (a : CountAnswer) (list : List ℕ) (e : a ≡
 
   pub bytes-kept : ((i : ℕ) → getD list i 0 < 256) → (a .refusal .number ≡ 0 → ⊥) → _≡_ {A = CountAnswer × List ℕ} (a, list) (samplesEntry file second list)
   bytes-kept f n =
-      let b : list ≡ lentSamples (samplesLent list) list = sym (samples-back list (all-bytes list f)) in
+      let b : list ≡ lentSamples (samplesLent list) list = sym (lent-of-samples list (all-bytes list f)) in
       (λ i. (a, b i)) ∙ ap held (list-kept file second a (samplesLent list) checked n)
 
   pub bytes-filled : a .refusal .number ≡ 0 → (after : List ℕ) → after ≡ samplesOver (seenIn file second (header file)) list

@@ -1,7 +1,6 @@
 pub mod Halves
 pub mod Signs
 pub mod Stores
-pub mod Groups
 pub mod PackedLaws
 pub mod WidthLaws
 pub mod TypeLaws

@@ -7,11 +7,20 @@ use mathlib.Core.List.{List}
 use lib.IntN.{ℤ}
 use lib.ListN.{length, getD, set, length-set}
 use lib.Seq.{sets, length-sets}
+use Rattle.format.specs.Bytes.{over}
 use Rattle.format.specs.Descriptors.{little}
 use Rattle.format.specs.Samples.{valueBytes}
 use Rattle.format.specs.Boundary.{samplesLent, lentSamples}
-use Rattle.format.proofs.Samples.{all-bytes}
-use Rattle.words.proofs.Groups.{length-samples, samples-back, sample-put}
+use Rattle.format.proofs.Samples.{all-bytes, length-value-bytes}
+use Rattle.format.proofs.Boundary.{length-samples, lent-of-samples, words-flat}
+use Rattle.words.proofs.Stores.{over-set}
+
+-- sample j stored anew
+pub sample-put : (zs : List ℤ) (d : List ℕ) (j : ℕ) (z : ℤ) → j < length zs → sets (lentSamples zs d) (8 * j) (valueBytes 8 little z) ≡ lentSamples (set zs j z) d
+sample-put zs d j z h =
+    ap (λ (u : List ℕ). sets (over u d) (8 * j) (valueBytes 8 little z)) (words-flat zs)
+    ∙ over-set (valueBytes 8 little) 8 (length-value-bytes 8 little) zs d j z h
+    ∙ ap (λ (u : List ℕ). over u d) (sym (words-flat (set zs j z)))
 
 module _ (d₀ : List ℕ) where
   -- d holds a list of samples of which P holds, and else what d₀ had
@@ -28,7 +37,7 @@ module _ (d₀ : List ℕ) where
 
   -- nothing is stored yet
   pub packed-none : {P : List ℤ → Type 0} → ((i : ℕ) → getD d₀ i 0 < 256) → P (samplesLent d₀) → Packed P d₀
-  packed-none f p = record { list = samplesLent d₀; held = p; few = length-samples d₀; long = refl; is = sym (samples-back d₀ (all-bytes d₀ f)) }
+  packed-none f p = record { list = samplesLent d₀; held = p; few = length-samples d₀; long = refl; is = sym (lent-of-samples d₀ (all-bytes d₀ f)) }
 
   module _ {P : List ℤ → Type 0} {d : List ℕ} (p : Packed P d) where
     -- sample k is stored

@@ -12,6 +12,7 @@ use lib.Seq.{sets, sets-eq, take-all, drop-at, length-take-le}
 use borrow.Author.Tests.{leb-true, leb-false}
 use Rattle.format.specs.Bytes.{over}
 use Rattle.format.proofs.Stores.{sets-then, take-more}
+use Rattle.format.proofs.Boundary.{flat-append, flat-length}
 
 module _ {ℓ} {A : Type ℓ} where
   -- a run past a front
@@ -57,54 +58,43 @@ module _ {ℓ} {A : Type ℓ} where
 
 -- ---- f of each element
 
-module _ {A : Type 0} (f : A → List ℕ) where
-  pub flat-append : (u v : List A) → flatMap f (u ++ v) ≡ flatMap f u ++ flatMap f v
+module _ {A : Type 0} (f : A → List ℕ) (w : ℕ) (size : (a : A) → length (f a) ≡ w) where
+  -- f of another element, stored in the place of element j
+  flat-set : (l : List A) (t : List ℕ) (j : ℕ) (a : A) → j < length l → sets (flatMap f l ++ t) (w * j) (f a) ≡ flatMap f (set l j a) ++ t
   unfolding flatMap
-  flat-append [] v = refl
-  flat-append (a ∷ u) v = rw (flat-append u v, append-assoc)
+  flat-set [] t j a h = absurd (omega arith)
+  flat-set (x ∷ l) t zero a h =
+      let r : List ℕ = flatMap f l ++ t in
+      let e : length (f a) ≡ length (f x) = size a ∙ sym (size x) in
+      ap (λ (u : List ℕ). sets u (w * 0) (f a)) (append-assoc (f x) (flatMap f l) t)
+      ∙ ap (λ (k : ℕ). sets (f x ++ r) k (f a)) (mul-zero w)
+      ∙ sets-over (f a) (f x ++ r) (omega (arith, length-append (f x) r))
+      ∙ ap (λ (u : List ℕ). f a ++ u) (drop-at (f x) r (length (f a)) (sym e))
+      ∙ sym (append-assoc (f a) (flatMap f l) t)
+  flat-set (x ∷ l) t (suc j) a h =
+      let r : List ℕ = flatMap f l ++ t in
+      let q : w * suc j ≡ length (f x) + w * j = omega (arith, mul-suc w j, size x) in
+      ap (λ (u : List ℕ). sets u (w * suc j) (f a)) (append-assoc (f x) (flatMap f l) t)
+      ∙ ap (λ (k : ℕ). sets (f x ++ r) k (f a)) q
+      ∙ sets-past (f x) r (f a) (w * j)
+      ∙ ap (λ (u : List ℕ). f x ++ u) (flat-set l t j a (omega arith))
+      ∙ sym (append-assoc (f x) (flatMap f (set l j a)) t)
 
-  module _ (w : ℕ) (size : (a : A) → length (f a) ≡ w) where
-    pub flat-length : (s : List A) → length (flatMap f s) ≡ w * length s
-    unfolding flatMap
-    flat-length [] = sym (mul-zero w)
-    flat-length (a ∷ s) = length-append (f a) (flatMap f s) ∙ omega (arith, size a, flat-length s, mul-suc w (length s))
+  pub over-set : (l : List A) (d : List ℕ) (j : ℕ) (a : A) → j < length l → sets (over (flatMap f l) d) (w * j) (f a) ≡ over (flatMap f (set l j a)) d
+  over-set l d j a h =
+      let e : length (flatMap f l) ≡ length (flatMap f (set l j a)) = flat-length f w size l ∙ ap (λ (n : ℕ). w * n) (sym (length-set l j a)) ∙ sym (flat-length f w size (set l j a)) in
+      flat-set l (drop (length (flatMap f l)) d) j a h ∙ ap (λ (n : ℕ). flatMap f (set l j a) ++ drop n d) e
 
-    -- f of another element, stored in the place of element j
-    flat-set : (l : List A) (t : List ℕ) (j : ℕ) (a : A) → j < length l → sets (flatMap f l ++ t) (w * j) (f a) ≡ flatMap f (set l j a) ++ t
-    unfolding flatMap
-    flat-set [] t j a h = absurd (omega arith)
-    flat-set (x ∷ l) t zero a h =
-        let r : List ℕ = flatMap f l ++ t in
-        let e : length (f a) ≡ length (f x) = size a ∙ sym (size x) in
-        ap (λ (u : List ℕ). sets u (w * 0) (f a)) (append-assoc (f x) (flatMap f l) t)
-        ∙ ap (λ (k : ℕ). sets (f x ++ r) k (f a)) (mul-zero w)
-        ∙ sets-over (f a) (f x ++ r) (omega (arith, length-append (f x) r))
-        ∙ ap (λ (u : List ℕ). f a ++ u) (drop-at (f x) r (length (f a)) (sym e))
-        ∙ sym (append-assoc (f a) (flatMap f l) t)
-    flat-set (x ∷ l) t (suc j) a h =
-        let r : List ℕ = flatMap f l ++ t in
-        let q : w * suc j ≡ length (f x) + w * j = omega (arith, mul-suc w j, size x) in
-        ap (λ (u : List ℕ). sets u (w * suc j) (f a)) (append-assoc (f x) (flatMap f l) t)
-        ∙ ap (λ (k : ℕ). sets (f x ++ r) k (f a)) q
-        ∙ sets-past (f x) r (f a) (w * j)
-        ∙ ap (λ (u : List ℕ). f x ++ u) (flat-set l t j a (omega arith))
-        ∙ sym (append-assoc (f x) (flatMap f (set l j a)) t)
-
-    pub over-set : (l : List A) (d : List ℕ) (j : ℕ) (a : A) → j < length l → sets (over (flatMap f l) d) (w * j) (f a) ≡ over (flatMap f (set l j a)) d
-    over-set l d j a h =
-        let e : length (flatMap f l) ≡ length (flatMap f (set l j a)) = flat-length l ∙ ap (λ (n : ℕ). w * n) (sym (length-set l j a)) ∙ sym (flat-length (set l j a)) in
-        flat-set l (drop (length (flatMap f l)) d) j a h ∙ ap (λ (n : ℕ). flatMap f (set l j a) ++ drop n d) e
-
-    -- one turn of a loop that stores f of each element of ns at the front of d
-    pub flat-more : (ns : List A) (d d′ d₀ : List ℕ) (i : ℕ) (z : A) → d ≡ over (flatMap f (take i ns)) d₀ → d′ ≡ sets d (w * i) (f (getD ns i z))
-        → i < length ns → w * i + w ≤ length d₀ → d′ ≡ over (flatMap f (take (i + 1) ns)) d₀
-    unfolding flatMap
-    flat-more ns d d′ d₀ i z e q h l =
-        let p : List ℕ = flatMap f (take i ns) in
-        let a : A = getD ns i z in
-        let k : length p ≡ w * i = flat-length (take i ns) ∙ ap (λ (m : ℕ). w * m) (length-take-le i ns (omega arith)) in
-        q
-        ∙ ap (λ (r : List ℕ). sets r (w * i) (f a)) e
-        ∙ over-then p (f a) d₀ (w * i) k (omega (arith, size a))
-        ∙ ap (λ (r : List ℕ). over r d₀)
-        (ap (λ (r : List ℕ). p ++ r) (sym (append-nil (f a))) ∙ sym (flat-append (take i ns) (a ∷ [])) ∙ ap (flatMap f) (sym (take-more ns i z h)))
+  -- one turn of a loop that stores f of each element of ns at the front of d
+  pub flat-more : (ns : List A) (d d′ d₀ : List ℕ) (i : ℕ) (z : A) → d ≡ over (flatMap f (take i ns)) d₀ → d′ ≡ sets d (w * i) (f (getD ns i z))
+      → i < length ns → w * i + w ≤ length d₀ → d′ ≡ over (flatMap f (take (i + 1) ns)) d₀
+  unfolding flatMap
+  flat-more ns d d′ d₀ i z e q h l =
+      let p : List ℕ = flatMap f (take i ns) in
+      let a : A = getD ns i z in
+      let k : length p ≡ w * i = flat-length f w size (take i ns) ∙ ap (λ (m : ℕ). w * m) (length-take-le i ns (omega arith)) in
+      q
+      ∙ ap (λ (r : List ℕ). sets r (w * i) (f a)) e
+      ∙ over-then p (f a) d₀ (w * i) k (omega (arith, size a))
+      ∙ ap (λ (r : List ℕ). over r d₀)
+      (ap (λ (r : List ℕ). p ++ r) (sym (append-nil (f a))) ∙ sym (flat-append f (take i ns) (a ∷ [])) ∙ ap (flatMap f) (sym (take-more ns i z h)))

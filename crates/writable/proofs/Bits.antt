@@ -18,7 +18,7 @@ use mir.Facts.{toZ-ofZ}
 use Rattle.format.specs.Bytes.{if_then_else_}
 use Rattle.format.specs.Samples.{fromBytes, toSigned, fromSigned, sampleValue}
 use Rattle.format.specs.Boundary.{samplesLent}
-use Rattle.words.proofs.Groups.{lent-room, sample-at}
+use Rattle.format.proofs.Boundary.{lent-room, sample-at}
 use Rattle.writable.specs.Refused.{inRange}
 
 -- a sample that is read from a list is itself

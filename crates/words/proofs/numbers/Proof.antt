@@ -8,7 +8,7 @@ use lib.ListN.{length, take, length-set}
 use Rattle.format.specs.Bytes.{over}
 use Rattle.format.specs.Boundary.{numbersOf}
 use Rattle.words.proofs.Stores.{over-more}
-use Rattle.words.proofs.Groups.{number-at, length-numbers}
+use Rattle.format.proofs.Boundary.{number-at, length-numbers}
 use borrow.Author.Needs.{needs}
 use Rattle.words.proofs.numbers.Statement.{statement}
 use Rattle.words.proofs.numbers.Tie as tie

@@ -10,7 +10,7 @@ use Rattle.format.specs.Bytes.{over}
 use Rattle.format.specs.Samples.{toBytes}
 use Rattle.format.proofs.Samples.{length-to-bytes}
 use Rattle.words.proofs.Stores.{flat-more, take-least}
-use Rattle.words.proofs.Groups.{number-bytes-flat}
+use Rattle.format.proofs.Boundary.{number-bytes-flat}
 use borrow.Author.Needs.{needs}
 use Rattle.words.proofs.put_entries.Statement.{statement}
 use Rattle.words.proofs.put_entries.Tie as tie

@@ -7,7 +7,7 @@ use denote.Ref.{now}
 use lib.ListN.{length, take}
 use lib.Seq.{length-take-le}
 use Rattle.format.specs.Boundary.{numbersOf, samplesLent}
-use Rattle.words.proofs.Groups.{length-numbers}
+use Rattle.format.proofs.Boundary.{length-numbers}
 use Rattle.writable.specs.Refused.{chosen}
 use Rattle.writer.proofs.Whole.{put-front, first-sizes}
 use Rattle.writer.proofs.write_bytes.Statement.{statement}

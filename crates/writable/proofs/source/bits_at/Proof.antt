@@ -6,7 +6,7 @@ use denote.Ref.{now}
 use lib.IntN.{pos}
 use lib.ListN.{getD}
 use Rattle.format.specs.Samples.{fromBytes, toSigned, fromSigned}
-use Rattle.words.proofs.Groups.{lent-room, length-samples}
+use Rattle.format.proofs.Boundary.{lent-room, length-samples}
 use Rattle.writable.specs.Refused.{chosen}
 use Rattle.writable.proofs.Bits.{read-back, signed-back, word-sample}
 use Rattle.writable.proofs.source.bits_at.Statement.{statement}

@@ -1,7 +1,7 @@
 -- `writable::source::count` meets its contract. Assumes nothing.
 use mathlib.Core.Path.{sym}
 use denote.Ref.{now}
-use Rattle.words.proofs.Groups.{length-samples}
+use Rattle.format.proofs.Boundary.{length-samples}
 use Rattle.writable.specs.Refused.{chosen}
 use Rattle.writable.proofs.source.count.Statement.{statement}
 use Rattle.writable.proofs.source.count.Tie as tie
