@@ -31,8 +31,8 @@ use Rattle.format.specs.Listing.{shown, shownRefusal, shownItem, shownKeys, sho
 use Rattle.format.proofs.Bytes.{same-refl, same-true}
 use Rattle.format.proofs.Pairs.{mark-of-pair, begins-of-pair, pair-line, escape-injective}
 use Rattle.format.proofs.Header.{header-sound}
+use Rattle.format.proofs.Numbered.{NumberedOutcome, header-numbered}
 use Rattle.header.specs.Accepted.{IsItem, Items}
-use Rattle.header.proofs.Numbered.{NumberedOutcome, header-numbered}
 use Rattle.header.proofs.Accepted.{items}
 use Rattle.volume.specs.Places.{IsReading}
 use Rattle.volume.proofs.Headers.{header-axes, header-sizes}

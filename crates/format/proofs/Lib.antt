@@ -3,6 +3,7 @@ pub mod Stores
 pub mod Lines
 pub mod Pairs
 pub mod Header
+pub mod Numbered
 pub mod Samples
 pub mod Boundary
 pub mod Writer

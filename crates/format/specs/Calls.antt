@@ -30,7 +30,7 @@ use Rattle.format.specs.Data.{Place, nowhere, part, placeOf, partOf}
 use Rattle.format.specs.Samples.{Decoded, samplesOf}
 use Rattle.format.specs.Axes.{inside, sampleNumber}
 use Rattle.format.specs.Writer.{fileBytes, writeRefusal}
-use Rattle.format.specs.Settings.{lent, setting, SetOutcome, kept, changed, setKey, hasKey}
+use Rattle.format.specs.Settings.{Lent, lent, Setting, setting, SetOutcome, kept, changed, setKey, hasKey}
 
 -- ---- header::read_header: the reading without the table
 
@@ -255,3 +255,29 @@ setAnswer buf used table count (changed (lent buf′ used′ table′ count′))
 
 abbrev pub setKeyCall : List ℕ → ℕ → List ℕ → ℕ → List ℕ → List ℕ → SetAnswer × (List ℕ × List ℕ)
 setKeyCall buf used table count k v = setAnswer buf used table count (setKey (lent buf used table count) (setting k v))
+
+-- ---- lists of settings (document 01, "Lists of settings"): each setting is lent what the one before it left
+
+-- a call that sets a key: buffer, used length, table, count, key, value
+abbrev pub SetCall : Type 0
+SetCall = List ℕ → ℕ → List ℕ → ℕ → List ℕ → List ℕ → SetAnswer × (List ℕ × List ℕ)
+
+-- a call on what is lent
+abbrev pub callOn : SetCall → Lent → Setting → SetAnswer × (List ℕ × List ℕ)
+callOn call (lent buf used table count) (setting k v) = call buf used table count k v
+
+-- what a call left, with the length and the count that it answered
+abbrev pub left : SetAnswer × (List ℕ × List ℕ) → Lent
+left a = lent (a .1 .0) (a .0 .length) (a .1 .1) (a .0 .count)
+
+-- the settings accepted so far, the last of them first; the number 0 says that nothing is refused
+abbrev pub recorded : SetAnswer → Setting → List Setting → List Setting
+recorded a s done = if eqb (a .refusal .number) 0 then s ∷ done else done
+
+-- what is lent after the list, and the settings accepted; `done` were accepted before
+unfoldable pub setKeysBy : SetCall → List Setting → Lent → List Setting → Lent × List Setting
+setKeysBy call [] l done = (l, done)
+setKeysBy call (s ∷ ss) l done = let a = callOn call l s in setKeysBy call ss (left a) (recorded (a .0) s done)
+
+abbrev pub setKeys : List Setting → Lent → List Setting → Lent × List Setting
+setKeys = setKeysBy setKeyCall

@@ -1,4 +1,4 @@
--- Setting a key, and lists of settings (document 01, "Setting a key", "Lists of settings").
+-- Setting a key (document 01, "Setting a key"); lists of settings are in Calls.antt.
 -- A setting's refusals in order: 22 (the used length), the reading's, 8, 24, 25, 26, and of the new file 3, 4, 1, 22.
 use Prim.Native.Nat.{ℕ, _-_, max}
 use mathlib.Core.Bool.{Bool, true, false, not, _&&_, _||_}
@@ -112,18 +112,3 @@ unfoldable pub setKey : Lent → Setting → SetOutcome
 setKey (lent buf used table count) (setting k v) =
     if ltb (length buf) used then kept (refusal lentTooShort)
     else setRead buf used table count k v (header (take used buf))
-
--- ---- a list of settings, each lent what the one before it left
-
-abbrev pub leaves : SetOutcome → Lent → Lent
-leaves (kept r) l = l
-leaves (changed l) old = l
-
-abbrev pub recorded : SetOutcome → Setting → List Setting → List Setting
-recorded (kept r) s done = done
-recorded (changed l) s done = s ∷ done
-
--- what is lent after the list, and the settings accepted, the last of them first; `done` were accepted before
-unfoldable pub setKeys : List Setting → Lent → List Setting → Lent × List Setting
-setKeys [] l done = (l, done)
-setKeys (s ∷ ss) l done = setKeys ss (leaves (setKey l s) l) (recorded (setKey l s) s done)

@@ -15,9 +15,9 @@ use Rattle.format.specs.Fields.{Given}
 use Rattle.format.specs.Header.{Entry, lineOf, linesOf, Outcome, refused, accepted, header, tableOf}
 use Rattle.format.specs.Calls.{readingOf, readAnswer, readHeaderCall, withTable, readCall}
 use Rattle.format.proofs.Header.{header-sound}
+use Rattle.format.proofs.Numbered.{NumberedOutcome, header-numbered}
 use Rattle.header.specs.Tables.{Tabled, startsOf}
 use Rattle.header.specs.Accepted.{Headed}
-use Rattle.header.proofs.Numbered.{NumberedOutcome, header-numbered}
 use Rattle.header.proofs.Turns.{refusedAt}
 
 -- the first lines of a file with an accepted header

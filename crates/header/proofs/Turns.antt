@@ -19,12 +19,12 @@ use Rattle.format.specs.Descriptors.{hasNeeded, extentOf, isDetached}
 use Rattle.format.specs.Header.{Item, entry, Judged, wrong, right, judge, Outcome, refused, accepted, withEntry, closes, afterItem, complete, onJudged, walk, headerLength}
 use Rattle.format.specs.Calls.{noReading, readAnswer}
 use Rattle.format.proofs.Lines.{lines-none, length-unlines-cons}
+use Rattle.format.proofs.Numbered.{Numbered, judge-numbered}
 use Rattle.fields.specs.declared.state.State.{State}
 use Rattle.fields.specs.declared.state.Step.{Step}
 use Rattle.fields.specs.States.{flags, stateOf, Kept, Holds, stepOf, readingAt, completeNumber, finished, answerFrom}
 use Rattle.header.specs.Spans.{LineAt, PastAt}
 use Rattle.fields.proofs.States.{kept-none, kept-next}
-use Rattle.header.proofs.Numbered.{Numbered, judge-numbered}
 
 -- ---- answers
 

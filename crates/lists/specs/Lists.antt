@@ -1,20 +1,21 @@
 -- What every list of settings does (demand 3; document 01, "Lists of settings"), as one statement: `SettingsHold`.
--- It speaks of `setKeys` and `setKey`, the definitions that the setter's contract cites.
+-- It speaks of `setKeyCall`, the definition that the setter's contract cites, and of `setKeys`, which is that call again and again.
 use Prim.Native.Nat.{ℕ, _≤_}
 use mathlib.Core.Path.{_≡_}
 use mathlib.Core.Bool.{Bool, true, false, not, _||_}
 use mathlib.Core.List.{List, [], _∷_, _++_}
 use mathlib.Core.Option.{Option, none, some}
-use lib.Dec.{ltb}
+use lib.Dec.{eqb, ltb}
 use lib.ListN.{length, take, drop}
 use Rattle.format.specs.declared.Refusal.{Refusal}
-use Rattle.format.specs.Bytes.{if_then_else_, same, orElse}
+use Rattle.format.specs.Bytes.{if_then_else_, same, isSome, orElse, orDefault}
 use Rattle.format.specs.Limits.{maxFile, maxHeader, maxLines}
-use Rattle.format.specs.Refusals.{fileTooLong, headerTooLong, tooManyLines, notInVersion, lentTooShort, badKey, badValue, wrongTable, refusal}
+use Rattle.format.specs.Refusals.{fileTooLong, headerTooLong, tooManyLines, notInVersion, lentTooShort, badKey, badValue, wrongTable, refusal, fine}
 use Rattle.format.specs.Lines.{Line, line, Ending, ending, unlines}
 use Rattle.format.specs.Fields.{Given, pairsSince}
 use Rattle.format.specs.Header.{Item, magic, comment, field, pair, closing, Entry, entry, linesOf, Outcome, refused, accepted, header, versionOf, valueOf, tableOf, headerLength}
-use Rattle.format.specs.Settings.{keyFine, valueFine, pairText, hasKey, newLines, tableFine, Lent, lent, Setting, setting, SetOutcome, kept, changed, setKey, setKeys}
+use Rattle.format.specs.Settings.{keyFine, valueFine, pairText, hasKey, newLines, tableFine, Lent, lent, Setting, setting}
+use Rattle.format.specs.Calls.{setKeyCall, callOn, left, setKeys}
 
 -- ---- parts of what is lent
 
@@ -132,10 +133,6 @@ abbrev pub setCases : Lent → Setting → List Case
 setCases (lent buf used table count) (setting k v) =
     (ltb (length buf) used, refusal lentTooShort) ∷ readCases buf table count k v (header (take used buf))
 
-abbrev pub refusalOf : SetOutcome → Option Refusal
-refusalOf (kept r) = some r
-refusalOf (changed l) = none
-
 -- ---- the statement
 
 pub record SettingsHold : Type 0 where
@@ -145,4 +142,8 @@ pub record SettingsHold : Type 0 where
       → (ss : List Setting)
       → let after = setKeys ss (lent buf used table (length es)) [] in Settled (take used buf) es gs ls (after .0) (after .1)
   -- of any single setting: the refusal is the first case that holds, none if no case does
-  pub cases : (l : Lent) (s : Setting) → refusalOf (setKey l s) ≡ firstCase (setCases l s)
+  pub cases : (l : Lent) (s : Setting) → callOn setKeyCall l s .0 .refusal ≡ orDefault fine (firstCase (setCases l s))
+  -- it is accepted, which the number 0 says, exactly when no case holds
+  pub taken : (l : Lent) (s : Setting) → eqb (callOn setKeyCall l s .0 .refusal .number) 0 ≡ not (isSome (firstCase (setCases l s)))
+  -- a refused one leaves all that it was lent as it was
+  pub kept : (l : Lent) (s : Setting) → eqb (callOn setKeyCall l s .0 .refusal .number) 0 ≡ false → left (callOn setKeyCall l s) ≡ l

@@ -20,9 +20,9 @@ use Rattle.format.specs.Settings.{keyFine, valueFine, pairText, newLines, table
 use Rattle.format.specs.Calls.{readAnswer, readHeaderCall, readingOf}
 use Rattle.format.proofs.Lines.{length-starts}
 use Rattle.format.proofs.Header.{header-sound}
+use Rattle.format.proofs.Numbered.{NumberedOutcome, header-numbered}
 use Rattle.header.specs.Accepted.{Headed}
 use Rattle.header.proofs.Accepted.{was-refused, was-accepted}
-use Rattle.header.proofs.Numbered.{NumberedOutcome, header-numbered}
 use Rattle.splice.specs.Edited.{edited}
 use Rattle.splice.proofs.Held.{length-edited}
 use Rattle.settings.specs.declared.place.Place.{Place}

@@ -17,7 +17,7 @@ use Rattle.format.specs.Header.{Outcome, refused, accepted, header}
 use Rattle.format.specs.Axes.{inside, sampleNumber}
 use Rattle.format.specs.Calls.{readingOf, readAnswer, readHeaderCall, numberAnswer, sampleNumberCall}
 use Rattle.format.proofs.Bytes.{and-left, and-right}
-use Rattle.header.proofs.Numbered.{NumberedOutcome, header-numbered}
+use Rattle.format.proofs.Numbered.{NumberedOutcome, header-numbered}
 use Rattle.text.proofs.Places.{drop-next}
 use Rattle.volume.specs.Places.{Inside, noNumber, numberIn}
 use Rattle.volume.proofs.Headers.{header-axes, header-sizes, header-product}
