@@ -229,21 +229,9 @@ groups-below w (suc n) s h p =
     let r : w * n ≤ length (drop w s) = omega (arith, length-drop w s) in
     (rw l at (from-bytes-below (take w s) (bytes-take w s p)), groups-below w n (drop w s) r (bytes-drop w s p))
 
--- numbers put into lent bytes are taken out as they were
-module _ (w : ℕ) (ns s : List ℕ) where
-  pub numbers-of-front : length ns ≤ length s / w → AllBelow (256 ^ w) ns → numbersOf w (over (numberBytes w ns) s) ≡ over ns (numbersOf w s)
-  numbers-of-front h p =
-      ap (λ (u : List ℕ). numbersOf w (over u s)) (number-bytes-flat w ns)
-      ∙ lent-over fromBytes w (toBytes w) (length-to-bytes w) (λ n. n < 256 ^ w) (from-to-bytes w) ns s h p
-
-  pub numbers-of-lent : length ns ≡ length s / w → AllBelow (256 ^ w) ns → numbersOf w (lentNumbers w ns s) ≡ ns
-  numbers-of-lent h p =
-      ap (λ (u : List ℕ). numbersOf w (over u s)) (number-bytes-flat w ns)
-      ∙ lent-all fromBytes w (toBytes w) (length-to-bytes w) (λ n. n < 256 ^ w) (from-to-bytes w) ns s h p
-
 module _ (w : ℕ) (s : List ℕ) where
   pub length-numbers : length (numbersOf w s) ≡ length s / w
-  length-numbers = length-lent fromBytes w s
+  length-numbers = length-lent _ w s
 
   bytes-back : (g : List ℕ) → AllBytes g → length g ≡ w → toBytes w (fromBytes g) ≡ g
   bytes-back g q l = ap (λ (j : ℕ). toBytes j (fromBytes g)) (sym l) ∙ to-from-bytes g q
@@ -271,6 +259,18 @@ module _ (w : ℕ) (s : List ℕ) where
     unfolding numberBytes
     lent-of-numbers = numbers-over [] (omega arith)
 
+-- numbers put into lent bytes are taken out as they were
+module _ (w : ℕ) (ns s : List ℕ) where
+  pub numbers-of-front : length ns ≤ length s / w → AllBelow (256 ^ w) ns → numbersOf w (over (numberBytes w ns) s) ≡ over ns (numbersOf w s)
+  numbers-of-front h p =
+      ap (λ (u : List ℕ). numbersOf w (over u s)) (number-bytes-flat w ns)
+      ∙ lent-over fromBytes w (toBytes w) (length-to-bytes w) (λ n. n < 256 ^ w) (from-to-bytes w) ns s h p
+
+  pub numbers-of-lent : length ns ≡ length s / w → AllBelow (256 ^ w) ns → numbersOf w (lentNumbers w ns s) ≡ ns
+  numbers-of-lent h p =
+      ap (λ (u : List ℕ). numbersOf w (over u s)) (number-bytes-flat w ns)
+      ∙ lent-all fromBytes w (toBytes w) (length-to-bytes w) (λ n. n < 256 ^ w) (from-to-bytes w) ns s h p
+
 -- ---- samples
 
 pub words-flat : (zs : List ℤ) → wordsOfSamples zs ≡ flatMap (valueBytes 8 little) zs
@@ -294,7 +294,7 @@ samples-of-lent zs s h e =
 
 module _ (s : List ℕ) where
   pub length-samples : length (samplesLent s) ≡ length s / 8
-  length-samples = length-lent (sampleValue signed little) 8 s
+  length-samples = length-lent _ 8 s
 
   sample-back : (g : List ℕ) → AllBytes g → length g ≡ 8 → valueBytes 8 little (sampleValue signed little g) ≡ g
   sample-back g q l = ap (λ (j : ℕ). valueBytes j little (sampleValue signed little g)) (sym l) ∙ bytes-of-value signed little g q

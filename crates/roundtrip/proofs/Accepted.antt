@@ -68,8 +68,9 @@ module _ (version : ℕ) (sizes : List ℕ) (t e endian : ℕ) where
         no-zero = not-true (isIn 0 sizes) (and-right axes _ h₄);
       }
 
-  -- what is written where nothing is refused
-  pub accepted-is : (zs : List ℤ) (room : ℕ) → writeRefusal version sizes t e endian zs room ≡ 0 → Accepted version sizes t e endian zs
+  -- what is written where nothing is refused, and that it has room
+  pub accepted-is : (zs : List ℤ) (room : ℕ) → writeRefusal version sizes t e endian zs room ≡ 0
+      → Accepted version sizes t e endian zs × (length (fileBytes version sizes t e endian zs) ≤ room)
   unfolding writeRefusal
   accepted-is zs room h =
       let file = fileBytes version sizes t e endian zs in
@@ -80,15 +81,18 @@ module _ (version : ℕ) (sizes : List ℕ) (t e endian : ℕ) where
       let r₄ = no-refusal (not (eqb (length zs) (product sizes))) _ _ (omega arith) (r₃ .1) in
       let r₅ = no-refusal (not fine) _ _ (omega arith) (r₄ .1) in
       let r₆ = no-refusal (ltb maxFile (length file)) _ _ (omega arith) (r₅ .1) in
+      let r₇ = no-refusal (ltb room (length file)) _ _ (omega arith) (r₆ .1) in
       let w = writable-is (not-false (writable version sizes t e endian) (r₁ .0)) in
       let small : extent sizes t ≤ maxExtent = ltb-false maxExtent (extent sizes t) (r₂ .0) in
-      let below : product sizes ≤ extent sizes t = le-mul-of-pos-right (product sizes) (sample-bytes t (w .type-in)) in
-      record {
-        numbers = w;
-        sizes-in = sizes-fine sizes (w .no-zero) (omega arith);
-        extent-small = small;
-        integers = r₃ .0;
-        count = eqb-true (length zs) (product sizes) (not-false (eqb (length zs) (product sizes)) (r₄ .0));
-        in-type = not-false fine (r₅ .0);
-        file-small = ltb-false maxFile (length file) (r₆ .0);
-      }
+      let below : product sizes ≤ extent sizes t = le-mul-of-pos-right (product sizes) (sample-bytes t (w .type-in)) in (
+        record {
+          numbers = w;
+          sizes-in = sizes-fine sizes (w .no-zero) (omega arith);
+          extent-small = small;
+          integers = r₃ .0;
+          count = eqb-true (length zs) (product sizes) (not-false (eqb (length zs) (product sizes)) (r₄ .0));
+          in-type = not-false fine (r₅ .0);
+          file-small = ltb-false maxFile (length file) (r₆ .0);
+        },
+        ltb-false room (length file) (r₇ .0),
+      )

@@ -134,4 +134,4 @@ module _ (version : ℕ) (ns : List ℕ) (t e n : ℕ) (zs : List ℤ) (a : Acce
 -- whatever the writer accepts is read back
 pub round-trips : RoundTrips
 round-trips version sizes t e endian zs room h =
-    reads-back version sizes t e endian zs (accepted-is version sizes t e endian zs room h) (endianNeeded t e) refl
+    reads-back version sizes t e endian zs (accepted-is version sizes t e endian zs room h .0) (endianNeeded t e) refl

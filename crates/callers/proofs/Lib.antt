@@ -1,0 +1,4 @@
+pub mod Refused
+pub mod Written
+pub mod Carried
+pub mod Callers
