@@ -1,14 +1,14 @@
 -- The listing of a file: what the lines of its header show are its keys, and each way to its end prints what the definition says.
 -- Assumes nothing.
-use Prim.Native.Nat.{ℕ, _+_, _^_, _-_, _≤_, _<_}
+use Prim.Native.Nat.{ℕ, _≤_, _<_}
 use native.Mathlib.Nat.{zero-add}
 use native.Mathlib.Omega.{arith}
 use mathlib.Core.Path.{_≡_, refl, sym, ap, _∙_, subst}
-use mathlib.Core.Bool.{Bool, true, false, not, _&&_, _||_, false≢true}
+use mathlib.Core.Bool.{Bool, true, false, not, _||_, false≢true}
 use mathlib.Core.List.{List, [], _∷_, _++_, append-assoc}
 use mathlib.Core.Option.{Option, none, some}
-use lib.Dec.{eqb, ltb, leb}
-use lib.ListN.{length, take, drop, length-append, length-map}
+use lib.Dec.{eqb, ltb}
+use lib.ListN.{length, take, length-append, length-map}
 use lib.Seq.{sets, sets-eq, take-at}
 use borrow.Author.Tests.{lt-ltb, le-ltb, not-true}
 use Rattle.format.specs.declared.Reading.{Reading}
@@ -16,14 +16,14 @@ use Rattle.format.specs.declared.ReadAnswer.{ReadAnswer}
 use Rattle.format.specs.declared.DataAnswer.{DataAnswer}
 use Rattle.format.specs.declared.WriteAnswer.{WriteAnswer}
 use Rattle.format.specs.Bytes.{if_then_else_, bytes, every, same, isSome, orElse, HASH}
-use Rattle.format.specs.Limits.{maxLines, maxListed, maxFile}
-use Rattle.format.specs.Refusals.{lentTooShort, badByte, notInVersion, fileTooLong, floatSamples, placeTooLarge, dataTooShort, refusal, fine}
+use Rattle.format.specs.Limits.{maxLines, maxListed}
+use Rattle.format.specs.Refusals.{lentTooShort, badByte, notInVersion, refusal, fine}
 use Rattle.format.specs.Lines.{Line, line, lf, crlf, eof, text}
 use Rattle.format.specs.Pairs.{plain, Marked, unmarked, fieldMark, pairMark, mark, escape, unescape}
 use Rattle.format.specs.Fields.{Given, pairsSince}
-use Rattle.format.specs.Descriptors.{isDetached, encodings, encodingOf, endianOf, typeOf, numberKind, isFloating, extentOf, raw, sizesOf}
+use Rattle.format.specs.Descriptors.{isDetached, encodings, encodingOf, endianOf, typeOf, extentOf, sizesOf}
 use Rattle.format.specs.Header.{Item, magic, comment, field, pair, closing, Entry, entry, lineOf, linesOf, magicVersion, versionOfLine, Judged, wrong, right, unescaped, onPair, onMark, judge, Outcome, refused, accepted, header, versionOf, valueIn, valueOf, headerLength}
-use Rattle.format.specs.Data.{Place, nowhere, part, afterSkips, placeFrom, placeOf}
+use Rattle.format.specs.Data.{Place, nowhere, part, placeOf}
 use Rattle.format.specs.Settings.{beginsFine, hasKey, pairText}
 use Rattle.format.specs.Calls.{formOf, readAnswer, readHeaderCall, readingOf, dataAnswer}
 use Rattle.format.specs.Writer.{decimal, spaced, nameAt}
@@ -32,6 +32,7 @@ use Rattle.format.proofs.Bytes.{same-refl, same-true}
 use Rattle.format.proofs.Pairs.{mark-of-pair, begins-of-pair, pair-line, escape-injective}
 use Rattle.format.proofs.Header.{header-sound}
 use Rattle.format.proofs.Numbered.{NumberedOutcome, header-numbered}
+use Rattle.format.proofs.Places.{NumberedPlace, place-numbered}
 use Rattle.header.specs.Accepted.{IsItem, Items}
 use Rattle.header.proofs.Accepted.{items}
 use Rattle.volume.specs.Places.{IsReading}
@@ -251,41 +252,6 @@ module _ {file : List ℕ} {x : Reading} {es : List Entry} {gs : List Given} (w 
       (regroup (shown "version" (decimal (versionOf es))) (shown "form" (shownForm gs)) (shown "type" (typeText (typeOf gs)))
       (shown "sizes" (spaced (sizesOf gs))) (shown "encoding" (nameAt encodings (encodingOf gs))) (shown "endian" (endianText (endianOf gs)))
       (shown "start" (decimal start)) (shown "extent" (decimal (extentOf gs))) (shownKeys es))
-
--- ---- the place of the data
-
--- no refusal has the number 0
-abbrev NumberedPlace : Place → Type 0
-NumberedPlace (nowhere n) = 0 < n
-NumberedPlace (part s start n) = Unit {0}
-
-module _ (gs : List Given) where
-  from-numbered : (s : Bool) (whole : ℕ) (o : Option (List ℕ)) → NumberedPlace (placeFrom gs s whole o)
-  from-numbered s whole none = omega arith
-  from-numbered s whole (some left) =
-      go (leb (2 ^ 64) (whole - length left + extentOf gs)) (eqb (encodingOf gs) raw && ltb (length left) (extentOf gs))
-    where
-      go : (a b : Bool)
-          → NumberedPlace
-          (if a then nowhere placeTooLarge else if b then nowhere dataTooShort
-          else part s (whole - length left) (if eqb (encodingOf gs) raw then extentOf gs else length left))
-      go true b = omega arith
-      go false true = omega arith
-      go false false = tt
-
-  place-numbered : (wanted : Bool) (h : ℕ) (file second : List ℕ) → NumberedPlace (placeOf wanted gs h file second)
-  unfolding placeOf
-  place-numbered wanted h file second =
-      go (isDetached gs && ltb maxFile (length second)) (wanted && isFloating (numberKind (typeOf gs))) (isDetached gs)
-    where
-      go : (a b c : Bool)
-          → NumberedPlace
-          (if a then nowhere fileTooLong else if b then nowhere floatSamples
-          else if c then placeFrom gs true (length second) (afterSkips gs second) else placeFrom gs false (length file) (afterSkips gs (drop h file)))
-      go true b c = omega arith
-      go false true c = omega arith
-      go false false true = from-numbered true (length second) (afterSkips gs second)
-      go false false false = from-numbered false (length file) (afterSkips gs (drop h file))
 
 -- ---- each way to the end
 

@@ -4,6 +4,7 @@ pub mod Lines
 pub mod Pairs
 pub mod Header
 pub mod Numbered
+pub mod Places
 pub mod Samples
 pub mod Boundary
 pub mod Writer

@@ -1,3 +1,4 @@
 pub mod Entries
+pub mod Data
 pub mod Settled
 pub mod Lists

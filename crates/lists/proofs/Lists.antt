@@ -1,7 +1,7 @@
 -- One setting, a list of settings, and the cases of refusal: the statement of specs/Lists.antt.
 -- Assumes nothing.
 use mathlib.Core.Path.{_≡_, refl, sym, ap, _∙_}
-use Prim.Native.Nat.{ℕ, _≤_, _<_}
+use Prim.Native.Nat.{ℕ, _≤_}
 use native.Mathlib.Omega.{arith}
 use mathlib.Core.Bool.{Bool, true, false, not, _||_, false≢true}
 use mathlib.Core.List.{List, [], _∷_, _++_}
@@ -9,7 +9,7 @@ use mathlib.Core.Option.{Option, none, some}
 use lib.Dec.{eqb, ltb}
 use lib.ListN.{length, take, length-append, length-map}
 use lib.Seq.{take-append-seam, take-at}
-use borrow.Author.Tests.{ltb-false, le-ltb, lt-ltb, not-false, ne-eqb}
+use borrow.Author.Tests.{ltb-false, le-ltb, not-false, ne-eqb}
 use Rattle.format.specs.declared.Refusal.{Refusal}
 use Rattle.format.specs.Bytes.{if_then_else_, isSome, orElse, orDefault, over}
 use Rattle.format.specs.Limits.{maxFile, maxHeader, maxLines}
@@ -18,12 +18,13 @@ use Rattle.format.specs.Lines.{Line, ending, unlines, starts}
 use Rattle.format.specs.Fields.{Given, pairsSince}
 use Rattle.format.specs.Header.{magic, Entry, entry, lineOf, linesOf, Outcome, refused, accepted, header, versionOf, valueOf, tableOf, headerLength}
 use Rattle.format.specs.Settings.{keyFine, valueFine, refilled, tableFine, Lent, lent, Setting, setting, SetOutcome, kept, changed, store, setRead, setKey}
-use Rattle.format.specs.Calls.{setAnswer, setKeyCall, callOn, left, recorded, setKeysBy, setKeys}
+use Rattle.format.specs.Calls.{readingOf, withTable, setAnswer, setKeyCall, callOn, left, recorded, setKeysBy, setKeys}
 use Rattle.format.proofs.Lines.{length-starts}
 use Rattle.format.proofs.Header.{header-sound, data-area}
 use Rattle.format.proofs.Numbered.{NumberedOutcome, header-numbered}
 use Rattle.lists.specs.Lists.{bufferOf, usedOf, tableIn, countIn, fileIn, lastAccepted, Settled, Case, firstCase, readCases, setCases, SettingsHold}
 use Rattle.lists.proofs.Entries.{putEntries, lines-put, header-put}
+use Rattle.lists.proofs.Data.{place-moved, place-past, same-data, same-samples}
 use Rattle.lists.proofs.Settled.{afterList, put-after-list, after-list-nil, lines-after-list, value-after-list}
 
 -- ---- what is lent
@@ -190,17 +191,23 @@ module _ (l : Line) (n : ℕ) (gs : List Given) (ls : List Line) where
   -- what is lent after the accepted settings `done` is as stated
   settled-is : (first : List ℕ) (x : Lent) (done : List Setting) (es : List Entry) → header first ≡ accepted (entry l (magic n) ∷ es) gs ls
       → Reads x (entry l (magic n) ∷ afterList done (ending l) es) gs ls → Settled first (entry l (magic n) ∷ es) gs ls x done
-  unfolding valueOf
+  unfolding valueOf readingOf withTable
   settled-is first x done es e g =
       record {
         entries = entry l (magic n) ∷ afterList done (ending l) es;
         reading = g .reading;
         version = refl;
         values = λ k. rw (value-after-list done (ending l) es k) (or-none (lastAccepted k done) (valueOf k es));
+        numbers = rw (g .reading, e);
         count = g .count;
         table = g .table;
+        fresh = λ own h. rw (g .reading, le-ltb (length own) _ h, g .table);
         lines = lines-after-list done l (magic n) es;
         rest = data-area (fileIn x) (g .reading) ∙ sym (data-area first e);
+        place = place-moved first (fileIn x) e (g .reading);
+        past = place-past first e;
+        bytes = same-data first (fileIn x) e (g .reading);
+        samples = same-samples first (fileIn x) e (g .reading);
         fits = g .fits;
       }
     where

@@ -1,21 +1,24 @@
 -- What every list of settings does (demand 3; document 01, "Lists of settings"), as one statement: `SettingsHold`.
 -- It speaks of `setKeyCall`, the definition that the setter's contract cites, and of `setKeys`, which is that call again and again.
-use Prim.Native.Nat.{ℕ, _≤_}
+use Prim.Native.Nat.{ℕ, _+_, _-_, _≤_, max}
 use mathlib.Core.Path.{_≡_}
-use mathlib.Core.Bool.{Bool, true, false, not, _||_}
+use mathlib.Core.Bool.{Bool, true, false, not, _&&_, _||_}
 use mathlib.Core.List.{List, [], _∷_, _++_}
 use mathlib.Core.Option.{Option, none, some}
 use lib.Dec.{eqb, ltb}
-use lib.ListN.{length, take, drop}
+use lib.IntN.{ℤ}
+use lib.ListN.{length, take, drop, replicate}
 use Rattle.format.specs.declared.Refusal.{Refusal}
-use Rattle.format.specs.Bytes.{if_then_else_, same, isSome, orElse, orDefault}
+use Rattle.format.specs.declared.Reading.{Reading}
+use Rattle.format.specs.declared.DataAnswer.{DataAnswer}
+use Rattle.format.specs.Bytes.{if_then_else_, same, isSome, orElse, orDefault, over}
 use Rattle.format.specs.Limits.{maxFile, maxHeader, maxLines}
 use Rattle.format.specs.Refusals.{fileTooLong, headerTooLong, tooManyLines, notInVersion, lentTooShort, badKey, badValue, wrongTable, refusal, fine}
 use Rattle.format.specs.Lines.{Line, line, Ending, ending, unlines}
 use Rattle.format.specs.Fields.{Given, pairsSince}
 use Rattle.format.specs.Header.{Item, magic, comment, field, pair, closing, Entry, entry, linesOf, Outcome, refused, accepted, header, versionOf, valueOf, tableOf, headerLength}
 use Rattle.format.specs.Settings.{keyFine, valueFine, pairText, hasKey, newLines, tableFine, Lent, lent, Setting, setting}
-use Rattle.format.specs.Calls.{setKeyCall, callOn, left, setKeys}
+use Rattle.format.specs.Calls.{readHeaderCall, readCall, dataPlaceCall, dataCall, samplesCall, setKeyCall, callOn, left, setKeys}
 
 -- ---- parts of what is lent
 
@@ -80,6 +83,34 @@ settled done (entry l i ∷ es) = l ∷ (insertedLines done (ending l) (newKeys 
 
 -- ---- what holds after a list
 
+-- the numbers of a reading, with another length and another count of lines
+abbrev pub resized : ℕ → ℕ → Reading → Reading
+resized n k r =
+    record {
+      version = r .version;
+      form = r .form;
+      dimension = r .dimension;
+      sampletype = r .sampletype;
+      encoding = r .encoding;
+      endian = r .endian;
+      sizes = r .sizes;
+      lineskip = r .lineskip;
+      byteskip = r .byteskip;
+      extent = r .extent;
+      length = n;
+      lines = k;
+    }
+
+-- the data was found, in the header's file
+abbrev pub inFirst : DataAnswer → Bool
+inFirst d = eqb (d .refusal .number) 0 && not (d .second)
+
+-- the place of the data once a header of h bytes has n: data in the header's file starts as far past the header as before,
+-- and a place in the second file stays, as does a refusal
+abbrev pub movedPlace : ℕ → ℕ → DataAnswer → DataAnswer
+movedPlace h n d =
+    record { refusal = d .refusal; second = d .second; start = if inFirst d then n + (d .start - h) else d .start; length = d .length }
+
 -- `after` is what the list left, `done` the settings of it that were accepted; the first file was `first`, its header es with the fields gs,
 -- before the lines ls
 pub record Settled (first : List ℕ) (es : List Entry) (gs : List Given) (ls : List Line) (after : Lent) (done : List Setting) : Type 0 where
@@ -87,15 +118,26 @@ pub record Settled (first : List ℕ) (es : List Entry) (gs : List Given) (ls : 
   pub entries : List Entry
   pub reading : header (fileIn after) ≡ accepted entries gs ls
   pub version : versionOf entries ≡ versionOf es
+  -- its numbers are the first ones, but for the header's length and count of lines
+  pub numbers : readHeaderCall (fileIn after) ≡ record { refusal = fine; reading = resized (headerLength entries) (length entries) (readHeaderCall first .reading) }
   -- a key that was set has its latest accepted value, any other key its first
   pub values : (k : List ℕ) → valueOf k entries ≡ orElse (lastAccepted k done) (valueOf k es)
   -- the carried count and table are those of the fresh reading
   pub count : countIn after ≡ length entries
   pub table : take (countIn after) (tableIn after) ≡ tableOf entries
+  -- they are what a fresh reading gives with a table of its own, where it has room for every line
+  pub fresh : (own : List ℕ) → length entries ≤ length own
+      → readCall (fileIn after) own ≡ (readHeaderCall (fileIn after), over (take (countIn after) (tableIn after)) own)
   -- all other header lines are the same, in order; lines set keep place and ending, inserted ones stand after line 1, later above earlier
   pub lines : linesOf entries ≡ settled done es
   -- the data and all else after the header is the same bytes
   pub rest : drop (headerLength entries) (fileIn after) ≡ drop (headerLength es) first
+  -- with any second file: the data is refused as before, or lies as far past the header, or at the same place of the second file
+  pub place : (second : List ℕ) → dataPlaceCall (fileIn after) second ≡ movedPlace (headerLength es) (headerLength entries) (dataPlaceCall first second)
+  pub past : (second : List ℕ) → inFirst (dataPlaceCall first second) ≡ true → headerLength es ≤ dataPlaceCall first second .start
+  -- the data's bytes and the samples are the same
+  pub bytes : (second : List ℕ) → dataCall (fileIn after) second ≡ dataCall first second
+  pub samples : (second : List ℕ) (list : List ℤ) → samplesCall (fileIn after) second list ≡ samplesCall first second list
   -- the used length stays within the buffer
   pub fits : usedOf after ≤ length (bufferOf after)
 

@@ -1,4 +1,4 @@
--- What is known of the fields of an accepted header: the needed ones are there, the extent is within its limit, and there is a size for each axis.
+-- What is known of the fields of an accepted header: there is a size for each axis, and each size is within its limit.
 -- Assumes nothing.
 use Prim.Native.Nat.{ℕ, zero, suc, _-_, _≤_}
 use native.Mathlib.Nat.{mul-le-mul-left, mul-one}
@@ -14,24 +14,14 @@ use Rattle.format.specs.Limits.{maxAxes, maxExtent}
 use Rattle.format.specs.Lines.{Line, text}
 use Rattle.format.specs.Fields.{Given, isGiven, dimension, type, encoding, sizes}
 use Rattle.format.specs.Descriptors.{SampleType, sampleType, signed, types, bytesOfType, numberKindType, typeAt, sampleBytes, typeOf, dimensionOf, sizesOf, hasNeeded, product, numberKind, isFloating}
-use Rattle.format.specs.Header.{Entry, entry, accepted, header, afterItem, closes}
+use Rattle.format.specs.Header.{Entry, entry, accepted, header, afterItem}
 use Rattle.format.proofs.Bytes.{and-left, and-right}
-use Rattle.format.proofs.Header.{Complete, FineBy, Fine, fine-cases, header-sound}
+use Rattle.format.proofs.Header.{Fine, fine-cases, header-sound, header-complete}
 use Rattle.fields.specs.States.{Kept}
 use Rattle.fields.proofs.States.{kept-none, kept-next}
 
 module _ (version : ℕ) where
-  -- the fields at the end are complete
-  fine-complete : (es : List Entry) (gs gs′ : List Given) (r : List Line) → Fine version gs es gs′ r → Complete gs′
-  fine-complete [] gs gs′ r f = rw (f .3) (f .2)
-  fine-complete (entry l i ∷ es) gs gs′ r f = go (closes i) (f .1) (λ g. fine-complete es (afterItem i gs) gs′ r g)
-    where
-      go : (t : Bool) → FineBy t gs es gs′ (Fine version (afterItem i gs) es gs′ r)
-          → (Fine version (afterItem i gs) es gs′ r → Complete gs′) → Complete gs′
-      go true g s = rw (g .2) (g .1)
-      go false g s = s g
-
-  -- and each line keeps what the walk keeps
+  -- each line keeps what the walk keeps
   fine-kept : (es : List Entry) (gs gs′ : List Given) (r : List Line) → Fine version gs es gs′ r → Kept gs → Kept gs′
   fine-kept [] gs gs′ r f k = rw (f .3) k
   fine-kept (entry l i ∷ es) gs gs′ r f k =
@@ -94,15 +84,12 @@ floating-9 t a = go (eqb t 9) refl
 -- ---- an accepted header
 
 module _ (s : List ℕ) {es : List Entry} {gs : List Given} {r : List Line} (e : header s ≡ accepted es gs r) where
-  pub header-complete : Complete gs
-  header-complete = let x = header-sound s e in fine-complete (x .version) (x .rest) [] gs r (x .fine)
-
   header-kept : Kept gs
   header-kept = let x = header-sound s e in fine-kept (x .version) (x .rest) [] gs r (x .fine) kept-none
 
   -- there is a size for each axis
   as-many : length (sizesOf gs) ≡ dimensionOf gs
-  as-many = header-kept .sized (needs-sizes gs (header-complete .needed))
+  as-many = header-kept .sized (needs-sizes gs (header-complete s e .needed))
 
   -- there are at most 16
   pub header-few : length (sizesOf gs) ≤ maxAxes
@@ -119,4 +106,4 @@ module _ (s : List ℕ) {es : List Entry} {gs : List Given} {r : List Line} (e :
   -- the product of the sizes is within the limit of the extent
   pub header-product : product (sizesOf gs) ≤ maxExtent
   header-product =
-      omega (arith, header-complete .small, mul-le-mul-left (product (sizesOf gs)) (sample-bytes (typeOf gs)), mul-one (product (sizesOf gs)))
+      omega (arith, header-complete s e .small, mul-le-mul-left (product (sizesOf gs)) (sample-bytes (typeOf gs)), mul-one (product (sizesOf gs)))

@@ -22,11 +22,11 @@ use Rattle.format.specs.Descriptors.{isDetached, encodingOf, typeOf, numberKind
 use Rattle.format.specs.Header.{Entry, linesOf, Outcome, refused, accepted, header, headerLength}
 use Rattle.format.specs.Data.{skipLines, afterSkips, Place, nowhere, part, placeFrom, placeOf, partOf}
 use Rattle.format.specs.Calls.{readingOf, readAnswer, readHeaderCall, noData, dataAnswer, dataPlaceIn, dataPlaceCall, dataCall}
-use Rattle.format.proofs.Header.{header-sound}
+use Rattle.format.proofs.Header.{header-sound, header-complete}
 use Rattle.format.proofs.Numbered.{NumberedOutcome, header-numbered}
+use Rattle.format.proofs.Places.{AtMost, skips-at-most}
 use Rattle.volume.specs.Places.{IsReading, placeBy, leftBy, placeLeft}
-use Rattle.volume.proofs.Skips.{rest-is, bytes-past, bytes-next, AtMost, skips-at-most}
-use Rattle.volume.proofs.Headers.{header-complete}
+use Rattle.volume.proofs.Skips.{rest-is, bytes-past, bytes-next}
 
 -- ---- the place by the numbers of a reading
 

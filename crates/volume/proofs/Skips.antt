@@ -6,12 +6,12 @@ use native.Mathlib.Omega.{arith}
 use mathlib.Core.Path.{_≡_, refl, sym, ap, _∙_}
 use mathlib.Core.Bool.{Bool, true, false}
 use mathlib.Core.List.{List, [], _∷_}
-use mathlib.Core.Option.{Option, none, some}
-use lib.Dec.{eqb, ltb}
+use mathlib.Core.Option.{none, some}
+use lib.Dec.{eqb}
 use lib.ListN.{length, take, drop, length-drop}
 use lib.Seq.{take-all, drop-drop}
 use borrow.Author.Tests.{lt-ltb, le-ltb}
-use Rattle.format.specs.Bytes.{if_then_else_, andThen, LF}
+use Rattle.format.specs.Bytes.{if_then_else_, LF}
 use Rattle.format.specs.Data.{skipLine, skipLines, skipBytes}
 use Rattle.text.specs.Places.{before}
 
@@ -83,48 +83,3 @@ module _ (s : List ℕ) (p n : ℕ) where
   pub bytes-next : n ≤ length s - p → skipBytes n (drop p s) ≡ some (drop (p + n) s)
   unfolding skipBytes
   bytes-next h = rw (length-drop, le-ltb (length s - p) n h, drop-drop)
-
--- ---- what is left is no more than there was
-
-abbrev pub AtMost : ℕ → Option (List ℕ) → Type 0
-AtMost n none = Unit {0}
-AtMost n (some t) = length t ≤ n
-
-then-at-most : (n : ℕ) (o : Option (List ℕ)) (next : List ℕ → Option (List ℕ)) → AtMost n o
-    → ((t : List ℕ) → AtMost (length t) (next t)) → AtMost n (andThen o next)
-then-at-most n none next h f = tt
-then-at-most n (some t) next h f = go (next t) (f t)
-  where
-    go : (o : Option (List ℕ)) → AtMost (length t) o → AtMost n o
-    go none k = tt
-    go (some u) k = omega arith
-
-line-at-most : (s : List ℕ) → AtMost (length s) (skipLine s)
-unfolding skipLine
-line-at-most [] = tt
-line-at-most (b ∷ s) = go (eqb b LF) (skipLine s) (line-at-most s)
-  where
-    more : (o : Option (List ℕ)) → AtMost (length s) o → AtMost (suc (length s)) o
-    more none h = tt
-    more (some t) h = omega arith
-
-    go : (x : Bool) (o : Option (List ℕ)) → AtMost (length s) o → AtMost (suc (length s)) (if x then some s else o)
-    go true o h = omega arith
-    go false o h = more o h
-
-lines-at-most : (n : ℕ) (s : List ℕ) → AtMost (length s) (skipLines n s)
-unfolding skipLines
-lines-at-most zero s = omega arith
-lines-at-most (suc n) s = then-at-most (length s) (skipLine s) (λ t. skipLines n t) (line-at-most s) (lines-at-most n)
-
-bytes-at-most : (n : ℕ) (s : List ℕ) → AtMost (length s) (skipBytes n s)
-unfolding skipBytes
-bytes-at-most n s = go (ltb (length s) n)
-  where
-    go : (x : Bool) → AtMost (length s) (if x then none else some (drop n s))
-    go true = tt
-    go false = omega (arith, length-drop n s)
-
--- past lines and bytes
-pub skips-at-most : (m n : ℕ) (s : List ℕ) → AtMost (length s) (andThen (skipLines m s) (λ t. skipBytes n t))
-skips-at-most m n s = then-at-most (length s) (skipLines m s) (λ t. skipBytes n t) (lines-at-most m s) (bytes-at-most n)
