@@ -1,4 +1,5 @@
 pub mod Entries
+pub mod Buffers
 pub mod Data
 pub mod Settled
 pub mod Lists

@@ -8,7 +8,7 @@ use mathlib.Core.List.{List, [], _∷_, _++_}
 use mathlib.Core.Option.{Option, none, some}
 use lib.Dec.{eqb, ltb}
 use lib.ListN.{length, take, length-append, length-map}
-use lib.Seq.{take-append-seam, take-at}
+use lib.Seq.{take-at}
 use borrow.Author.Tests.{ltb-false, le-ltb, not-false, ne-eqb}
 use Rattle.format.specs.declared.Refusal.{Refusal}
 use Rattle.format.specs.Bytes.{if_then_else_, isSome, orElse, orDefault, over}
@@ -24,16 +24,13 @@ use Rattle.format.proofs.Header.{header-sound, data-area}
 use Rattle.format.proofs.Numbered.{NumberedOutcome, header-numbered}
 use Rattle.lists.specs.Lists.{bufferOf, usedOf, tableIn, countIn, fileIn, lastAccepted, Settled, Case, firstCase, readCases, setCases, SettingsHold}
 use Rattle.lists.proofs.Entries.{putEntries, lines-put, header-put}
+use Rattle.lists.proofs.Buffers.{unless, take-refilled, buffers-after, tables-after}
 use Rattle.lists.proofs.Data.{place-moved, place-past, same-data, same-samples}
 use Rattle.lists.proofs.Settled.{afterList, put-after-list, after-list-nil, lines-after-list, value-after-list}
 
 -- ---- what is lent
 
--- a refilled buffer begins with the new file, and the file fits it
-take-refilled : (buf : List ℕ) (used : ℕ) (file : List ℕ) → take (length file) (refilled buf used file) ≡ file
-unfolding refilled
-take-refilled buf used file = take-append-seam file _
-
+-- the file fits the refilled buffer
 refilled-fits : (buf : List ℕ) (used : ℕ) (file : List ℕ) → length file ≤ length (refilled buf used file)
 unfolding refilled
 refilled-fits buf used file = rw length-append (omega arith)
@@ -137,12 +134,6 @@ module _ (l : Line) (n : ℕ) (gs : List Given) (ls : List Line) where
   After es k v (kept r) = Unit {0}
   After es k v (changed x) = Reads x (entry l (magic n) ∷ putEntries k v (ending l) es) gs ls
 
-  -- it holds if the test refuses, or else if it holds of what follows the test
-  unless : (es : List Entry) (k v : List ℕ) (t : Bool) (r : Refusal) (o : SetOutcome) → (t ≡ false → After es k v o)
-      → After es k v (if t then kept r else o)
-  unless es k v true r o f = tt
-  unless es k v false r o f = f refl
-
   -- it holds of every setting
   set-after : (x : Lent) (es : List Entry) (k v : List ℕ) → Reads x (entry l (magic n) ∷ es) gs ls → After es k v (setKey x (setting k v))
   unfolding setKey setRead store
@@ -150,14 +141,14 @@ module _ (l : Line) (n : ℕ) (gs : List Given) (ls : List Line) where
       let new : List Entry = entry l (magic n) ∷ putEntries k v (ending l) es in
       let file : List ℕ = unlines (linesOf new) ++ unlines ls in
       rw (le-ltb (length buf) used (g .fits), g .reading, lines-put k v l n es)
-      (unless es k v (ltb n pairsSince) _ _ λ since.
-      unless es k v (not (keyFine k)) _ _ λ key.
-      unless es k v (not (valueFine v)) _ _ λ value.
-      unless es k v (not (tableFine table count (tableOf (entry l (magic n) ∷ es)))) _ _ λ fine.
-      unless es k v (ltb maxHeader (headerLength new)) _ _ λ short.
-      unless es k v (ltb maxLines (length (linesOf new))) _ _ λ few.
-      unless es k v (ltb maxFile (length file)) _ _ λ small.
-      unless es k v (ltb (length buf) (length file) || ltb (length table) (length (linesOf new))) _ _ λ room.
+      (unless (After es k v) (ltb n pairsSince) _ _ tt λ since.
+      unless (After es k v) (not (keyFine k)) _ _ tt λ key.
+      unless (After es k v) (not (valueFine v)) _ _ tt λ value.
+      unless (After es k v) (not (tableFine table count (tableOf (entry l (magic n) ∷ es)))) _ _ tt λ fine.
+      unless (After es k v) (ltb maxHeader (headerLength new)) _ _ tt λ short.
+      unless (After es k v) (ltb maxLines (length (linesOf new))) _ _ tt λ few.
+      unless (After es k v) (ltb maxFile (length file)) _ _ tt λ small.
+      unless (After es k v) (ltb (length buf) (length file) || ltb (length table) (length (linesOf new))) _ _ tt λ room.
       reads-stored buf used table new gs ls
       (header-put (take used buf) l n es gs ls k v (g .reading)
       (ltb-false n pairsSince since) (not-false (keyFine k) key) (not-false (valueFine v) value)
@@ -198,7 +189,7 @@ module _ (l : Line) (n : ℕ) (gs : List Given) (ls : List Line) where
         reading = g .reading;
         version = refl;
         values = λ k. rw (value-after-list done (ending l) es k) (or-none (lastAccepted k done) (valueOf k es));
-        numbers = rw (g .reading, e);
+        numbers = rw (g .reading, e, g .count);
         count = g .count;
         table = g .table;
         fresh = λ own h. rw (g .reading, le-ltb (length own) _ h, g .table);
@@ -266,6 +257,8 @@ settings = record {
       let x = header-sound (take used buf) e in
       rw (x .entries)
       (lists-from (x .first) (x .version) gs ls buf used table (x .rest) h (rw (x .entries) at e) (rw (x .entries) at t) ss);
+  buffers = buffers-after;
+  tables = tables-after;
   cases = call-cases;
   taken = call-taken;
   kept = call-kept;

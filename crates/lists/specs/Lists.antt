@@ -83,7 +83,7 @@ settled done (entry l i ∷ es) = l ∷ (insertedLines done (ending l) (newKeys 
 
 -- ---- what holds after a list
 
--- the numbers of a reading, with another length and another count of lines
+-- the numbers of a reading, of a header of another length and another count of lines
 abbrev pub resized : ℕ → ℕ → Reading → Reading
 resized n k r =
     record {
@@ -118,21 +118,21 @@ pub record Settled (first : List ℕ) (es : List Entry) (gs : List Given) (ls : 
   pub entries : List Entry
   pub reading : header (fileIn after) ≡ accepted entries gs ls
   pub version : versionOf entries ≡ versionOf es
-  -- its numbers are the first ones, but for the header's length and count of lines
-  pub numbers : readHeaderCall (fileIn after) ≡ record { refusal = fine; reading = resized (headerLength entries) (length entries) (readHeaderCall first .reading) }
+  -- its numbers are the first ones, but for the header's length and the count of its lines, which is the carried one
+  pub numbers : readHeaderCall (fileIn after) ≡ record { refusal = fine; reading = resized (headerLength entries) (countIn after) (readHeaderCall first .reading) }
   -- a key that was set has its latest accepted value, any other key its first
   pub values : (k : List ℕ) → valueOf k entries ≡ orElse (lastAccepted k done) (valueOf k es)
   -- the carried count and table are those of the fresh reading
   pub count : countIn after ≡ length entries
   pub table : take (countIn after) (tableIn after) ≡ tableOf entries
-  -- they are what a fresh reading gives with a table of its own, where it has room for every line
+  -- a fresh reading with a table of its own, which has room for every line, answers them
   pub fresh : (own : List ℕ) → length entries ≤ length own
       → readCall (fileIn after) own ≡ (readHeaderCall (fileIn after), over (take (countIn after) (tableIn after)) own)
   -- all other header lines are the same, in order; lines set keep place and ending, inserted ones stand after line 1, later above earlier
   pub lines : linesOf entries ≡ settled done es
   -- the data and all else after the header is the same bytes
   pub rest : drop (headerLength entries) (fileIn after) ≡ drop (headerLength es) first
-  -- with any second file: the data is refused as before, or lies as far past the header, or at the same place of the second file
+  -- with any second file: the data call refuses as before, or finds the data as far past the header or at the same place of the second file
   pub place : (second : List ℕ) → dataPlaceCall (fileIn after) second ≡ movedPlace (headerLength es) (headerLength entries) (dataPlaceCall first second)
   pub past : (second : List ℕ) → inFirst (dataPlaceCall first second) ≡ true → headerLength es ≤ dataPlaceCall first second .start
   -- the data's bytes and the samples are the same
@@ -140,6 +140,11 @@ pub record Settled (first : List ℕ) (es : List Entry) (gs : List Given) (ls : 
   pub samples : (second : List ℕ) (list : List ℤ) → samplesCall (fileIn after) second list ≡ samplesCall first second list
   -- the used length stays within the buffer
   pub fits : usedOf after ≤ length (bufferOf after)
+
+-- the largest used length that the buffer has before, between and after the settings of a list
+unfoldable pub mostUsed : List Setting → Lent → ℕ
+mostUsed [] l = usedOf l
+mostUsed (s ∷ ss) l = max (usedOf l) (mostUsed ss (left (callOn setKeyCall l s)))
 
 -- ---- the cases of refusal, in order
 
@@ -183,6 +188,12 @@ pub record SettingsHold : Type 0 where
       → used ≤ length buf → header (take used buf) ≡ accepted es gs ls → take (length es) table ≡ tableOf es
       → (ss : List Setting)
       → let after = setKeys ss (lent buf used table (length es)) [] in Settled (take used buf) es gs ls (after .0) (after .1)
+  -- whatever is lent: past the file, bytes that a longer one had are 0 and those past every one stay, as do entries past the count
+  pub buffers : (l : Lent) (ss : List Setting)
+      → let after = setKeys ss l [] .0 in let most = mostUsed ss l in
+      bufferOf after ≡ fileIn after ++ (replicate (most - usedOf after) 0 ++ drop most (bufferOf l))
+  pub tables : (l : Lent) (ss : List Setting)
+      → let after = setKeys ss l [] .0 in drop (countIn after) (tableIn after) ≡ drop (countIn after) (tableIn l)
   -- of any single setting: the refusal is the first case that holds, none if no case does
   pub cases : (l : Lent) (s : Setting) → callOn setKeyCall l s .0 .refusal ≡ orDefault fine (firstCase (setCases l s))
   -- it is accepted, which the number 0 says, exactly when no case holds
