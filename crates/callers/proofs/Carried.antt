@@ -2,141 +2,44 @@
 -- specs/Callers.antt.
 -- Assumes nothing.
 use mathlib.Core.Path.{_≡_, refl, sym, ap, subst, _∙_}
-use Prim.Native.Nat.{ℕ, suc, _+_, _*_, _-_, _^_, _/_, _≤_, _<_}
+use Prim.Native.Nat.{ℕ, _+_, _*_, _^_, _/_, _≤_, _<_}
 use native.Mathlib.Omega.{arith}
-use mathlib.Core.Bool.{Bool, true, false, not, _&&_, _||_}
-use mathlib.Core.List.{List, [], _∷_, _++_}
-use lib.Dec.{eqb, ltb, leb}
-use lib.ListN.{length, take, drop, length-append, length-drop, length-take, length-map}
-use lib.Seq.{drop-append-add, drop-drop, take-at}
-use borrow.Author.Tests.{ltb-false, le-ltb, eqb-true, not-false}
+use mathlib.Core.Bool.{Bool, true, false}
+use mathlib.Core.List.{List, [], _∷_}
+use lib.Dec.{ltb}
+use lib.IntN.{ℤ}
+use lib.ListN.{length, take, drop, length-take}
+use lib.Seq.{take-at, length-take-le}
+use borrow.Author.Tests.{ltb-false, le-ltb}
 use Rattle.format.specs.declared.Refusal.{Refusal}
 use Rattle.format.specs.declared.ReadAnswer.{ReadAnswer}
-use Rattle.format.specs.Bytes.{if_then_else_, isSome, same, over}
-use Rattle.format.specs.Limits.{maxFile, maxHeader, maxLines}
-use Rattle.format.specs.Refusals.{refusal, lentTooShort}
-use Rattle.format.specs.Lines.{Line, line, ending, size, unlines, starts}
-use Rattle.format.specs.Fields.{Given, pairsSince}
-use Rattle.format.specs.Header.{Entry, entry, lineOf, linesOf, valueIn, Outcome, refused, accepted, header, versionOf, tableOf, headerLength}
-use Rattle.format.specs.Settings.{keyFine, valueFine, pairText, hasKey, replaced, inserted, newLines, refilled, tableFine, Lent, lent, Setting, setting, SetOutcome, kept, changed, store, setRead, setKey}
-use Rattle.format.specs.Calls.{readingOf, readAnswer, withTable, readCall, setAnswer, setKeyCall, callOn, left, recorded, setKeysBy, setKeys}
-use Rattle.format.specs.Boundary.{entryBytes, numbersOf, numberBytes, lentNumbers}
+use Rattle.format.specs.declared.CountAnswer.{CountAnswer}
+use Rattle.format.specs.Bytes.{if_then_else_, orDefault, over}
+use Rattle.format.specs.Limits.{maxHeader}
+use Rattle.format.specs.Refusals.{refusal, fine, lentTooShort}
+use Rattle.format.specs.Lines.{Line, size, unlines, starts}
+use Rattle.format.specs.Fields.{Given}
+use Rattle.format.specs.Header.{Entry, linesOf, Outcome, refused, accepted, header, valueOf, tableOf}
+use Rattle.format.specs.Settings.{refilled, Lent, lent, Setting, setting, SetOutcome, kept, changed, setKey}
+use Rattle.format.specs.Calls.{readingOf, readAnswer, withTable, copyValue, copyValueIn, copyValueCall, setAnswer, setKeyCall, callOn, left, recorded, setKeysBy, setKeys}
+use Rattle.format.specs.Boundary.{entryBytes, numbersOf, numberBytes, lentNumbers, samplesLent, lentSamples}
 use Rattle.format.specs.EntryPoints.{readEntry, setKeyEntry}
 use Rattle.format.specs.Laws.{AllBelow}
-use Rattle.format.proofs.Bytes.{and-left}
 use Rattle.format.proofs.Lines.{length-starts, length-unlines-cons}
-use Rattle.format.proofs.Header.{header-sound}
+use Rattle.format.proofs.Header.{header-sound, length-table}
 use Rattle.format.proofs.Numbered.{NumberedOutcome, header-numbered}
 use Rattle.format.proofs.Samples.{AllBytes}
-use Rattle.format.proofs.Boundary.{bytes-over, length-number-bytes, number-bytes-bytes, length-numbers, first-numbers, numbers-over, lent-of-numbers, numbers-of-front}
-use Rattle.lists.specs.Lists.{bufferOf, usedOf, tableIn, countIn, fileIn, Settled}
+use Rattle.format.proofs.Boundary.{length-over, over-past, bytes-over, length-number-bytes, number-bytes-bytes, length-numbers, first-numbers, numbers-over, lent-of-numbers, numbers-of-front}
+use Rattle.lists.specs.Lists.{tableIn, countIn, Settled, firstCase, setCases}
+use Rattle.lists.proofs.Buffers.{Done, set-done}
 use Rattle.lists.proofs.Lists.{settings}
-use Rattle.callers.specs.Callers.{NotRefused, inNumbers, bytesCounted, Carried, SettingsAreCarried}
-
--- ---- lists
-
--- past what was written to its front a list is as it was
-over-past : (u d : List ℕ) (k : ℕ) → length u ≤ k → drop k (over u d) ≡ drop k d
-over-past u d k h =
-    let e : k ≡ length u + (k - length u) = omega arith in
-    ap (λ (j : ℕ). drop j (over u d)) e
-    ∙ drop-append-add u (drop (length u) d) (k - length u)
-    ∙ drop-drop (k - length u) (length u) d
-    ∙ ap (λ (j : ℕ). drop j d) (sym e)
-
-length-over : (u d : List ℕ) → length u ≤ length d → length (over u d) ≡ length d
-length-over u d h = length-append u (drop (length u) d) ∙ omega (arith, length-drop (length u) d)
-
--- ---- what a setting puts into a table
+use Rattle.callers.specs.Callers.{NotRefused, inNumbers, Carried, SettingsAreCarried}
 
 -- the lines of a header start below its end
 starts-below : (m at : ℕ) (ls : List Line) → at + length (unlines ls) < m → AllBelow m (starts at ls)
 unfolding starts
 starts-below m at [] h = tt
 starts-below m at (l ∷ ls) h = (omega arith, starts-below m (at + size l) ls (omega (arith, length-unlines-cons l ls)))
-
--- a header has no fewer lines once a key is set
-lines-replaced : (k t : List ℕ) (es : List Entry) → length (replaced k t es) ≡ length es
-unfolding replaced
-lines-replaced k t [] = refl
-lines-replaced k t (entry l i ∷ es) = go (hasKey k es) (isSome (valueIn k i)) (lines-replaced k t es)
-  where
-    go : (x y : Bool) → length (replaced k t es) ≡ length es
-        → length (if x then l ∷ replaced k t es else if y then line t (ending l) ∷ linesOf es else l ∷ linesOf es) ≡ suc (length es)
-    go true y on = ap suc on
-    go false true on = ap suc (length-map es lineOf)
-    go false false on = ap suc (length-map es lineOf)
-
-lines-inserted : (t : List ℕ) (es : List Entry) → length es ≤ length (inserted t es)
-lines-inserted t [] = omega arith
-lines-inserted t (entry l i ∷ es) = omega (arith, length-map es lineOf)
-
-lines-grow : (k v : List ℕ) (es : List Entry) → length es ≤ length (newLines k v es)
-unfolding newLines
-lines-grow k v es = go (hasKey k es)
-  where
-    go : (x : Bool) → length es ≤ length (if x then replaced k (pairText k v) es else inserted (pairText k v) es)
-    go true = omega (arith, lines-replaced k (pairText k v) es)
-    go false = lines-inserted (pairText k v) es
-
--- entries of a table with `count` of them once a key is set: new ones at the front, as many as the new count, each in 4 bytes
-record Stored (old : List ℕ) (count : ℕ) (table : List ℕ) (count′ : ℕ) : Type 0 where
-  new : List ℕ
-  is : table ≡ over new old
-  many : length new ≡ count′
-  grows : count ≤ count′
-  fits : count′ ≤ length old
-  below : AllBelow (256 ^ entryBytes) new
-
-abbrev Stores : List ℕ → ℕ → SetOutcome → Type 0
-Stores old count (kept r) = Unit {0}
-Stores old count (changed (lent buf used table count′)) = Stored old count table count′
-
-unless : (old : List ℕ) (count : ℕ) (t : Bool) (r : Refusal) (o : SetOutcome) → (t ≡ false → Stores old count o) → Stores old count (if t then kept r else o)
-unless old count true r o f = tt
-unless old count false r o f = f refl
-
--- neither of two tests passes
-or-right : (a b : Bool) → (a || b) ≡ false → b ≡ false
-or-right true b e = absurd (mathlib.Core.Bool.false≢true (sym e))
-or-right false b e = e
-
-module _ (buf : List ℕ) (used : ℕ) (table : List ℕ) (count : ℕ) where
-  store-stores : (ls : List Line) (rest : List ℕ) → count ≤ length ls → Stores table count (store buf used table ls rest)
-  unfolding store
-  store-stores ls rest h =
-      unless table count (ltb maxHeader (length (unlines ls))) _ _ λ short.
-      unless table count (ltb maxLines (length ls)) _ _ λ few.
-      unless table count (ltb maxFile (length (unlines ls ++ rest))) _ _ λ small.
-      unless table count (ltb (length buf) (length (unlines ls ++ rest)) || ltb (length table) (length ls)) _ _ λ room.
-      record {
-        new = starts 0 ls;
-        is = refl;
-        many = length-starts 0 ls;
-        grows = h;
-        fits = ltb-false (length table) (length ls) (or-right (ltb (length buf) (length (unlines ls ++ rest))) (ltb (length table) (length ls)) room);
-        below = starts-below (256 ^ entryBytes) 0 ls (omega (arith, ltb-false maxHeader (length (unlines ls)) short));
-      }
-
-  set-stores : (k v : List ℕ) → Stores table count (setKey (lent buf used table count) (setting k v))
-  unfolding setKey setRead tableFine
-  set-stores k v = unless table count (ltb (length buf) used) _ _ λ q. go (header (take used buf))
-    where
-      go : (o : Outcome) → Stores table count (setRead buf used table count k v o)
-      go (refused r) = tt
-      go (accepted es gs ls) =
-          unless table count (ltb (versionOf es) pairsSince) _ _ λ since.
-          unless table count (not (keyFine k)) _ _ λ key.
-          unless table count (not (valueFine v)) _ _ λ value.
-          unless table count (not (tableFine table count (tableOf es))) _ _ λ fine.
-          store-stores (newLines k v es) (unlines ls)
-          (omega (
-            arith,
-            lines-grow k v es,
-            length-starts 0 (linesOf es),
-            length-map es lineOf,
-            eqb-true count (length (tableOf es)) (and-left (eqb count (length (tableOf es))) _ (not-false (tableFine table count (tableOf es)) fine)),
-          ))
 
 -- ---- the bytes of a table, call by call
 
@@ -173,7 +76,7 @@ follows-front buf buf′ used used′ table count count′ new p many grows fits
       past = λ k h. over-past u table (4 * k) (omega arith);
     }
 
--- what a call leaves, with its table's bytes t for its numbers
+-- what a call on numbers left, with those of its table put into the bytes `table`
 abbrev inBytes : List ℕ → Lent → Lent
 inBytes table (lent buf used ns count) = lent buf used (lentNumbers entryBytes ns table) count
 
@@ -183,22 +86,24 @@ module _ (buf : List ℕ) (used : ℕ) (table : List ℕ) (count : ℕ) (p : All
     follows : Follows (lent buf used table count) (inBytes table (left (setAnswer buf used (numbersOf entryBytes table) count o)))
     numbers : inNumbers (inBytes table (left (setAnswer buf used (numbersOf entryBytes table) count o))) ≡ left (setAnswer buf used (numbersOf entryBytes table) count o)
 
-  step : (o : SetOutcome) → Stores (numbersOf entryBytes table) count o → Step o
+  step : (o : SetOutcome) → Done buf used (numbersOf entryBytes table) count o → Step o
   step (kept r) s =
       record {
         follows = rw (lent-of-numbers entryBytes table p) (follows-self (lent buf used table count) p);
         numbers = rw (lent-of-numbers entryBytes table p);
       }
-  step (changed (lent buf′ used′ ns count′)) s =
-      let room : count′ ≤ length table / 4 = omega (arith, s .fits, length-numbers entryBytes table) in
-      let few : length (s .new) ≤ length table / 4 = omega (arith, s .many) in
-      let e : lentNumbers entryBytes ns table ≡ over (numberBytes entryBytes (s .new)) table =
-      ap (λ (t : List ℕ). lentNumbers entryBytes t table) (s .is) ∙ numbers-over entryBytes table p (s .new) few in
-      record {
-        follows = rw e (follows-front buf buf′ used used′ table count count′ (s .new) p (s .many) (s .grows) room);
-        numbers = ap (λ (t : List ℕ). lent buf′ used′ t count′)
-            (ap (numbersOf entryBytes) e ∙ numbers-of-front entryBytes (s .new) table few (s .below) ∙ sym (s .is));
-      }
+  step (changed x) s = rw (s .is) (stored (s .file) (s .ls) (s .more) (omega (arith, s .room, length-numbers entryBytes table)) (s .short))
+    where
+      stored : (file : List ℕ) (ls : List Line) → count ≤ length ls → length ls ≤ length table / 4 → length (unlines ls) ≤ maxHeader
+          → Step (changed (lent (refilled buf used file) (length file) (over (starts 0 ls) (numbersOf entryBytes table)) (length ls)))
+      stored file ls more room short =
+          let few : length (starts 0 ls) ≤ length table / 4 = omega (arith, length-starts 0 ls) in
+          let e = numbers-over entryBytes table p (starts 0 ls) few in
+          record {
+            follows = rw e (follows-front buf (refilled buf used file) used (length file) table count (length ls) (starts 0 ls) p (length-starts 0 ls) more room);
+            numbers = ap (λ (t : List ℕ). lent (refilled buf used file) (length file) t (length ls))
+                (ap (numbersOf entryBytes) e ∙ numbers-of-front entryBytes (starts 0 ls) table few (starts-below (256 ^ entryBytes) 0 ls (omega arith)));
+          }
 
 -- any list of calls
 abbrev BytesFollow : List Setting → Lent → List Setting → Type 0
@@ -210,7 +115,7 @@ unfolding setKeysBy
 list-follows [] l done p = (follows-self l p, refl)
 list-follows (setting k v ∷ ss) (lent buf used table count) done p =
     let ns : List ℕ = numbersOf entryBytes table in
-    let s = step buf used table count p (setKey (lent buf used ns count) (setting k v)) (set-stores buf used ns count k v) in
+    let s = step buf used table count p (setKey (lent buf used ns count) (setting k v)) (set-done buf used ns count k v) in
     let a = setKeyCall buf used ns count k v in
     let next : Lent = inBytes table (left a) in
     let more : List Setting = recorded (a .0) (setting k v) done in
@@ -225,9 +130,6 @@ module _ (file table : List ℕ) (p : AllBytes table) (es : List Entry) (gs : Li
   table-below : AllBelow (256 ^ entryBytes) (tableOf es)
   table-below = starts-below (256 ^ entryBytes) 0 (linesOf es) (omega (arith, header-sound file e .short))
 
-  table-many : length (tableOf es) ≡ length es
-  table-many = length-starts 0 (linesOf es) ∙ length-map es lineOf
-
   -- a table with room holds the entries at its front
   read-done : length es ≤ length table / entryBytes
       → _≡_ {A = ReadAnswer × List ℕ} (readEntry file table) (readAnswer (accepted es gs ls), over (numberBytes entryBytes (tableOf es)) table)
@@ -236,7 +138,7 @@ module _ (file table : List ℕ) (p : AllBytes table) (es : List Entry) (gs : Li
       let q : ltb (length (numbersOf entryBytes table)) (length es) ≡ false =
       le-ltb (length (numbersOf entryBytes table)) (length es) (omega (arith, length-numbers entryBytes table)) in
       ap (λ (o : Outcome). (withTable (numbersOf entryBytes table) o .0, lentNumbers entryBytes (withTable (numbersOf entryBytes table) o .1) table)) e
-      ∙ rw q (λ i. (readAnswer (accepted es gs ls), numbers-over entryBytes table p (tableOf es) (omega (arith, table-many)) i))
+      ∙ rw q (λ i. (readAnswer (accepted es gs ls), numbers-over entryBytes table p (tableOf es) (omega (arith, length-table es)) i))
 
   -- a reading that is not refused had room
   read-room : NotRefused (readEntry file table .0 .refusal) → length es ≤ length table / entryBytes
@@ -259,30 +161,34 @@ read-refused file table r e h =
 
 -- ---- what is carried
 
+-- a value copied from a file whose header is accepted
+value-of : (file key out : List ℕ) (es : List Entry) (gs : List Given) (ls : List Line) → header file ≡ accepted es gs ls
+    → copyValueCall file key out ≡ copyValue out (valueOf key es)
+value-of file key out es gs ls e = ap (copyValueIn key out) e
+
 -- what a list left, after a reading of `first` with `table`
 carried-at : (first table : List ℕ) (es : List Entry) (gs : List Given) (ls : List Line) (b : List ℕ) (u : ℕ) (x : Lent) (done : List Setting)
     → header first ≡ accepted es gs ls → Follows (lent b u table 0) x → Settled first es gs ls (inNumbers x) done → Carried first table x done
-unfolding readingOf
 carried-at first table es gs ls b u (lent buf used t n) done e f s =
     let ns : List ℕ = numbersOf entryBytes t in
-    let many : length (tableOf (s .entries)) ≡ n = length-starts 0 (linesOf (s .entries)) ∙ length-map (s .entries) lineOf ∙ sym (s .count) in
-    let room : n ≤ length t / 4 = omega (arith, many, ap length (s .table), length-take n ns, length-numbers entryBytes t) in
+    let room : n ≤ length t / 4 = omega (arith, length-table (s .entries), s .count, ap length (s .table), length-take n ns, length-numbers entryBytes t) in
+    let few : length (take n ns) ≡ n = length-take-le n ns (omega (arith, length-numbers entryBytes t)) in
     record {
       entries = es;
       given = gs;
       lines = ls;
       reading = e;
       settled = s;
-      long = f .long;
       room = omega arith;
+      long = f .long;
       past = f .past n (omega arith);
-      fresh = λ other p h.
-          let d = read-done (take used buf) other p (s .entries) gs ls (s .reading) (omega (arith, s .count)) in (
-            ap (λ (r : ReadAnswer × List ℕ). r .0 .refusal .number) d,
-            ap (λ (r : ReadAnswer × List ℕ). r .0 .reading .lines) d ∙ sym (s .count),
-            ap (λ (r : ReadAnswer × List ℕ). r .1) d
-                ∙ ap (λ (u : List ℕ). over u other) (ap (numberBytes entryBytes) (sym (s .table)) ∙ first-numbers entryBytes t (f .bytes) n room),
-          );
+      fresh = λ own p h.
+          let q : lentNumbers entryBytes (over (take n ns) (numbersOf entryBytes own)) own ≡ over (take (4 * n) t) own =
+          numbers-over entryBytes own p (take n ns) (omega arith) ∙ ap (λ (v : List ℕ). over v own) (first-numbers entryBytes t (f .bytes) n room) in
+          ap (λ (a : ReadAnswer × List ℕ). (a .0, lentNumbers entryBytes (a .1) own)) (s .fresh (numbersOf entryBytes own) (omega (arith, s .count, length-numbers entryBytes own)))
+          ∙ (λ i. (s .numbers i, q i));
+      value = λ key out. value-of (take used buf) key out (s .entries) gs ls (s .reading) ∙ ap (copyValue out) (s .values key);
+      samples = λ second list. ap (λ (a : CountAnswer × List ℤ). (a .0, lentSamples (a .1) list)) (s .samples second (samplesLent list));
     }
 
 module _ (buf : List ℕ) (used : ℕ) (table : List ℕ) (h : used ≤ length buf) (p : AllBytes table) where
@@ -295,7 +201,7 @@ module _ (buf : List ℕ) (used : ℕ) (table : List ℕ) (h : used ≤ length b
       → length es ≤ length table / entryBytes → CarriedFrom (readAnswer (accepted es gs ls), over (numberBytes entryBytes (tableOf es)) table)
   unfolding readingOf
   carried-from es gs ls e room ss =
-      let many : length (tableOf es) ≡ length es = table-many (take used buf) table p es gs ls e in
+      let many : length (tableOf es) ≡ length es = length-table es in
       let few : length (tableOf es) ≤ length table / 4 = omega arith in
       let t : List ℕ = over (numberBytes entryBytes (tableOf es)) table in
       let ns : numbersOf entryBytes t ≡ over (tableOf es) (numbersOf entryBytes table) =
@@ -317,4 +223,13 @@ module _ (buf : List ℕ) (used : ℕ) (table : List ℕ) (h : used ≤ length b
       subst CarriedFrom (sym (read-done (take used buf) table p es gs ls e room)) (carried-from es gs ls e room)
 
 pub carried : SettingsAreCarried
-carried buf used table h p z = carried-by buf used table h p (header (take used buf)) refl z
+carried =
+    record {
+      lists = λ buf used table h p z. carried-by buf used table h p (header (take used buf)) refl z;
+      numbers = λ l ss p. list-follows ss l [] p .1;
+      tables = λ l ss p. let after = setKeysBy setKeyEntry ss l [] .0 in list-follows ss l [] p .0 .past (countIn after) (omega arith);
+      cases = cases-are;
+    }
+  where
+    cases-are : (l : Lent) (s : Setting) → callOn setKeyEntry l s .0 .refusal ≡ orDefault fine (firstCase (setCases (inNumbers l) s))
+    cases-are (lent buf used table count) (setting k v) = settings .cases (lent buf used (numbersOf entryBytes table) count) (setting k v)

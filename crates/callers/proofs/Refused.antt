@@ -14,7 +14,6 @@ use Rattle.format.specs.declared.ReadAnswer.{ReadAnswer}
 use Rattle.format.specs.declared.ValueAnswer.{ValueAnswer}
 use Rattle.format.specs.declared.WriteAnswer.{WriteAnswer}
 use Rattle.format.specs.declared.CountAnswer.{CountAnswer}
-use Rattle.format.specs.declared.SetAnswer.{SetAnswer}
 use Rattle.format.specs.Bytes.{if_then_else_}
 use Rattle.format.specs.Refusals.{lentTooShort}
 use Rattle.format.specs.Header.{Outcome, refused, accepted, header, valueOf}
@@ -23,7 +22,6 @@ use Rattle.format.specs.Calls.{withTable, copyValue, copyValueIn, writeAnswer, 
 use Rattle.format.specs.Writer.{fileBytes, writeRefusal}
 use Rattle.format.specs.Listing.{listing}
 use Rattle.format.specs.Boundary.{entryBytes, wordBytes, numbersOf, samplesLent, lentNumbers, lentSamples}
-use Rattle.format.proofs.Samples.{AllBytes}
 use Rattle.format.proofs.Boundary.{lent-of-numbers, lent-of-samples}
 use Rattle.lists.specs.Lists.{bufferOf, usedOf, tableIn, countIn}
 use Rattle.lists.proofs.Lists.{settings}

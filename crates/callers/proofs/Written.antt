@@ -5,12 +5,12 @@ use Prim.Native.Nat.{ℕ, _*_, _/_, _≤_}
 use native.Mathlib.Omega.{arith}
 use native.Mathlib.Nat.{mul-div-le}
 use mathlib.Core.Bool.{Bool, true, false}
-use mathlib.Core.List.{List, _++_}
+use mathlib.Core.List.{List}
 use lib.Dec.{eqb}
 use lib.IntN.{ℤ}
 use lib.ListN.{length, take, drop}
 use lib.Seq.{take-append-seam, drop-append-seam, take-length, length-take-le}
-use borrow.Author.Tests.{eqb-true, eq-eqb}
+use borrow.Author.Tests.{eqb-true}
 use Rattle.format.specs.declared.DataAnswer.{DataAnswer}
 use Rattle.format.specs.declared.CountAnswer.{CountAnswer}
 use Rattle.format.specs.declared.WriteAnswer.{WriteAnswer}
@@ -18,15 +18,15 @@ use Rattle.format.specs.Bytes.{if_then_else_, over}
 use Rattle.format.specs.Refusals.{fine, refusal}
 use Rattle.format.specs.Descriptors.{sampleBytes}
 use Rattle.format.specs.Writer.{dataBytes, fileBytes, writeRefusal}
-use Rattle.format.specs.Calls.{readHeaderCall, dataPlaceCall, samplesCall, writeAnswer}
-use Rattle.format.specs.Boundary.{wordBytes, numbersOf, samplesLent, wordsOfSamples, lentSamples}
+use Rattle.format.specs.Calls.{readHeaderCall, dataPlaceCall, writeAnswer}
+use Rattle.format.specs.Boundary.{wordBytes, numbersOf, samplesLent, lentSamples}
 use Rattle.format.specs.EntryPoints.{samplesEntry}
 use Rattle.format.proofs.Samples.{AllBytes}
 use Rattle.format.proofs.Boundary.{length-samples, samples-over, words-of-lent}
-use Rattle.roundtrip.specs.RoundTrip.{headerBytes, dataBack, countBack, ReadsBack}
+use Rattle.roundtrip.specs.RoundTrip.{headerBytes, dataBack, ReadsBack}
 use Rattle.roundtrip.proofs.Accepted.{accepted-is}
 use Rattle.roundtrip.proofs.ReadBack.{round-trips}
-use Rattle.callers.specs.Callers.{NotRefused, wholeSamples, countOfSamples, ReadBack, WritesAreRead}
+use Rattle.callers.specs.Callers.{wholeSamples, countOfSamples, ReadBack, WritesAreRead}
 
 -- the answer of a write by its refusal's number, and where that is 0
 write-number : (n : ℕ) (file out : List ℕ) → writeAnswer n file out .0 .refusal .number ≡ n

@@ -7,30 +7,30 @@ use mathlib.Core.List.{List, []}
 use lib.ListN.{length, take, drop}
 use Rattle.format.specs.declared.Refusal.{Refusal}
 use Rattle.format.specs.declared.CountAnswer.{CountAnswer}
-use Rattle.format.specs.Bytes.{over}
+use Rattle.format.specs.Bytes.{over, orElse, orDefault}
 use Rattle.format.specs.Refusals.{fine}
 use Rattle.format.specs.Lines.{Line}
 use Rattle.format.specs.Fields.{Given}
 use Rattle.format.specs.Descriptors.{sampleBytes}
-use Rattle.format.specs.Header.{Entry, accepted, header}
+use Rattle.format.specs.Header.{Entry, accepted, header, valueOf, headerLength}
 use Rattle.format.specs.Writer.{dataBytes}
 use Rattle.format.specs.Settings.{Lent, lent, Setting}
-use Rattle.format.specs.Calls.{readHeaderCall, copyValueCall, dataPlaceCall, left, setKeysBy}
+use Rattle.format.specs.Calls.{readHeaderCall, copyValue, copyValueCall, dataPlaceCall, callOn, left, setKeysBy, setKeys}
 use Rattle.format.specs.Listing.{listingCall}
 use Rattle.format.specs.Boundary.{entryBytes, wordBytes, numbersOf, samplesLent}
 use Rattle.format.specs.EntryPoints.{readEntry, samplesEntry, writeEntry, setKeyEntry}
 use Rattle.format.specs.Laws.{AllBytes}
 use Rattle.roundtrip.specs.RoundTrip.{readBack, dataBack}
-use Rattle.lists.specs.Lists.{bufferOf, usedOf, tableIn, countIn, fileIn, Settled}
+use Rattle.lists.specs.Lists.{tableIn, countIn, fileIn, lastAccepted, resized, Settled, firstCase, setCases}
 
--- the number that a refusal has, and nothing refused
-abbrev pub Refused : Refusal → Type 0
-Refused r = r .number ≡ 0 → ⊥
-
+-- a call answers the number of its refusal, 0 where nothing is refused (document 01, "Numbers of refusal")
 abbrev pub NotRefused : Refusal → Type 0
 NotRefused r = r .number ≡ 0
 
--- ---- demand 1: a refused call leaves every lent byte as it was
+abbrev pub Refused : Refusal → Type 0
+Refused r = NotRefused r → ⊥
+
+-- ---- demand 1: a refused call leaves every lent byte as it was (document 01, "Numbers of refusal")
 
 pub record RefusedKeeps : Type 0 where
   -- craneholt_read: the table
@@ -53,7 +53,7 @@ pub record RefusedKeeps : Type 0 where
   pub listing : (file out : List ℕ)
       → Refused (listingCall file out .0 .refusal) → listingCall file out .1 ≡ out
 
--- ---- demand 2: what craneholt_write wrote is read back
+-- ---- demand 2: what craneholt_write wrote is read back (document 01, "Writer")
 
 -- the bytes of the whole samples; a rest too short for one is not used
 abbrev pub wholeSamples : List ℕ → List ℕ
@@ -62,7 +62,7 @@ wholeSamples s = take (wordBytes * (length s / wordBytes)) s
 abbrev pub countOfSamples : List ℕ → CountAnswer
 countOfSamples s = record { refusal = fine; count = length s / wordBytes }
 
--- `out` was lent; `length` bytes were written, and the buffer is `after`. Whatever second file and list are lent to the readers
+-- the buffer `out` was lent and came back as `after`, with a file of `written` bytes at its front; whatever second file and list are lent to the readers
 pub record ReadBack (version : ℕ) (sizes : List ℕ) (t e endian : ℕ) (samples out : List ℕ) (written : ℕ) (after : List ℕ) : Type 0 where
   -- the file fits, and bytes past it are as they were
   pub fits : written ≤ length out
@@ -84,42 +84,57 @@ WritesAreRead =
     → let a = writeEntry version sizes t e endian samples out in
     NotRefused (a .0 .refusal) → ReadBack version sizes t e endian samples out (a .0 .length) (a .1)
 
--- ---- demand 3: any list of calls of craneholt_set_key after craneholt_read
+-- ---- demand 3: any list of calls of craneholt_set_key after craneholt_read, each lent what the one before it left (document 01,
+-- "Lists of settings")
 
 -- what is lent, its table as the numbers that the table's bytes hold
 abbrev pub inNumbers : Lent → Lent
 inNumbers (lent buf used table count) = lent buf used (numbersOf entryBytes table) count
 
--- the bytes that as many entries as the count take
+-- the bytes of as many entries as the count
 abbrev pub bytesCounted : Lent → ℕ
 bytesCounted l = entryBytes * countIn l
 
--- `first` was read and `table` was lent to craneholt_read; `after` is what the list left, `done` the settings of it that were accepted
+-- `first` was read, and `table` was lent to craneholt_read; `after` is what the list left, `done` the settings of it that were accepted
 pub record Carried (first table : List ℕ) (after : Lent) (done : List Setting) : Type 0 where
-  -- the first reading, and all that a list of settings does to what it was lent (Lists.antt)
+  -- the first reading, and what lists of settings do (Lists.antt): header lines, data and its place, used length
   pub entries : List Entry
   pub given : List Given
   pub lines : List Line
   pub reading : header first ≡ accepted entries given lines
   pub settled : Settled first entries given lines (inNumbers after) done
-  -- the table is as long as it was and has room for the count; past its entries it is as it was lent, a rest too short for one too
-  pub long : length (tableIn after) ≡ length table
+  -- the table has room for the entries of the count; past them its bytes are as lent to craneholt_read, a rest too short for one too
   pub room : bytesCounted after ≤ length (tableIn after)
+  pub long : length (tableIn after) ≡ length table
   pub past : drop (bytesCounted after) (tableIn after) ≡ drop (bytesCounted after) table
-  -- a fresh craneholt_read of the file with any table that has room: the count, and the very bytes of the entries
-  pub fresh : (other : List ℕ) → AllBytes other → bytesCounted after ≤ length other
-      → let r = readEntry (fileIn after) other in
-      NotRefused (r .0 .refusal) × (r .0 .reading .lines ≡ countIn after) × (r .1 ≡ over (take (bytesCounted after) (tableIn after)) other)
+  -- a fresh craneholt_read with a table of its own, which has room, answers the first reading but for the header's length and lines, which
+  -- are as many as the count, and leaves the very bytes of the carried table
+  pub fresh : (own : List ℕ) → AllBytes own → bytesCounted after ≤ length own
+      → readEntry (fileIn after) own
+      ≡ (
+        record { refusal = fine; reading = resized (headerLength (settled .entries)) (countIn after) (readHeaderCall first .reading) },
+        over (take (bytesCounted after) (tableIn after)) own,
+      )
+  -- craneholt_copy_value: the value accepted last for the key, or else its first
+  pub value : (key out : List ℕ) → copyValueCall (fileIn after) key out ≡ copyValue out (orElse (lastAccepted key done) (valueOf key entries))
+  -- craneholt_samples answers and leaves what it did before, with any second file and list
+  pub samples : (second list : List ℕ) → samplesEntry (fileIn after) second list ≡ samplesEntry first second list
 
--- each call is lent what the one before it left: buffer, used length, table and count
-abbrev pub SettingsAreCarried : Type 0
-SettingsAreCarried =
-    (buf : List ℕ) (used : ℕ) (table : List ℕ) → used ≤ length buf → AllBytes table
-    → let r = readEntry (take used buf) table in
-    NotRefused (r .0 .refusal)
-    → (ss : List Setting)
-    → let after = setKeysBy setKeyEntry ss (lent buf used (r .1) (r .0 .reading .lines)) [] in
-    Carried (take used buf) table (after .0) (after .1)
+pub record SettingsAreCarried : Type 0 where
+  pub lists : (buf : List ℕ) (used : ℕ) (table : List ℕ) → used ≤ length buf → AllBytes table
+      → let r = readEntry (take used buf) table in
+      NotRefused (r .0 .refusal)
+      → (ss : List Setting)
+      → let after = setKeysBy setKeyEntry ss (lent buf used (r .1) (r .0 .reading .lines)) [] in
+      Carried (take used buf) table (after .0) (after .1)
+  -- whatever is lent, in such a list or not: the calls leave and accept what the calls on numbers do, so that `SettingsHold` (Lists.antt) holds of them
+  pub numbers : (l : Lent) (ss : List Setting) → AllBytes (tableIn l)
+      → let after = setKeysBy setKeyEntry ss l [] in setKeys ss (inNumbers l) [] ≡ (inNumbers (after .0), after .1)
+  -- past the entries of the count the table's bytes stay
+  pub tables : (l : Lent) (ss : List Setting) → AllBytes (tableIn l)
+      → let after = setKeysBy setKeyEntry ss l [] .0 in drop (bytesCounted after) (tableIn after) ≡ drop (bytesCounted after) (tableIn l)
+  -- a call is refused by the first case that holds, and accepted if none does
+  pub cases : (l : Lent) (s : Setting) → callOn setKeyEntry l s .0 .refusal ≡ orDefault fine (firstCase (setCases (inNumbers l) s))
 
 -- ---- the statement
 

@@ -6,7 +6,7 @@ use mathlib.Core.Path.{_≡_, refl, sym, ap, _∙_}
 use mathlib.Core.Bool.{Bool, true, false, not, _&&_, _||_}
 use mathlib.Core.List.{List, _++_, append-assoc}
 use lib.Dec.{eqb, ltb, leb}
-use lib.ListN.{length, take, drop, length-append, length-take, length-drop, length-map, take-append-drop}
+use lib.ListN.{length, take, drop, length-take, take-append-drop}
 use lib.Seq.{take-take, take-all, take-length, take-at, drop-append-le}
 use borrow.Author.Tests.{ltb-true, ltb-false, eqb-true, lt-ltb, le-ltb, leb-true, leb-false, le-leb, lt-leb}
 use Rattle.format.specs.declared.ReadAnswer.{ReadAnswer}
@@ -16,11 +16,12 @@ use Rattle.format.specs.Limits.{maxFile, maxHeader, maxLines}
 use Rattle.format.specs.Refusals.{fileTooLong, headerTooLong, tooManyLines, notInVersion, lentTooShort, badKey, badValue, wrongTable, refusal}
 use Rattle.format.specs.Lines.{Line, unlines, starts}
 use Rattle.format.specs.Fields.{pairsSince, Given}
-use Rattle.format.specs.Header.{Entry, Outcome, refused, accepted, lineOf, linesOf, header, versionOf, tableOf}
+use Rattle.format.specs.Header.{Entry, Outcome, refused, accepted, header, versionOf, tableOf}
 use Rattle.format.specs.Settings.{lent, setting, SetOutcome, kept, changed, keyFine, valueFine, newLines, refilled, tableFine, store, setRead, setKey}
 use Rattle.format.specs.Calls.{noReading, readingOf, readAnswer, withTable, readCall, setAnswer, setKeyCall}
 use Rattle.format.proofs.Lines.{length-starts}
-use Rattle.format.proofs.Header.{header-sound}
+use Rattle.format.proofs.Header.{header-sound, length-table}
+use Rattle.format.proofs.Boundary.{length-over}
 
 -- ---- lists and lengths
 
@@ -54,14 +55,14 @@ module _ (m : ℕ) (t : List ℕ) where
   -- what is written to the front of its front is written to its front
   over-over : (x : List ℕ) → length x ≤ length (take m t) → over (over x (take m t)) t ≡ over x t
   over-over x h =
-      let n : length (over x (take m t)) ≡ length (take m t) = rw (length-append, length-drop) (omega arith) in
+      let n : length (over x (take m t)) ≡ length (take m t) = length-over x (take m t) h in
       let d : drop (length x) (take m t) ++ drop (length (take m t)) t ≡ drop (length x) t =
       sym (drop-append-le (length x) (take m t) (drop (length (take m t)) t) h) ∙ ap (drop (length x)) over-front in
       rw (n, append-assoc, d)
 
 -- a header's table has at most 1,024 entries
 table-few : (file : List ℕ) {es : List Entry} {gs : List Given} {ls : List Line} → header file ≡ accepted es gs ls → length (tableOf es) ≤ maxLines
-table-few file {es} e = omega (arith, header-sound file e .few, length-starts 0 (linesOf es), length-map es lineOf)
+table-few file {es} e = omega (arith, header-sound file e .few, length-table es)
 
 -- ---- a reading
 
@@ -82,7 +83,7 @@ module _ (file table part : List ℕ) (room : length part ≡ min maxLines (leng
       tabled : (es : List Entry) (gs : List Given) (ls : List Line) (b : Bool) → wholeReading table (tabledBy b part es gs ls) ≡ tabledBy b table es gs ls
       tabled es gs ls true = refl
       tabled es gs ls false =
-          rw (take-at (tableOf es) (drop (length (tableOf es)) part) (length es) (length-starts 0 (linesOf es) ∙ length-map es lineOf))
+          rw (take-at (tableOf es) (drop (length (tableOf es)) part) (length es) (length-table es))
 
       go : (o : Outcome) → header file ≡ o → wholeReading table (withTable part o) ≡ withTable table o
       go (refused x) e = refl

@@ -10,7 +10,7 @@ use mathlib.Core.Bool.{true}
 use mathlib.Core.List.{List, [], _∷_, _++_, append-nil, append-assoc, map, flatMap}
 use lib.IntN.{ℤ}
 use lib.ListN.{length, take, drop, getD, length-append, length-drop, length-map, take-append-drop}
-use lib.Seq.{drop-drop, drop-cons, drop-length, take-add, take-at, drop-at, take-length, length-take-le}
+use lib.Seq.{drop-append-add, drop-drop, drop-cons, drop-length, take-add, take-at, drop-at, length-take-le}
 use Rattle.format.specs.Bytes.{over}
 use Rattle.format.specs.Descriptors.{signed, little}
 use Rattle.format.specs.Samples.{inType, fromBytes, toBytes, sampleValue, valueBytes}
@@ -18,7 +18,22 @@ use Rattle.format.specs.Writer.{allInType}
 use Rattle.format.specs.Boundary.{wordBytes, groups, wholeGroups, numbersOf, samplesLent, numberBytes, wordsOfSamples, lentNumbers, lentSamples}
 use Rattle.format.specs.Laws.{Each, AllBelow}
 use Rattle.format.proofs.Bytes.{and-left, and-right}
-use Rattle.format.proofs.Samples.{AllBytes, from-bytes-below, to-bytes-bytes, from-to-bytes, to-from-bytes, length-to-bytes, value-of-bytes, bytes-of-value, value-bytes-bytes, length-value-bytes}
+use Rattle.format.proofs.Samples.{AllBytes, from-bytes-below, to-bytes-bytes, from-to-bytes, to-from-bytes, length-to-bytes, value-of-bytes, bytes-of-value, length-value-bytes}
+
+-- ---- lent lists with something written to their front
+
+module _ {ℓ} {A : Type ℓ} (u d : List A) where
+  pub length-over : length u ≤ length d → length (over u d) ≡ length d
+  length-over h = length-append u (drop (length u) d) ∙ omega (arith, length-drop (length u) d)
+
+  -- past it they are as they were
+  pub over-past : (k : ℕ) → length u ≤ k → drop k (over u d) ≡ drop k d
+  over-past k h =
+      let e : k ≡ length u + (k - length u) = omega arith in
+      ap (λ (j : ℕ). drop j (over u d)) e
+      ∙ drop-append-add u (drop (length u) d) (k - length u)
+      ∙ drop-drop (k - length u) (length u) d
+      ∙ ap (λ (j : ℕ). drop j d) (sym e)
 
 -- ---- parts of bytes are bytes
 
@@ -165,7 +180,7 @@ module _ {A : Type 0} (v : List ℕ → A) (w : ℕ) (f : A → List ℕ) (back 
       over-lent zs h =
           let m : ℕ = length zs in
           let l : List A = map v (wholeGroups w s) in
-          let k : length (over zs l) ≡ length s / w = length-append zs (drop m l) ∙ omega (arith, length-drop m l, length-lent v w s) in
+          let k : length (over zs l) ≡ length s / w = length-over zs l (omega (arith, length-lent v w s)) ∙ length-lent v w s in
           ap (λ (j : ℕ). flatMap f (over zs l) ++ drop j s) (flat-length f w size (over zs l) ∙ ap (λ (j : ℕ). w * j) k)
           ∙ ap (λ (u : List ℕ). u ++ drop (w * (length s / w)) s) (flat-append f zs (drop m l))
           ∙ append-assoc (flatMap f zs) (flatMap f (drop m l)) (drop (w * (length s / w)) s)
@@ -190,7 +205,7 @@ module _ {A : Type 0} (v : List ℕ → A) (w : ℕ) (f : A → List ℕ) (size 
       let q : length s / w ≡ m + n = omega arith in
       let l : length (flatMap f zs) ≡ w * m = flat-length f w size zs in
       let fits : w * m ≤ length s = omega (arith, mul-div-le (length s) w, ap (λ (j : ℕ). w * j) q, mul-add w m n) in
-      let k : length (over (flatMap f zs) s) ≡ length s = length-append (flatMap f zs) (drop (length (flatMap f zs)) s) ∙ omega (arith, length-drop (length (flatMap f zs)) s) in
+      let k : length (over (flatMap f zs) s) ≡ length s = length-over (flatMap f zs) s (omega arith) in
       ap (λ (j : ℕ). map v (groups w (j / w) (over (flatMap f zs) s))) k
       ∙ ap (λ (j : ℕ). map v (groups w j (over (flatMap f zs) s))) q
       ∙ groups-flat zs n (drop (length (flatMap f zs)) s) p

@@ -6,7 +6,7 @@ use mathlib.Core.Bool.{Bool, true, false, not, _&&_, false≢true}
 use mathlib.Core.List.{List, [], _∷_, _++_, cons≢nil}
 use mathlib.Core.Option.{Option, none, some, Option·none-ne-some}
 use lib.Dec.{eqb, ltb}
-use lib.ListN.{length, drop, length-append}
+use lib.ListN.{length, drop, length-append, length-map}
 use borrow.Author.Tests.{ltb-false, le-ltb}
 use native.Mathlib.Omega.{arith}
 use Rattle.format.specs.declared.Refusal.{Refusal}
@@ -17,9 +17,9 @@ use Rattle.format.specs.Lines.{Line, line, lf, crlf, eof, text, size, li
 use Rattle.format.specs.Pairs.{plain, Marked, unmarked, fieldMark, pairMark, mark, unescape}
 use Rattle.format.specs.Fields.{fieldNamed, pairsSince, fieldSince, Given, isGiven, inOrder}
 use Rattle.format.specs.Descriptors.{descriptor, mayDescribe, hasNeeded, extentOf, isDetached}
-use Rattle.format.specs.Header.{Item, magic, comment, field, pair, closing, Entry, entry, linesOf, magicVersion, versionOfLine, Judged, wrong, right, unescaped, onPair, onField, onMark, judge, Outcome, refused, accepted, withEntry, closes, afterItem, complete, onJudged, walk, afterMagic, fromFirst, header, headerLength}
+use Rattle.format.specs.Header.{Item, magic, comment, field, pair, closing, Entry, entry, lineOf, linesOf, magicVersion, versionOfLine, Judged, wrong, right, unescaped, onPair, onField, onMark, judge, Outcome, refused, accepted, withEntry, closes, afterItem, complete, onJudged, walk, afterMagic, fromFirst, header, tableOf, headerLength}
 pub use Rattle.format.specs.Laws.{closed}
-use Rattle.format.proofs.Lines.{unlines-of-lines, unlines-append, length-unlines-cons, Shape, lf-line, crlf-line, eof-line, shape-of-lines, shape-before, shape-after, lines-of-parts, bytes-after}
+use Rattle.format.proofs.Lines.{unlines-of-lines, unlines-append, length-unlines-cons, Shape, lf-line, crlf-line, eof-line, shape-of-lines, shape-before, shape-after, lines-of-parts, bytes-after, length-starts}
 
 -- ---- what an accepted header is, the limits left out
 
@@ -285,6 +285,10 @@ module _ (s : List ℕ) {es : List Entry} {gs : List Given} {r : List Line} (e :
   -- its fields are complete
   pub header-complete : Complete gs
   header-complete = let x = header-sound s e in fine-complete (x .version) (x .rest) [] gs r (x .fine)
+
+-- the table has an entry for each line
+pub length-table : (es : List Entry) → length (tableOf es) ≡ length es
+length-table es = length-starts 0 (linesOf es) ∙ length-map es lineOf
 
 -- ---- what the items of an accepted header say
 

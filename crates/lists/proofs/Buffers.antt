@@ -17,8 +17,9 @@ use Rattle.format.specs.Fields.{pairsSince}
 use Rattle.format.specs.Header.{Entry, entry, lineOf, linesOf, Outcome, refused, accepted, header, versionOf, valueIn, tableOf}
 use Rattle.format.specs.Settings.{keyFine, valueFine, pairText, hasKey, replaced, inserted, newLines, refilled, tableFine, Lent, lent, Setting, setting, SetOutcome, kept, changed, store, setRead, setKey}
 use Rattle.format.specs.Calls.{setAnswer, left, recorded, setKeysBy, setKeys}
-use Rattle.format.proofs.Bytes.{and-left}
+use Rattle.format.proofs.Bytes.{and-left, or-false}
 use Rattle.format.proofs.Lines.{length-starts}
+use Rattle.format.proofs.Header.{length-table}
 use Rattle.lists.specs.Lists.{bufferOf, usedOf, tableIn, countIn, fileIn, mostUsed}
 
 -- ---- one setting
@@ -53,23 +54,25 @@ table-fine-count : (table : List ℕ) (count : ℕ) (es : List Entry) → tableF
 unfolding tableFine
 table-fine-count table count es e =
     eqb-true count (length (tableOf es)) (and-left (eqb count (length (tableOf es))) (leb count (length table) && same (take count table) (tableOf es)) e)
-    ∙ length-starts 0 (linesOf es)
-    ∙ length-map es lineOf
+    ∙ length-table es
 
 module _ (buf : List ℕ) (used : ℕ) (table : List ℕ) (count : ℕ) where
-  -- a file and as many starts as its header has lines are stored; there are no fewer than before
-  record Stored (x : Lent) : Type 0 where
-    file : List ℕ
-    ls : List Line
-    within : used ≤ length buf
-    is : x ≡ lent (refilled buf used file) (length file) (over (starts 0 ls) table) (length ls)
-    more : count ≤ length ls
+  -- a file and as many starts as its header has lines are stored; there are no fewer than before, the table has room for them, and the
+  -- header is within its limit
+  pub record Stored (x : Lent) : Type 0 where
+    pub file : List ℕ
+    pub ls : List Line
+    pub within : used ≤ length buf
+    pub is : x ≡ lent (refilled buf used file) (length file) (over (starts 0 ls) table) (length ls)
+    pub more : count ≤ length ls
+    pub room : length ls ≤ length table
+    pub short : length (unlines ls) ≤ maxHeader
 
-  abbrev Done : SetOutcome → Type 0
+  abbrev pub Done : SetOutcome → Type 0
   Done (kept r) = Unit {0}
   Done (changed x) = Stored x
 
-  set-done : (k v : List ℕ) → Done (setKey (lent buf used table count) (setting k v))
+  pub set-done : (k v : List ℕ) → Done (setKey (lent buf used table count) (setting k v))
   unfolding setKey setRead store
   set-done k v = unless Done (ltb (length buf) used) _ _ tt λ short. go short (header (take used buf))
     where
@@ -92,6 +95,8 @@ module _ (buf : List ℕ) (used : ℕ) (table : List ℕ) (count : ℕ) where
             within = ltb-false (length buf) used short;
             is = refl;
             more = omega (arith, table-fine-count table count es (not-false (tableFine table count (tableOf es)) fine), new-lines-more k v es);
+            room = ltb-false (length table) (length new) (or-false (ltb (length buf) (length file)) (ltb (length table) (length new)) room .1);
+            short = ltb-false maxHeader (length (unlines new)) small;
           }
 
 -- ---- past the file and past the count

@@ -17,8 +17,8 @@ use Rattle.format.specs.Lines.{Line, lines, unlines, starts}
 use Rattle.format.specs.Fields.{Given}
 use Rattle.format.specs.Header.{Entry, lineOf, linesOf, accepted, header, tableOf}
 use Rattle.format.specs.Settings.{tableFine}
-use Rattle.format.proofs.Lines.{length-unlines-cons, length-lines-le, length-starts}
-use Rattle.format.proofs.Header.{header-sound}
+use Rattle.format.proofs.Lines.{length-unlines-cons, length-lines-le}
+use Rattle.format.proofs.Header.{header-sound, length-table}
 use Rattle.header.specs.Accepted.{Headed}
 use Rattle.header.specs.Spans.{LineAt, PastAt}
 use Rattle.header.specs.Tables.{Tabled, startsOf}
@@ -78,17 +78,17 @@ module _ {file table : List ℕ} {count at k : ℕ} (m : Matching file table cou
 -- ---- the tests before
 
 module _ (file table : List ℕ) (n count : ℕ) {es : List Entry} {gs : List Given} {ls : List Line} (e : header file ≡ accepted es gs ls) (many : n ≡ length es) where
-  length-table : length (tableOf es) ≡ n
-  length-table = length-starts 0 (linesOf es) ∙ length-map es lineOf ∙ sym many
+  table-many : length (tableOf es) ≡ n
+  table-many = length-table es ∙ sym many
 
   pub fine-count : (count ≡ n → ⊥) → false ≡ tableFine table count (tableOf es)
   unfolding tableFine
-  fine-count h = rw (length-table, ne-eqb count n h)
+  fine-count h = rw (table-many, ne-eqb count n h)
 
   module _ (same-count : count ≡ n) where
     pub fine-short : length table < count → false ≡ tableFine table count (tableOf es)
     unfolding tableFine
-    fine-short h = rw (length-table, eq-eqb count n same-count, lt-leb count (length table) h)
+    fine-short h = rw (table-many, eq-eqb count n same-count, lt-leb count (length table) h)
 
     header-lines : take count (lines file) ≡ linesOf es
     header-lines = rw (header-sound file e .split) (take-at (linesOf es) ls count (length-map es lineOf ∙ sym (same-count ∙ many)))
@@ -104,7 +104,7 @@ module _ (file table : List ℕ) (n count : ℕ) {es : List Entry} {gs : List Gi
 
       pub fine-same : same (take count table) (startsOf file count) ≡ tableFine table count (tableOf es)
       unfolding tableFine
-      fine-same = rw (length-table, eq-eqb count n same-count, le-leb count (length table) h, header-lines)
+      fine-same = rw (table-many, eq-eqb count n same-count, le-leb count (length table) h, header-lines)
 
 -- the same for the entries of any account of the header
 pub headed-many : (file : List ℕ) {n : ℕ} → Headed file n → {es : List Entry} {gs : List Given} {ls : List Line} → header file ≡ accepted es gs ls → n ≡ length es

@@ -3,7 +3,7 @@
 use Prim.Native.Nat.{ℕ, _+_, _-_, _≤_, _<_, min}
 use native.Mathlib.Omega.{arith}
 use mathlib.Core.Path.{_≡_, refl, sym, ap, _∙_, subst}
-use mathlib.Core.Bool.{Bool, true, false, not, _||_, false≢true}
+use mathlib.Core.Bool.{Bool, true, false, not, _||_}
 use mathlib.Core.List.{List, [], _++_, append-assoc}
 use lib.Dec.{ltb}
 use lib.ListN.{length, take, getD, length-append, length-map}
@@ -18,8 +18,8 @@ use Rattle.format.specs.Fields.{Given, pairsSince}
 use Rattle.format.specs.Header.{Entry, lineOf, linesOf, accepted, header, headerLength, versionOf, tableOf}
 use Rattle.format.specs.Settings.{keyFine, valueFine, pairText, newLines, tableFine, SetOutcome, lent, kept, changed, refilled, store, setRead}
 use Rattle.format.specs.Calls.{readAnswer, readHeaderCall, readingOf}
-use Rattle.format.proofs.Lines.{length-starts}
-use Rattle.format.proofs.Header.{header-sound}
+use Rattle.format.proofs.Bytes.{or-false}
+use Rattle.format.proofs.Header.{header-sound, length-table}
 use Rattle.format.proofs.Numbered.{NumberedOutcome, header-numbered}
 use Rattle.header.specs.Accepted.{Headed}
 use Rattle.header.proofs.Accepted.{was-refused, was-accepted}
@@ -115,10 +115,6 @@ module _ (file table : List ℕ) (count : ℕ) (k v : List ℕ) (version number 
         (asked-none (store buf used table (newLines k v es) (unlines ls)) (ltb version pairsSince) (keyFine k) (valueFine v) (tableFine table count (tableOf es)) number asked h)
 
 -- ---- the limits
-
-or-false : (x y : Bool) → (x || y) ≡ false → (x ≡ false) × (y ≡ false)
-or-false true y e = absurd (false≢true (sym e))
-or-false false y e = (refl, e)
 
 module _ (s : SetOutcome) (p : Plan) where
   abbrev fitBy : Bool → Bool → Bool → Bool → Plan
@@ -258,7 +254,7 @@ module _ (file k v : List ℕ) {es : List Entry} {gs : List Given} {ls : List Li
           accepts = passed file table count k v version number e since asked none [] 0 .1
 
           many : count ≡ length es
-          many = fine-many table count (tableOf es) accepts ∙ length-starts 0 (linesOf es) ∙ length-map es lineOf
+          many = fine-many table count (tableOf es) accepts ∙ length-table es
 
           entry-within : (j : ℕ) → j < count → getD table j 0 ≤ headerLength es
           entry-within j h =
