@@ -23,7 +23,7 @@ use Rattle.format.specs.Data.{skipLine, skipLines, skipBytes, afterSkips
 use Rattle.format.specs.Calls.{dataAnswer, dataPlaceCall, dataCall, decoded, checkAt, checkSamplesCall, seenIn, listAfter, samplesCall}
 use Rattle.format.proofs.Header.{header-sound, data-area, header-complete}
 
--- ---- what is left is no more than there was
+-- ---- what is left past the skips is no more than there was
 
 abbrev pub AtMost : ℕ → Option (List ℕ) → Type 0
 AtMost n none = Unit {0}

@@ -192,7 +192,7 @@ module _ (l : Line) (n : ℕ) (gs : List Given) (ls : List Line) where
         numbers = rw (g .reading, e, g .count);
         count = g .count;
         table = g .table;
-        fresh = λ own h. rw (g .reading, le-ltb (length own) _ h, g .table);
+        fresh = λ own h. rw (g .reading, le-ltb (length own) (length (entry l (magic n) ∷ afterList done (ending l) es)) h, g .table);
         lines = lines-after-list done l (magic n) es;
         rest = data-area (fileIn x) (g .reading) ∙ sym (data-area first e);
         place = place-moved first (fileIn x) e (g .reading);
