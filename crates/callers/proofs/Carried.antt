@@ -126,6 +126,11 @@ list-follows (setting k v ∷ ss) (lent buf used table count) done p =
 
 -- ---- a reading, in bytes
 
+-- the answer on numbers, and its table in the bytes of `own`
+answer-in-bytes : (own : List ℕ) (x : ReadAnswer × List ℕ) (a b : ReadAnswer) (t u : List ℕ) → x ≡ (a, t) → a ≡ b → lentNumbers entryBytes t own ≡ u
+    → _≡_ {A = ReadAnswer × List ℕ} (x .0, lentNumbers entryBytes (x .1) own) (b, u)
+answer-in-bytes own x a b t u e f q = ap (λ (y : ReadAnswer × List ℕ). (y .0, lentNumbers entryBytes (y .1) own)) e ∙ (λ i. (f i, q i))
+
 module _ (file table : List ℕ) (p : AllBytes table) (es : List Entry) (gs : List Given) (ls : List Line) (e : header file ≡ accepted es gs ls) where
   table-below : AllBelow (256 ^ entryBytes) (tableOf es)
   table-below = starts-below (256 ^ entryBytes) 0 (linesOf es) (omega (arith, header-sound file e .short))
@@ -137,8 +142,8 @@ module _ (file table : List ℕ) (p : AllBytes table) (es : List Entry) (gs : Li
   read-done h =
       let q : ltb (length (numbersOf entryBytes table)) (length es) ≡ false =
       le-ltb (length (numbersOf entryBytes table)) (length es) (omega (arith, length-numbers entryBytes table)) in
-      ap (λ (o : Outcome). (withTable (numbersOf entryBytes table) o .0, lentNumbers entryBytes (withTable (numbersOf entryBytes table) o .1) table)) e
-      ∙ rw q (λ i. (readAnswer (accepted es gs ls), numbers-over entryBytes table p (tableOf es) (omega (arith, length-table es)) i))
+      answer-in-bytes table _ _ _ _ _ (ap (withTable (numbersOf entryBytes table)) e ∙ rw q) refl
+      (numbers-over entryBytes table p (tableOf es) (omega (arith, length-table es)))
 
   -- a reading that is not refused had room
   read-room : NotRefused (readEntry file table .0 .refusal) → length es ≤ length table / entryBytes
@@ -185,8 +190,7 @@ carried-at first table es gs ls b u (lent buf used t n) done e f s =
       fresh = λ own p h.
           let q : lentNumbers entryBytes (over (take n ns) (numbersOf entryBytes own)) own ≡ over (take (4 * n) t) own =
           numbers-over entryBytes own p (take n ns) (omega arith) ∙ ap (λ (v : List ℕ). over v own) (first-numbers entryBytes t (f .bytes) n room) in
-          ap (λ (a : ReadAnswer × List ℕ). (a .0, lentNumbers entryBytes (a .1) own)) (s .fresh (numbersOf entryBytes own) (omega (arith, s .count, length-numbers entryBytes own)))
-          ∙ (λ i. (s .numbers i, q i));
+          answer-in-bytes own _ _ _ _ _ (s .fresh (numbersOf entryBytes own) (omega (arith, s .count, length-numbers entryBytes own))) (s .numbers) q;
       value = λ key out. value-of (take used buf) key out (s .entries) gs ls (s .reading) ∙ ap (copyValue out) (s .values key);
       samples = λ second list. ap (λ (a : CountAnswer × List ℤ). (a .0, lentSamples (a .1) list)) (s .samples second (samplesLent list));
     }
