@@ -136,6 +136,12 @@ zeros-refilled buf b₀ used n d e =
     let q : used + d + (n - used - d) ≡ max (used + d) n = omega arith in
     rw (p, ← drop-drop (n - used) used buf, e, drop-zeros (n - used) d (used + d) b₀, q, zeros-joined, zeros-left used n d)
 
+-- the first used length is no larger than the largest
+most-first : (ss : List Setting) (x : Lent) → usedOf x ≤ mostUsed ss x
+unfolding mostUsed
+most-first [] x = omega arith
+most-first (s ∷ ss) x = omega arith
+
 module _ (b₀ t₀ : List ℕ) where
   -- the file, zeros up to m, and the bytes of b₀ from there; past the count the entries of t₀
   record Held (m : ℕ) (x : Lent) : Type 0 where
@@ -168,11 +174,6 @@ module _ (b₀ t₀ : List ℕ) where
     held-left (kept r) s = let e : max m used ≡ m = omega (arith, h .most) in rw e h
     held-left (changed (lent buf′ used′ table′ count′)) s = held-stored s
 
-  most-first : (ss : List Setting) (x : Lent) → usedOf x ≤ mostUsed ss x
-  unfolding mostUsed
-  most-first [] x = omega arith
-  most-first (s ∷ ss) x = omega arith
-
   -- after every list
   held-list : (ss : List Setting) (x : Lent) (done : List Setting) (m : ℕ) → Held m x → Held (max m (mostUsed ss x)) (setKeys ss x done .0)
   unfolding mostUsed setKeysBy
@@ -190,7 +191,7 @@ module _ (b₀ t₀ : List ℕ) where
 held-after : (l : Lent) (ss : List Setting) → Held (bufferOf l) (tableIn l) (mostUsed ss l) (setKeys ss l [] .0)
 held-after (lent buf used table count) ss =
     let l : Lent = lent buf used table count in
-    let e : max used (mostUsed ss l) ≡ mostUsed ss l = omega (arith, most-first buf table ss l) in
+    let e : max used (mostUsed ss l) ≡ mostUsed ss l = omega (arith, most-first ss l) in
     let z : used - used ≡ 0 = omega arith in
     rw e at (held-list buf table ss l [] used (record { most = omega arith; buffer = rw z (sym (take-append-drop used buf)); table = refl }))
 

@@ -13,7 +13,7 @@ use borrow.Author.Tests.{ltb-false, le-ltb, not-false, ne-eqb}
 use Rattle.format.specs.declared.Refusal.{Refusal}
 use Rattle.format.specs.Bytes.{if_then_else_, isSome, orElse, orDefault, over}
 use Rattle.format.specs.Limits.{maxFile, maxHeader, maxLines}
-use Rattle.format.specs.Refusals.{refusal, fine}
+use Rattle.format.specs.Refusals.{fine}
 use Rattle.format.specs.Lines.{Line, ending, unlines, starts}
 use Rattle.format.specs.Fields.{Given, pairsSince}
 use Rattle.format.specs.Header.{magic, Entry, entry, lineOf, linesOf, Outcome, refused, accepted, header, versionOf, valueOf, tableOf, headerLength}
