@@ -15,15 +15,16 @@ use borrow.Author.Tests.{eq-eqb, ne-eqb, eqb-true, eqb-false, ltb-true, ltb-fals
 use Rattle.format.specs.Bytes.{if_then_else_, bytes, HASH, PERCENT, every, same, beginsWith, isIn, isEmpty, isAny, rowFrom, isSome}
 use Rattle.format.specs.Refusals.{badByte, noMark, notInVersion, repeatedField, outOfOrder, badBackslash}
 use Rattle.format.specs.Pairs.{plain, mark, unescape}
-use Rattle.format.specs.Fields.{fieldNames, fieldNamed, understood, pairsSince, fieldSince, Given, isGiven, perAxis, inSpace, inOrder}
-use Rattle.format.specs.Descriptors.{trimFront, trimEnd, fromDescriptor, descriptor, isName}
+use Rattle.format.specs.Fields.{fieldNames, fieldNamed, pairsSince, fieldSince, Given, isGiven, perAxis, inSpace, inOrder}
+use Rattle.format.specs.Descriptors.{trimEnd, fromDescriptor, descriptor, isName}
 use Rattle.format.specs.Header.{comment, closing, wrong, right, unescaped, onPair, onField, onMark, judge}
 use Rattle.format.proofs.Bytes.{and-left, and-right}
+use Rattle.format.proofs.Descriptors.{drop-to-descriptor, take-trimmed}
 use Rattle.text.specs.declared.lines.Mark.the-variants.{Field, Pair, Nothing}
 use Rattle.text.specs.declared.words.Row.the-variants.{Number, Unknown}
 use Rattle.text.specs.Places.{before, markPlace}
 use Rattle.text.specs.Rows.{rowAnswer}
-use Rattle.text.proofs.Places.{drop-leading, take-trimmed, mark-split-field, mark-split-pair, mark-split-nothing}
+use Rattle.text.proofs.Places.{mark-split-field, mark-split-pair, mark-split-nothing}
 use Rattle.fields.specs.declared.state.State.{State}
 use Rattle.fields.specs.States.{fieldCount, flags, stateOf, Holds, described, stepOf, wrongOf}
 
@@ -196,14 +197,6 @@ module _ (t : List ℕ) (h : length t ≡ 0 → ⊥) where
     name-pattern i = rw (filled t h, e, i) (not-in-text PERCENT t)
 
 -- ---- descriptors
-
-drop-to-descriptor : (f : ℕ) (rest : List ℕ) → drop (length rest - length (fromDescriptor f rest)) rest ≡ fromDescriptor f rest
-drop-to-descriptor f rest = go (understood f)
-  where
-    go : (x : Bool)
-        → drop (length rest - length (if x then trimFront rest else rest)) rest ≡ (if x then trimFront rest else rest)
-    go true = drop-leading rest
-    go false = let e : length rest - length rest ≡ 0 = omega arith in rw e
 
 -- the part of what follows the mark that starts where the descriptor does, up to its last byte that is no blank
 pub descriptor-part : (f : ℕ) (rest : List ℕ) (from n : ℕ) → from ≡ length rest - length (fromDescriptor f rest)

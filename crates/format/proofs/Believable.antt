@@ -3,6 +3,7 @@ use Rattle.format.specs.Laws.{Laws}
 use Rattle.format.proofs.Lines.{unlines-of-lines, shape-of-lines, lines-unique, start-of-line}
 use Rattle.format.proofs.Pairs.{unescape-of-escape, escape-of-unescape, escape-injective, mark-of-pair, judge-of-pair, pair-key-fine, pair-value-fine}
 use Rattle.format.proofs.Header.{header-ends, data-area}
+use Rattle.format.proofs.Found.{field-found, key-found}
 use Rattle.format.proofs.Samples.{value-of-bytes, bytes-of-value}
 use Rattle.format.proofs.Boundary.{numbers-of-lent, lent-of-numbers, samples-of-lent, lent-of-samples, numbers-of-front}
 use Rattle.format.proofs.Writer.{number-of-decimal, value-of-decimal, hex-of-text, data-read-back}
@@ -24,6 +25,8 @@ laws =
       pair-value-fine = pair-value-fine;
       header-ends = header-ends;
       data-area = data-area;
+      field-found = field-found;
+      key-found = key-found;
       value-of-bytes = value-of-bytes;
       bytes-of-value = bytes-of-value;
       numbers-of-lent = numbers-of-lent;

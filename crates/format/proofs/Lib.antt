@@ -8,7 +8,10 @@ pub mod Places
 pub mod Samples
 pub mod Boundary
 pub mod Writer
+pub mod Descriptors
+pub mod Found
 pub mod Starred
 pub mod Listed
+pub mod FindTrials
 pub mod AtLimits
 pub mod Believable

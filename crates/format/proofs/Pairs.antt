@@ -294,12 +294,20 @@ pub record PairLine (version : ℕ) (t k v : List ℕ) : Type 0 where
   pub key : keyFine k ≡ true
   pub value : valueFine v ≡ true
 
--- what holds of a line t by its judgement: the above of a pair, nothing of the others
+-- of a line t: its mark parts a name from what has the descriptor d of the field f
+pub record FieldLine (t : List ℕ) (f : ℕ) (d : List ℕ) : Type 0 where
+  pub name : List ℕ
+  pub rest : List ℕ
+  pub marked : mark t ≡ fieldMark name rest
+  pub text-is : t ≡ name ++ (bytes ": " ++ rest)
+  pub described : d ≡ descriptor f rest
+
+-- what holds of a line t by its judgement: the above of a pair and of a field, nothing of the others
 abbrev Told : ℕ → List ℕ → Judged → Type 0
 Told version t (wrong n) = Unit
 Told version t (right (magic n)) = Unit
 Told version t (right comment) = Unit
-Told version t (right (field f d)) = Unit
+Told version t (right (field f d)) = FieldLine t f d
 Told version t (right (pair k v)) = PairLine version t k v
 Told version t (right closing) = Unit
 
@@ -307,14 +315,16 @@ told-unless : (version : ℕ) (t : List ℕ) (x : Bool) (n : ℕ) (j : Judged) �
 told-unless version t true n j h = tt
 told-unless version t false n j h = h
 
-told-field : (version : ℕ) (gs : List Given) (t : List ℕ) (o : Option ℕ) (rest : List ℕ) → Told version t (onField version gs o rest)
+told-field : (version : ℕ) (gs : List Given) (t n : List ℕ) (o : Option ℕ) (rest : List ℕ) → mark t ≡ fieldMark n rest → t ≡ n ++ (bytes ": " ++ rest)
+    → Told version t (onField version gs o rest)
 unfolding onField
-told-field version gs t none rest = tt
-told-field version gs t (some f) rest =
+told-field version gs t n none rest m e = tt
+told-field version gs t n (some f) rest m e =
     told-unless version t (ltb version (fieldSince f)) _ _
     (told-unless version t (isGiven f gs) _ _
     (told-unless version t (not (inOrder f gs)) _ _
-    (told-unless version t (not (mayDescribe gs f (descriptor f rest))) _ (right (field f (descriptor f rest))) tt)))
+    (told-unless version t (not (mayDescribe gs f (descriptor f rest))) _ (right (field f (descriptor f rest)))
+    (record { name = n; rest = rest; marked = m; text-is = e; described = refl }))))
 
 told-pair : (version : ℕ) (a c : List ℕ)
     → beginsFine (a ++ (bytes ":=" ++ c)) ≡ true → every plain (a ++ (bytes ":=" ++ c)) ≡ true → mark a ≡ unmarked
@@ -352,11 +362,11 @@ told-pair version (b ∷ s) c h p m = go (ltb version pairsSince) refl (unescape
     go false n (some k) i (some v) j =
         fine k v (ltb-false version pairsSince n) (escape-of-plain a k plain-key i) (escape-of-plain c v plain-value j)
 
-told-mark : (version : ℕ) (gs : List Given) (t : List ℕ) (m : Marked) → Parts t m → beginsFine t ≡ true → every plain t ≡ true
+told-mark : (version : ℕ) (gs : List Given) (t : List ℕ) (m : Marked) → mark t ≡ m → Parts t m → beginsFine t ≡ true → every plain t ≡ true
     → Told version t (onMark version gs m)
-told-mark version gs t unmarked q h p = tt
-told-mark version gs t (fieldMark n d) q h p = told-field version gs t (fieldNamed n) d
-told-mark version gs t (pairMark a c) q h p = rw (q .0) (told-pair version a c (rw (q .0) at h) (rw (q .0) at p) (q .1))
+told-mark version gs t unmarked e q h p = tt
+told-mark version gs t (fieldMark n d) e q h p = told-field version gs t n (fieldNamed n) d e (q .0)
+told-mark version gs t (pairMark a c) e q h p = rw (q .0) (told-pair version a c (rw (q .0) at h) (rw (q .0) at p) (q .1))
 
 told-judge : (version : ℕ) (gs : List Given) (t : List ℕ) → Told version t (judge version gs t)
 unfolding judge
@@ -366,12 +376,16 @@ told-judge version gs (b ∷ t) = go (eqb b HASH) refl (every plain (b ∷ t)) r
     go : (x : Bool) → eqb b HASH ≡ x → (y : Bool) → every plain (b ∷ t) ≡ y
         → Told version (b ∷ t) (if x then right comment else if not y then wrong badByte else onMark version gs (mark (b ∷ t)))
     go true e y p = tt
-    go false e true p = told-mark version gs (b ∷ t) (mark (b ∷ t)) (mark-parts (b ∷ t)) (rw e) p
+    go false e true p = told-mark version gs (b ∷ t) (mark (b ∷ t)) refl (mark-parts (b ∷ t)) (rw e) p
     go false e false p = tt
 
 -- what holds of every line that is read as a pair
 pub pair-line : (version : ℕ) (gs : List Given) (t k v : List ℕ) → judge version gs t ≡ right (pair k v) → PairLine version t k v
 pair-line version gs t k v e = rw e at (told-judge version gs t)
+
+-- what holds of every line that is read as a field
+pub field-line : (version : ℕ) (gs : List Given) (t : List ℕ) (f : ℕ) (d : List ℕ) → judge version gs t ≡ right (field f d) → FieldLine t f d
+field-line version gs t f d e = rw e at (told-judge version gs t)
 
 -- every key that a file holds can be set, and so can every value
 pub pair-key-fine : (version : ℕ) (gs : List Given) (t k v : List ℕ) → judge version gs t ≡ right (pair k v) → keyFine k ≡ true

@@ -17,6 +17,8 @@ use Rattle.format.specs.Header.{Entry, itemOf, linesOf, right, judge, pa
 use Rattle.format.specs.Samples.{inType, sampleValue, valueBytes, hexRun, hexBytes, tokenValue, samplesOf}
 use Rattle.format.specs.Writer.{decimal, signedDecimal, hexText, dataBytes, allInType}
 use Rattle.format.specs.Settings.{keyFine, valueFine, pairText}
+use Rattle.format.specs.Calls.{findFieldCall, findKeyCall}
+use Rattle.format.specs.Found.{FindsField, FindsKey}
 use Rattle.format.specs.Trials.{AtLimits}
 use Rattle.format.specs.Boundary.{wordBytes, numbersOf, samplesLent, numberBytes, lentNumbers, lentSamples}
 
@@ -85,6 +87,9 @@ pub record Laws : Type 0 where
   -- what follows the closing line decides nothing about the header; the data area is what follows it
   pub header-ends : (s : List ℕ) {es : List Entry} {gs : List Given} {r : List Line} → header s ≡ accepted es gs r → closed es ≡ true → (d : List ℕ) → length (unlines (linesOf es) ++ d) ≤ maxFile → header (unlines (linesOf es) ++ d) ≡ accepted es gs (lines d)
   pub data-area : (s : List ℕ) {es : List Entry} {gs : List Given} {r : List Line} → header s ≡ accepted es gs r → drop (headerLength es) s ≡ unlines r
+  -- what the look-ups find is the reading's: the descriptor of the field, and the last value of the key as it is written
+  pub field-found : (file : List ℕ) (f : ℕ) → FindsField file f (header file) (findFieldCall file f)
+  pub key-found : (file k : List ℕ) → FindsKey file k (header file) (findKeyCall file k)
   -- bytes of a sample and its value are inverse, over the width, for either endian
   pub value-of-bytes : (k : NumberKind) (w endian : ℕ) (z : ℤ) → 1 ≤ w → inType k w z ≡ true → sampleValue k endian (valueBytes w endian z) ≡ z
   pub bytes-of-value : (k : NumberKind) (endian : ℕ) (s : List ℕ) → AllBytes s → valueBytes (length s) endian (sampleValue k endian s) ≡ s

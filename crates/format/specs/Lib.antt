@@ -13,8 +13,10 @@ pub mod Writer
 pub mod Settings
 pub mod Calls
 pub mod Listing
+pub mod Found
 pub mod Trials
 pub mod ListingTrials
+pub mod FindTrials
 pub mod Boundary
 pub mod EntryPoints
 pub mod Laws

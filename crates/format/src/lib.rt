@@ -1,6 +1,7 @@
 // The NRRD format: its limits and numbers by name, and the values that answers are made of.
 // What is right is said in specs/; the laws that make it believable are in proofs/.
 ghost use mathlib.Core.Path.{_≡_};
+ghost use Rattle.format.specs.FindTrials.{FindTrials};
 ghost use Rattle.format.specs.Laws.{Laws};
 ghost use Rattle.format.specs.Limits.{limits};
 ghost use Rattle.format.specs.ListingTrials.{ListingTrials};
@@ -278,6 +279,13 @@ pub fn starred_trials() -> u64
 // What the listing prints for S and for files like it.
 pub fn listing_trials() -> u64
     ensures { λ r. ⌜ ListingTrials ⌝ }
+{
+    0
+}
+
+// The trials of the look-ups hold of the definitions.
+pub fn find_trials() -> u64
+    ensures { λ r. ⌜ FindTrials ⌝ }
 {
     0
 }

@@ -6,15 +6,13 @@ use mathlib.Core.Path.{_≡_, refl, sym, ap, _∙_}
 use mathlib.Core.List.{List, [], _∷_, _++_}
 use lib.ListN.{length}
 use Rattle.format.specs.declared.ReadAnswer.{ReadAnswer}
-use Rattle.format.specs.Lines.{Line, text, lines}
+use Rattle.format.specs.Lines.{Line, lines}
 use Rattle.format.specs.Fields.{Given}
-use Rattle.format.specs.Header.{Item, magic, comment, field, pair, closing, Entry, entry, linesOf, Outcome, refused, accepted, afterItem, header}
-use Rattle.format.specs.Settings.{pairText}
+use Rattle.format.specs.Header.{Entry, entry, linesOf, Outcome, refused, accepted, afterItem, header}
 use Rattle.format.specs.Calls.{noReading, readingOf, readAnswer, readHeaderCall}
 use Rattle.format.proofs.Lines.{length-lines-le}
-use Rattle.format.proofs.Pairs.{pair-line}
 use Rattle.format.proofs.Header.{Fine, fine-cases, header-sound}
-use Rattle.header.specs.Accepted.{Headed, IsItem, Items}
+use Rattle.header.specs.Accepted.{Headed, Items}
 
 -- there is a byte in an accepted file, and a line in its header
 pub some-byte : (file : List ℕ) {n : ℕ} → Headed file n → 0 < length file
@@ -53,26 +51,3 @@ items version (entry l i ∷ es) gs gs′ r f = (
   record { version = version; before = gs; judged = f .0 },
   fine-cases version gs l i es gs′ r (λ es gs′. Items es) f (λ s c k. tt) (λ s c g. items version es (afterItem i gs) gs′ r g),
 )
-
--- the text of a pair's line is its key, `:=` and its value
-abbrev pub WrittenAs : List ℕ → Item → Type 0
-WrittenAs t (magic n) = Unit {0}
-WrittenAs t comment = Unit {0}
-WrittenAs t (field f d) = Unit {0}
-WrittenAs t (pair k v) = t ≡ pairText k v
-WrittenAs t closing = Unit {0}
-
-abbrev pub Written : List Entry → Type 0
-Written [] = Unit {0}
-Written (entry l i ∷ es) = WrittenAs (text l) i × Written es
-
-written-as : (t : List ℕ) (i : Item) → IsItem t i → WrittenAs t i
-written-as t (magic n) w = tt
-written-as t comment w = tt
-written-as t (field f d) w = tt
-written-as t (pair k v) w = pair-line (w .version) (w .before) t k v (w .judged) .text-is
-written-as t closing w = tt
-
-pub written : (es : List Entry) → Items es → Written es
-written [] h = tt
-written (entry l i ∷ es) h = (written-as (text l) i (h .0), written es (h .1))

@@ -16,20 +16,21 @@ use Rattle.format.specs.Limits.{maxHeader}
 use Rattle.format.specs.Refusals.{fine, badByte, notInVersion, repeatedField, outOfOrder, badDescriptor}
 use Rattle.format.specs.Lines.{Line, line, text, size, lines, unlines}
 use Rattle.format.specs.Pairs.{plain, Marked, unmarked, fieldMark, pairMark, mark, escape, unescape}
-use Rattle.format.specs.Fields.{pairsSince, fieldSince, fieldNamed, understood, Given, isGiven, inOrder}
-use Rattle.format.specs.Descriptors.{trimFront, fromDescriptor, descriptor, mayDescribe}
+use Rattle.format.specs.Fields.{pairsSince, fieldSince, fieldNamed, Given, isGiven, inOrder}
+use Rattle.format.specs.Descriptors.{fromDescriptor, descriptor, mayDescribe}
 use Rattle.format.specs.Header.{Item, magic, comment, field, pair, closing, Entry, entry, lineOf, linesOf, wrong, right, unescaped, onPair, onField, onMark, judge, headerLength, valueIn, valueOf}
 use Rattle.format.specs.Settings.{beginsFine}
 use Rattle.format.specs.Calls.{noPlace, foundAt, valuePlace, keyPlace, findKeyIn, findKeyCall, beforeDescriptor, descriptorPlace, fieldPlace, findFieldIn, findFieldCall}
 use Rattle.format.proofs.Lines.{length-lines-le, length-unlines-cons, lines-after}
 use Rattle.format.proofs.Pairs.{mark-of-pair, pair-line, length-pair}
+use Rattle.format.proofs.Descriptors.{from-le}
 use Rattle.format.proofs.Header.{header-sound, magic-line}
 use Rattle.text.specs.declared.lines.Mark.the-variants.{Field, Pair, Nothing}
 use Rattle.text.specs.declared.words.Row.the-variants.{Number, Unknown}
 use Rattle.text.specs.Places.{markPlace}
 use Rattle.text.specs.Rows.{rowAnswer}
 use Rattle.text.specs.Meanings.{meansKey}
-use Rattle.text.proofs.Places.{mark-split-field, mark-split-pair, mark-split-nothing, trim-front-le}
+use Rattle.text.proofs.Places.{mark-split-field, mark-split-pair, mark-split-nothing}
 use Rattle.header.specs.Spans.{LineAt, PastAt}
 use Rattle.header.specs.Accepted.{Headed, IsItem, Items}
 use Rattle.header.proofs.LineCuts.{rest-of}
@@ -175,14 +176,6 @@ module _ (k : List ℕ) (at : ℕ) (found : FindAnswer) {t : List ℕ} {i : Item
             rw (← z, u, q) (pair-then k y v at (j + 2) (length t - (j + 2)) found (omega arith) (omega arith))
 
 -- ---- a field's descriptor, in one line
-
--- what a field's descriptor starts with is no longer than what follows the mark
-from-le : (f : ℕ) (rest : List ℕ) → length (fromDescriptor f rest) ≤ length rest
-from-le f rest = go (understood f)
-  where
-    go : (x : Bool) → length (if x then trimFront rest else rest) ≤ length rest
-    go true = trim-front-le rest
-    go false = omega arith
 
 -- the place of the descriptor in what follows a mark, which starts at `at`
 abbrev placeIn : ℕ → ℕ → List ℕ → FindAnswer

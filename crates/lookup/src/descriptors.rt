@@ -10,8 +10,9 @@ ghost use Rattle.format.specs.Limits.{maxHeader};
 ghost use Rattle.format.specs.Refusals.{fine};
 ghost use Rattle.format.specs.Fields.{fieldNamed};
 ghost use Rattle.format.specs.Descriptors.{fromDescriptor, descriptor};
-ghost use Rattle.format.specs.Header.{Item};
+ghost use Rattle.format.specs.Header.{Item, header};
 ghost use Rattle.format.specs.Calls.{noPlace, foundAt, descriptorPlace, findFieldCall};
+ghost use Rattle.format.specs.Found.{FindsField};
 ghost use Rattle.header.specs.Accepted.{IsItem};
 ghost use Rattle.lookup.specs.Lookup.{isField, FieldLeft};
 
@@ -81,9 +82,10 @@ fn first_field(file: &[u8], field: u32, from: usize, count: u32) -> FindAnswer
     crate::places::absent()
 }
 
-// Where the descriptor of a field lies in the file.
+// Where the descriptor of a field lies in the file, or nowhere if the field is not given.
 pub fn find_field(file: &[u8], field: u32) -> FindAnswer
-    ensures { λ r. ⌜ r ≡ findFieldCall (now (file .entry)) field ⌝ }
+    ensures call { λ r. ⌜ r ≡ findFieldCall (now (file .entry)) field ⌝ }
+    ensures finds { λ r. ⌜ FindsField (now (file .entry)) field (header (now (file .entry))) r ⌝ }
 {
     let read = header::read::read_header(file);
     let refusal = read.refusal;

@@ -10,8 +10,9 @@ ghost use Prim.Native.Nat.{ℕ, _+_, _≤_};
 ghost use lib.ListN.{length};
 ghost use Rattle.format.specs.Limits.{maxHeader};
 ghost use Rattle.format.specs.Refusals.{fine};
-ghost use Rattle.format.specs.Header.{Item};
+ghost use Rattle.format.specs.Header.{Item, header};
 ghost use Rattle.format.specs.Calls.{noPlace, findKeyCall, copyValueCall};
+ghost use Rattle.format.specs.Found.{FindsKey};
 ghost use Rattle.header.specs.Accepted.{Headed, IsItem};
 ghost use Rattle.lookup.specs.Lookup.{keyThen, latestOf, KeyLeft};
 
@@ -79,9 +80,10 @@ pub fn find_key_in(file: &[u8], key: &[u8], lines: u32) -> FindAnswer
     last_pair(file, key, crate::places::second_line(file), lines - 1)
 }
 
-// Where the value's text of a key lies in the file.
+// Where the value's text of a key lies in the file: that of its last value, escaped, or nowhere if no pair has the key.
 pub fn find_key(file: &[u8], key: &[u8]) -> FindAnswer
-    ensures { λ r. ⌜ r ≡ findKeyCall (now (file .entry)) (now (key .entry)) ⌝ }
+    ensures call { λ r. ⌜ r ≡ findKeyCall (now (file .entry)) (now (key .entry)) ⌝ }
+    ensures finds { λ r. ⌜ FindsKey (now (file .entry)) (now (key .entry)) (header (now (file .entry))) r ⌝ }
 {
     let read = header::read::read_header(file);
     let refusal = read.refusal;

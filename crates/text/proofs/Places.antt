@@ -375,28 +375,6 @@ module _ (b : ℕ) where
 
 -- ---- `trimFront`
 
-pub trim-front-le : (s : List ℕ) → length (trimFront s) ≤ length s
-unfolding trimFront
-trim-front-le [] = omega arith
-trim-front-le (b ∷ s) = go (spaceOrTab b) (trim-front-le s)
-  where
-    go : (x : Bool) → length (trimFront s) ≤ length s → length (if x then trimFront s else b ∷ s) ≤ suc (length s)
-    go true h = omega arith
-    go false h = omega arith
-
--- the trimmed text are the last bytes
-pub drop-leading : (s : List ℕ) → drop (length s - length (trimFront s)) s ≡ trimFront s
-unfolding trimFront
-drop-leading [] = refl
-drop-leading (b ∷ s) = go (spaceOrTab b) (drop-leading s)
-  where
-    go : (x : Bool) → drop (length s - length (trimFront s)) s ≡ trimFront s
-        → drop (suc (length s) - length (if x then trimFront s else b ∷ s)) (b ∷ s) ≡ (if x then trimFront s else b ∷ s)
-    go true h =
-        let e : suc (length s) - length (trimFront s) ≡ suc (length s - length (trimFront s)) = omega (arith, trim-front-le s) in
-        rw e h
-    go false h = let e : suc (length s) - suc (length s) ≡ 0 = omega arith in rw e
-
 -- the text from i on, by what stands at i
 module _ (s : List ℕ) (i : ℕ) where
   pub trim-front-next : i < length s → spaceOrTab (getD s i 0) ≡ true → trimFront (drop i s) ≡ trimFront (drop (i + 1) s)
@@ -412,20 +390,6 @@ module _ (s : List ℕ) (i : ℕ) where
   trim-front-end h = rw (drop-of-length-le s h)
 
 -- ---- `trimEnd`
-
--- the trimmed text are the first bytes
-pub take-trimmed : (s : List ℕ) → take (length (trimEnd s)) s ≡ trimEnd s
-unfolding trimEnd
-take-trimmed [] = refl
-take-trimmed (b ∷ s) = go (trimEnd s) (take-trimmed s)
-  where
-    last : (x : Bool) → take (length (if x then [] else b ∷ [])) (b ∷ s) ≡ (if x then [] else b ∷ [])
-    last true = refl
-    last false = refl
-
-    go : (t : List ℕ) → take (length t) s ≡ t → take (length (trimByte b t)) (b ∷ s) ≡ trimByte b t
-    go [] h = last (spaceOrTab b)
-    go (c ∷ t) h = ap (λ (u : List ℕ). b ∷ u) h
 
 -- a text by its last byte
 trim-end-space : (s : List ℕ) (b : ℕ) → spaceOrTab b ≡ true → trimEnd (s ++ (b ∷ [])) ≡ trimEnd s

@@ -14,7 +14,7 @@ told : (c : tie.Else1)
     (c .before .before .before .find-key .result)
 told c =
     let f = c .before .before .before .find-key in
-    value-found _ _ (f .result) (f .ensures) (not-false (f .result .found) (c .if1 .left))
+    value-found _ _ (f .result) (f .ensures .1) (not-false (f .result .found) (c .if1 .left))
 
 find-key-requires : tie.Need-find-key-requires
 find-key-requires c κs = search needs
@@ -23,7 +23,7 @@ returns : tie.Need-returns
 returns c =
     let a = c .before .before .before .before .before .before .before .args in
     let f = c .before .before .before .find-key in
-    sym (value-absent (a .file .now) (a .key .now) (f .result) (f .ensures) (not-true (f .result .found) (c .if1 .taken)) (a .out .now))
+    sym (value-absent (a .file .now) (a .key .now) (f .result) (f .ensures .1) (not-true (f .result .found) (c .if1 .taken)) (a .out .now))
 
 add-value : tie.Need-add-value
 add-value c = omega (arith, told c .place .within)
