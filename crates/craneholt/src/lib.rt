@@ -17,7 +17,9 @@ ghost use Rattle.format.specs.declared.WriteAnswer.{WriteAnswer};
 ghost use Rattle.format.specs.declared.SetAnswer.{SetAnswer};
 ghost use Rattle.format.specs.Limits.{maxLines};
 ghost use Rattle.format.specs.Boundary.{entryBytes};
+ghost use Rattle.format.specs.Header.{header};
 ghost use Rattle.format.specs.Calls.{readHeaderCall, findFieldCall, findKeyCall, copyValueCall, dataPlaceCall, checkSamplesCall};
+ghost use Rattle.format.specs.Found.{FindsField, FindsKey};
 ghost use Rattle.format.specs.EntryPoints.{readEntry, samplesEntry, sampleNumberEntry, writeEntry, setKeyEntry};
 ghost use Rattle.format.specs.Listing.{listingCall};
 
@@ -51,18 +53,20 @@ pub extern "C" fn craneholt_read(file: &[u8], table: &mut [u8]) -> ReadAnswer
     answer
 }
 
-// Where the descriptor of a field lies in the file.
+// Where the descriptor of a field lies in the file, or nowhere if the field is not given.
 #[no_mangle]
 pub extern "C" fn craneholt_find_field(file: &[u8], field: u32) -> FindAnswer
-    ensures { λ r. ⌜ r ≡ findFieldCall (now (file .entry)) field ⌝ }
+    ensures call { λ r. ⌜ r ≡ findFieldCall (now (file .entry)) field ⌝ }
+    ensures finds { λ r. ⌜ FindsField (now (file .entry)) field (header (now (file .entry))) r ⌝ }
 {
     lookup::descriptors::find_field(file, field)
 }
 
-// Where the value's text of a key lies in the file.
+// Where the value's text of a key lies in the file: that of its last value, escaped, or nowhere if no pair has the key.
 #[no_mangle]
 pub extern "C" fn craneholt_find_key(file: &[u8], key: &[u8]) -> FindAnswer
-    ensures { λ r. ⌜ r ≡ findKeyCall (now (file .entry)) (now (key .entry)) ⌝ }
+    ensures call { λ r. ⌜ r ≡ findKeyCall (now (file .entry)) (now (key .entry)) ⌝ }
+    ensures finds { λ r. ⌜ FindsKey (now (file .entry)) (now (key .entry)) (header (now (file .entry))) r ⌝ }
 {
     lookup::keys::find_key(file, key)
 }
