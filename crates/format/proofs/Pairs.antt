@@ -294,7 +294,7 @@ pub record PairLine (version : ℕ) (t k v : List ℕ) : Type 0 where
   pub key : keyFine k ≡ true
   pub value : valueFine v ≡ true
 
--- of a line t: its mark parts a name from what has the descriptor d of the field f
+-- of a line t: it is a name, `: ` and a rest, in which d is the descriptor of the field f
 pub record FieldLine (t : List ℕ) (f : ℕ) (d : List ℕ) : Type 0 where
   pub name : List ℕ
   pub rest : List ℕ

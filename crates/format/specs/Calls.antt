@@ -77,7 +77,7 @@ withTable table (accepted es gs ls) =
 abbrev pub readCall : List ℕ → List ℕ → ReadAnswer × List ℕ
 readCall file table = withTable table (header file)
 
--- ---- lookup::find_key, lookup::find_field: where the bytes lie in the file, or that they are absent
+-- ---- lookup::find_key, lookup::find_field: where the bytes lie in the file, or that they are absent; which bytes these are says specs/Found.antt
 
 abbrev pub noPlace : Refusal → FindAnswer
 noPlace r = record { refusal = r; found = false; start = 0; length = 0 }
