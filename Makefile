@@ -41,16 +41,21 @@ list: $(LISTING)
 
 # ---- Tests from C
 
-TESTS = include/craneholt.h tests/calls.h tests/model.h tests/generate.h tests/json.h $(ARCHIVE)
+TESTS = include/craneholt.h tests/bytes.h tests/calls.h tests/model.h tests/generate.h tests/json.h $(ARCHIVE)
 
-$(BUILD)/vectors: tests/vectors.c tests/json.c tests/model.c $(TESTS)
+$(BUILD)/vectors: tests/vectors.c tests/bytes.c tests/json.c tests/model.c $(TESTS)
 	@mkdir -p $(BUILD)
-	$(CC) $(STRICT) $(SANITIZE) -Iinclude tests/vectors.c tests/json.c tests/model.c $(ARCHIVE) -o $@
+	$(CC) $(STRICT) $(SANITIZE) -Iinclude $(filter %.c %.a,$^) -o $@
 
 # the implementation that the library is compared with has to agree with the vectors too
-$(BUILD)/vectors_model: tests/vectors.c tests/json.c tests/model.c $(TESTS)
+$(BUILD)/vectors_model: tests/vectors.c tests/bytes.c tests/json.c tests/model.c $(TESTS)
 	@mkdir -p $(BUILD)
-	$(CC) $(STRICT) $(SANITIZE) -DUSE_MODEL -Iinclude tests/vectors.c tests/json.c tests/model.c -o $@
+	$(CC) $(STRICT) $(SANITIZE) -DUSE_MODEL -Iinclude $(filter %.c,$^) -o $@
+
+# runs the listing program; the model is for the files that it makes
+$(BUILD)/listing: tests/listing.c tests/bytes.c tests/json.c tests/model.c $(TESTS)
+	@mkdir -p $(BUILD)
+	$(CC) $(STRICT) $(SANITIZE) -Iinclude $(filter %.c,$^) -o $@
 
 $(BUILD)/random: tests/random.c tests/generate.c tests/model.c $(TESTS)
 	@mkdir -p $(BUILD)
@@ -68,9 +73,10 @@ $(BUILD)/%: examples/%.c examples/files.h include/craneholt.h $(ARCHIVE)
 	@mkdir -p $(BUILD)
 	$(CC) $(STRICT) $(CFLAGS) -Iinclude $< $(ARCHIVE) -o $@
 
-check: $(BUILD)/vectors $(BUILD)/vectors_model $(BUILD)/empty $(BUILD)/random $(BUILD)/tokens $(BUILD)/correct $(BUILD)/merge
+check: $(BUILD)/vectors $(BUILD)/vectors_model $(BUILD)/listing $(LISTING) $(BUILD)/empty $(BUILD)/random $(BUILD)/tokens $(BUILD)/correct $(BUILD)/merge
 	$(BUILD)/vectors tests/vectors
 	$(BUILD)/vectors_model tests/vectors
+	$(BUILD)/listing $(LISTING) tests/vectors $(BUILD)
 	$(BUILD)/empty
 	$(BUILD)/random
 	$(BUILD)/tokens

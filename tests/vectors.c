@@ -5,6 +5,7 @@
  *
  *     vectors [folder]
  */
+#include "bytes.h"
 #include "calls.h"
 #include "json.h"
 #include "model.h"
@@ -21,24 +22,6 @@ static const struct calls calls = CALLS(craneholt);
 
 /* ---- bytes */
 
-struct bytes {
-    uint8_t *at;
-    size_t length;
-};
-
-/* Bytes of a length, all alike, so that a change shows. */
-static struct bytes filled(size_t length)
-{
-    struct bytes b = {malloc(length + 1), length};
-    memset(b.at, 0xa5, length);
-    return b;
-}
-
-static int same(struct bytes a, struct bytes b)
-{
-    return a.length == b.length && memcmp(a.at, b.at, a.length) == 0;
-}
-
 /* True if all bytes from start on are as filled. */
 static int untouched(struct bytes b, size_t start)
 {
@@ -54,16 +37,9 @@ static int holds(struct bytes b, struct bytes want)
     return want.length <= b.length && memcmp(b.at, want.at, want.length) == 0 && untouched(b, want.length);
 }
 
-/* The bytes of a string of hexadecimal digits. */
-static struct bytes of_hex(const struct json *text)
+static struct bytes of_text(const struct json *text)
 {
-    struct bytes b = filled(text->length / 2);
-    for (size_t i = 0; i < b.length; i++) {
-        unsigned byte = 0;
-        sscanf(text->text + 2 * i, "%2x", &byte);
-        b.at[i] = (uint8_t)byte;
-    }
-    return b;
+    return of_hex(text->text, text->length);
 }
 
 /* The bytes of a list of numbers, low byte first. */
@@ -79,7 +55,7 @@ static struct bytes of_numbers(const struct json *list, size_t width)
 
 static struct bytes hex_member(const struct json *v, const char *name)
 {
-    return of_hex(json_member(v, name));
+    return of_text(json_member(v, name));
 }
 
 static uint64_t number_member(const struct json *v, const char *name)
@@ -122,7 +98,7 @@ static int field_is_right(struct bytes file, uint32_t field, const struct json *
         return 0;
     if (text == NULL)
         return !place.found && place.start == 0 && place.length == 0;
-    want = of_hex(text);
+    want = of_text(text);
     right = place.found == 1 && same(found, want);
     free(want.at);
     return right;
@@ -140,7 +116,7 @@ static int fields_are_right(const struct json *v, struct bytes file)
 /* True if the key has this value; start is where the value of the key before it starts. */
 static int key_is_right(struct bytes file, const struct json *pair, uint64_t *start)
 {
-    struct bytes key = of_hex(pair->first), value = of_hex(pair->first->next);
+    struct bytes key = of_text(pair->first), value = of_text(pair->first->next);
     struct bytes out = filled(value.length);
     craneholt_find_answer place = calls.find_key(file.at, file.length, key.at, key.length);
     craneholt_value_answer copy =
@@ -276,7 +252,7 @@ static int run_write(const struct json *v)
 {
     struct bytes sizes = of_numbers(json_member(v, "sizes"), 8), out = filled(number_member(v, "room"));
     struct bytes samples = of_numbers(json_member(v, "samples"), 8);
-    struct bytes want = is_accepted(v) ? of_hex(expected(v, 1)) : filled(0);
+    struct bytes want = is_accepted(v) ? of_text(expected(v, 1)) : filled(0);
     craneholt_write_answer answer =
         calls.write(number_member(v, "version"), sizes.at, sizes.length, number_member(v, "type"),
                     number_member(v, "encoding"), number_member(v, "endian"),
@@ -374,35 +350,13 @@ static void run_line(const char *text, int number)
     json_free(v);
 }
 
-/* The bytes of a file; at is NULL if there is none. */
-static struct bytes load(const char *path)
-{
-    struct bytes b = {NULL, 0};
-    FILE *file = fopen(path, "rb");
-    long length;
-    if (file == NULL)
-        return b;
-    fseek(file, 0, SEEK_END);
-    length = ftell(file);
-    rewind(file);
-    b = filled((size_t)length);
-    if (fread(b.at, 1, b.length, file) != b.length)
-        b.length = 0;
-    fclose(file);
-    return b;
-}
-
 /* The lines of calls.jsonl. */
 static void run_calls(const char *folder)
 {
-    char path[4096];
-    struct bytes text;
+    struct bytes text = load(folder, "calls.jsonl");
     int number = 0;
-    snprintf(path, sizeof path, "%s/calls.jsonl", folder);
-    text = load(path);
     if (text.at == NULL)
         return;
-    text.at[text.length] = '\0';
     for (char *line = strtok((char *)text.at, "\n"); line != NULL; line = strtok(NULL, "\n"))
         run_line(line, ++number);
     free(text.at);
@@ -411,14 +365,14 @@ static void run_calls(const char *folder)
 /* The listing of one file; false if there is none of this number. */
 static int run_listing_file(const char *folder, int number)
 {
-    char path[4096];
+    char name[40];
     struct bytes in, out;
-    snprintf(path, sizeof path, "%s/listing/%03d.in", folder, number);
-    in = load(path);
+    snprintf(name, sizeof name, "listing/%03d.in", number);
+    in = load(folder, name);
     if (in.at == NULL)
         return 0;
-    snprintf(path, sizeof path, "%s/listing/%03d.out", folder, number);
-    out = load(path);
+    snprintf(name, sizeof name, "listing/%03d.out", number);
+    out = load(folder, name);
     count(LISTING_FILES, out.at != NULL && listing_is_right(in, out), "file", number);
     free(in.at);
     free(out.at);

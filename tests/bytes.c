@@ -1,0 +1,49 @@
+#include "bytes.h"
+
+#include <stdio.h>
+#include <stdlib.h>
+#include <string.h>
+
+struct bytes filled(size_t length)
+{
+    struct bytes b = {malloc(length + 1), length};
+    memset(b.at, 0xa5, length);
+    return b;
+}
+
+int same(struct bytes a, struct bytes b)
+{
+    return a.length == b.length && memcmp(a.at, b.at, a.length) == 0;
+}
+
+struct bytes of_hex(const char *text, size_t length)
+{
+    struct bytes b = filled(length / 2);
+    for (size_t i = 0; i < b.length; i++) {
+        unsigned byte = 0;
+        sscanf(text + 2 * i, "%2x", &byte);
+        b.at[i] = (uint8_t)byte;
+    }
+    return b;
+}
+
+struct bytes load(const char *folder, const char *name)
+{
+    struct bytes b = {NULL, 0};
+    char path[4096];
+    FILE *file;
+    long length;
+    snprintf(path, sizeof path, "%s/%s", folder, name);
+    file = fopen(path, "rb");
+    if (file == NULL)
+        return b;
+    fseek(file, 0, SEEK_END);
+    length = ftell(file);
+    rewind(file);
+    b = filled((size_t)length);
+    if (fread(b.at, 1, b.length, file) != b.length)
+        b.length = 0;
+    b.at[b.length] = '\0';
+    fclose(file);
+    return b;
+}

@@ -1,0 +1,217 @@
+/*
+ * Runs the listing program on every listing vector, and on files that are
+ * empty, as long as the program takes, and longer, these also by a pipe, in
+ * small pieces. What the program prints is compared byte for byte; it has to
+ * end with status 0, whether the file is refused or not.
+ *
+ *     listing program [vectors] [folder for input and output]
+ */
+#include "bytes.h"
+#include "json.h"
+#include "model.h"
+
+#include <stdio.h>
+#include <stdlib.h>
+#include <string.h>
+
+/* how many vectors there are, so that a missing one shows */
+enum { FILES = 320, CALLS = 49 };
+
+static const char *program, *vectors = "tests/vectors", *work = "build";
+static int passed, failed;
+
+/* ---- one run of the program */
+
+static const char as_file[] = "\"$program\" < \"$in\" > \"$out\"";
+static const char by_pipe[] = "dd obs=1000 if=\"$in\" 2> /dev/null | \"$program\" > \"$out\"";
+
+static void store_input(struct bytes b)
+{
+    char path[4096];
+    FILE *file;
+    snprintf(path, sizeof path, "%s/listing.in", work);
+    file = fopen(path, "wb");
+    if (file == NULL || fwrite(b.at, 1, b.length, file) != b.length || fclose(file) != 0) {
+        fprintf(stderr, "%s cannot be written\n", path);
+        exit(2);
+    }
+}
+
+/* True if the program ends with status 0 and prints what is wanted for the input. */
+static int prints(const char *way, struct bytes want)
+{
+    char command[8192];
+    struct bytes out;
+    int right;
+    snprintf(command, sizeof command, "program='%s' in='%s/listing.in' out='%s/listing.out'; %s",
+             program, work, work, way);
+    right = system(command) == 0;
+    out = load(work, "listing.out");
+    right = right && out.at != NULL && same(out, want);
+    free(out.at);
+    return right;
+}
+
+static void run(const char *way, const char *name, int number, struct bytes file, struct bytes want)
+{
+    store_input(file);
+    if (prints(way, want)) {
+        passed++;
+        return;
+    }
+    failed++;
+    printf("listing program failed: %s %d%s\n", name, number, way == by_pipe ? " by a pipe" : "");
+}
+
+/* ---- the vectors */
+
+static int run_files(void)
+{
+    int number = 0;
+    for (; number < FILES; number++) {
+        char name[40];
+        struct bytes file, want;
+        snprintf(name, sizeof name, "listing/%03d.in", number);
+        file = load(vectors, name);
+        snprintf(name, sizeof name, "listing/%03d.out", number);
+        want = load(vectors, name);
+        if (file.at == NULL || want.at == NULL)
+            break;
+        run(as_file, "vector", number, file, want);
+        free(file.at);
+        free(want.at);
+    }
+    return number;
+}
+
+/* True if the line is a listing call. */
+static int run_call(const char *line, int number)
+{
+    struct json *v = json_read(line);
+    int listing = strcmp(json_member(v, "op")->text, "listing") == 0;
+    if (listing) {
+        const struct json *file = json_member(v, "file"), *text = json_member(v, "expect")->first->next;
+        struct bytes in = of_hex(file->text, file->length), want = {(uint8_t *)text->text, text->length};
+        run(as_file, "calls.jsonl line", number, in, want);
+        free(in.at);
+    }
+    json_free(v);
+    return listing;
+}
+
+static int run_calls(void)
+{
+    struct bytes text = load(vectors, "calls.jsonl");
+    int number = 0, calls = 0;
+    if (text.at == NULL)
+        return 0;
+    for (char *line = strtok((char *)text.at, "\n"); line != NULL; line = strtok(NULL, "\n"))
+        calls += run_call(line, ++number);
+    free(text.at);
+    return calls;
+}
+
+/* ---- files of a length */
+
+/* A file and its listing, as they are put together. */
+static struct text {
+    char at[200001];
+    size_t length;
+} file, listing;
+
+#define PUT(text, ...) \
+    ((text).length += (size_t)snprintf((text).at + (text).length, sizeof (text).at - (text).length, __VA_ARGS__))
+
+/* The lines of both but for the key pairs; the data starts at a place. */
+static void start(unsigned samples, unsigned start)
+{
+    file.length = listing.length = 0;
+    PUT(file, "NRRD0004\ntype: uint8\ndimension: 1\nsizes: %u\nencoding: raw\n", samples);
+    PUT(listing, "version 4\nform attached\ntype uint8\nsizes %u\nencoding raw\nendian none\nstart %u\nextent %u\n",
+        samples, start, samples);
+}
+
+/* Bytes up to a length. */
+static void fill(size_t length)
+{
+    while (file.length < length)
+        file.at[file.length++] = 'a';
+}
+
+/* A line of a key pair, of a length with its ending. */
+static void put_pair(unsigned key, size_t length)
+{
+    size_t value, line = file.length;
+    PUT(file, "key %u:=", key);
+    PUT(listing, "key key %u=", key);
+    value = file.length;
+    fill(line + length - 1);
+    PUT(listing, "%.*s\n", (int)(file.length - value), file.at + value);
+    file.at[file.length++] = '\n';
+}
+
+/* The file, and its listing by the model too. */
+static void run_length(size_t length, const char *text, size_t text_length)
+{
+    struct bytes in = {(uint8_t *)file.at, length}, want = {(uint8_t *)text, text_length};
+    struct bytes out = filled(CRANEHOLT_MAX_LISTING);
+    out.length = model_listing(in.at, in.length, out.at, out.length).length;
+    run(as_file, "length", (int)length, in, want);
+    run(by_pipe, "length", (int)length, in, want);
+    if (!same(out, want)) {
+        failed++;
+        printf("model failed: length %d\n", (int)length);
+    }
+    free(out.at);
+}
+
+static void run_refused(size_t length, const char *text)
+{
+    run_length(length, text, strlen(text));
+}
+
+static void run_lengths(void)
+{
+    run_refused(0, "refused 2 line 1\n");
+
+    /* the data reaches to the last byte */
+    start(65474, 62);
+    PUT(file, "\n");
+    fill(200000);
+    run_refused(65535, "refused 18 line 0\n");
+    run_length(CRANEHOLT_MAX_LISTED, listing.at, listing.length);
+    run_refused(CRANEHOLT_MAX_LISTED + 1, "refused 22 line 0\n");
+    run_refused(200000, "refused 22 line 0\n");
+
+    /* the header is as long as it may be, in as many lines, and the data is the last byte */
+    start(1, CRANEHOLT_MAX_HEADER);
+    for (unsigned key = 0; key < 1017; key++)
+        put_pair(key, 64);
+    put_pair(1017, CRANEHOLT_MAX_HEADER - 1 - file.length);
+    PUT(file, "\nab");
+    run_length(CRANEHOLT_MAX_LISTED, listing.at, listing.length);
+    run_refused(CRANEHOLT_MAX_LISTED + 1, "refused 22 line 0\n");
+}
+
+int main(int arguments, char **argument)
+{
+    int files, calls;
+    if (arguments < 2) {
+        fprintf(stderr, "usage: listing program [vectors] [folder for input and output]\n");
+        return 2;
+    }
+    program = argument[1];
+    if (arguments > 2)
+        vectors = argument[2];
+    if (arguments > 3)
+        work = argument[3];
+    files = run_files();
+    calls = run_calls();
+    run_lengths();
+    if (files != FILES || calls != CALLS) {
+        failed++;
+        printf("listing program: %d of %d files, %d of %d calls\n", files, FILES, calls, CALLS);
+    }
+    printf("listing program, %d files and %d calls: %d passed, %d failed\n", files, calls, passed, failed);
+    return failed != 0;
+}
