@@ -65,23 +65,31 @@ static void run(const char *way, const char *name, int number, struct bytes file
 
 /* ---- the vectors */
 
+/* True if there is a vector of this number. */
+static int run_file(int number)
+{
+    char name[40];
+    struct bytes file, want;
+    int there;
+    snprintf(name, sizeof name, "listing/%03d.in", number);
+    file = load(vectors, name);
+    snprintf(name, sizeof name, "listing/%03d.out", number);
+    want = load(vectors, name);
+    there = file.at != NULL && want.at != NULL;
+    if (there)
+        run(as_file, "vector", number, file, want);
+    free(file.at);
+    free(want.at);
+    return there;
+}
+
+/* One past the last too, so that a vector more shows as well. */
 static int run_files(void)
 {
-    int number = 0;
-    for (; number < FILES; number++) {
-        char name[40];
-        struct bytes file, want;
-        snprintf(name, sizeof name, "listing/%03d.in", number);
-        file = load(vectors, name);
-        snprintf(name, sizeof name, "listing/%03d.out", number);
-        want = load(vectors, name);
-        if (file.at == NULL || want.at == NULL)
-            break;
-        run(as_file, "vector", number, file, want);
-        free(file.at);
-        free(want.at);
-    }
-    return number;
+    int files = 0;
+    for (int number = 0; number <= FILES; number++)
+        files += run_file(number);
+    return files;
 }
 
 /* True if the line is a listing call. */
