@@ -1,6 +1,7 @@
 # make            proves the library and makes its archive, target/staticlib/libcraneholt.a
 # make list FILE=examples/sweep.nrrd   lists a file
 # make check      the tests from C, over the archive
+# make peers      lets teem-unu, where it is installed, read files that we write
 # make install    header, archive and pkg-config file under PREFIX
 # make bench      times the calls beside plain C, and beside libteem where it is installed; RUNS=5: the median of five runs; ONLY=hex: these tables
 
@@ -21,7 +22,7 @@ STRICT  = -std=c99 -Wall -Wextra -pedantic -Werror
 SANITIZE = -O1 -g -fsanitize=address,undefined -fno-sanitize-recover=all
 SOURCES = crates.txt $(shell find crates -name '*.rt' -o -name '*.antt')
 
-.PHONY: all list check install uninstall bench clean
+.PHONY: all list check peers teem-unu install uninstall bench clean
 all: $(ARCHIVE)
 
 # rt tells what it proves; only a failure is shown
@@ -41,7 +42,7 @@ list: $(LISTING)
 
 # ---- Tests from C
 
-TESTS = include/craneholt.h tests/bytes.h tests/calls.h tests/model.h tests/generate.h tests/json.h $(ARCHIVE)
+TESTS = include/craneholt.h tests/bytes.h tests/calls.h tests/model.h tests/generate.h tests/json.h tests/said.h $(ARCHIVE)
 
 $(BUILD)/vectors: tests/vectors.c tests/bytes.c tests/json.c tests/model.c $(TESTS)
 	@mkdir -p $(BUILD)
@@ -56,6 +57,11 @@ $(BUILD)/vectors_model: tests/vectors.c tests/bytes.c tests/json.c tests/model.c
 $(BUILD)/listing: tests/listing.c tests/bytes.c tests/json.c tests/model.c $(TESTS)
 	@mkdir -p $(BUILD)
 	$(CC) $(STRICT) $(SANITIZE) -Iinclude $(filter %.c,$^) -o $@
+
+# files that another program made, and our files for it
+$(BUILD)/peers $(BUILD)/written: $(BUILD)/%: tests/%.c tests/said.c tests/bytes.c tests/model.c $(TESTS)
+	@mkdir -p $(BUILD)
+	$(CC) $(STRICT) $(SANITIZE) -Iinclude $(filter %.c %.a,$^) -o $@
 
 $(BUILD)/random: tests/random.c tests/generate.c tests/model.c $(TESTS)
 	@mkdir -p $(BUILD)
@@ -73,15 +79,27 @@ $(BUILD)/%: examples/%.c examples/files.h include/craneholt.h $(ARCHIVE)
 	@mkdir -p $(BUILD)
 	$(CC) $(STRICT) $(CFLAGS) -Iinclude $< $(ARCHIVE) -o $@
 
-check: $(BUILD)/vectors $(BUILD)/vectors_model $(BUILD)/listing $(LISTING) $(BUILD)/empty $(BUILD)/random $(BUILD)/tokens $(BUILD)/correct $(BUILD)/merge
+check: $(BUILD)/vectors $(BUILD)/vectors_model $(BUILD)/listing $(LISTING) $(BUILD)/peers $(BUILD)/empty $(BUILD)/random $(BUILD)/tokens $(BUILD)/correct $(BUILD)/merge
 	$(BUILD)/vectors tests/vectors
 	$(BUILD)/vectors_model tests/vectors
 	$(BUILD)/listing $(LISTING) tests/vectors $(BUILD)
+	$(BUILD)/peers tests/peers
 	$(BUILD)/empty
 	$(BUILD)/random
 	$(BUILD)/tokens
 	CC="$(CC)" CXX="$(CXX)" sh tests/install.sh
 	sh tests/examples.sh $(BUILD)
+
+teem-unu:
+	@command -v $@ > /dev/null || { echo "$@ is not installed (package teem-apps): nothing is compared" >&2; exit 1; }
+
+# also makes the files of tests/peers again, and compares them
+peers: teem-unu $(BUILD)/written $(BUILD)/peers
+	$(BUILD)/peers tests/peers
+	rm -rf $(BUILD)/again && mkdir $(BUILD)/again
+	sh tests/peers/make.sh $(BUILD)/again
+	diff -r -x README.md -x answers.txt -x make.sh tests/peers $(BUILD)/again
+	$(BUILD)/written $(BUILD)
 
 # ---- Install
 

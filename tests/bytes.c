@@ -27,14 +27,18 @@ struct bytes of_hex(const char *text, size_t length)
     return b;
 }
 
+static FILE *open_file(const char *folder, const char *name, const char *mode)
+{
+    char path[4096];
+    snprintf(path, sizeof path, "%s/%s", folder, name);
+    return fopen(path, mode);
+}
+
 struct bytes load(const char *folder, const char *name)
 {
     struct bytes b = {NULL, 0};
-    char path[4096];
-    FILE *file;
+    FILE *file = open_file(folder, name, "rb");
     long length;
-    snprintf(path, sizeof path, "%s/%s", folder, name);
-    file = fopen(path, "rb");
     if (file == NULL)
         return b;
     fseek(file, 0, SEEK_END);
@@ -46,4 +50,13 @@ struct bytes load(const char *folder, const char *name)
     b.at[b.length] = '\0';
     fclose(file);
     return b;
+}
+
+void store(const char *folder, const char *name, struct bytes b)
+{
+    FILE *file = open_file(folder, name, "wb");
+    if (file == NULL || fwrite(b.at, 1, b.length, file) != b.length || fclose(file) != 0) {
+        fprintf(stderr, "%s/%s cannot be written\n", folder, name);
+        exit(2);
+    }
 }

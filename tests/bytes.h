@@ -21,4 +21,7 @@ struct bytes of_hex(const char *text, size_t length);
 /* The bytes of a file of a folder, and a zero byte after them; at is NULL if there is none. */
 struct bytes load(const char *folder, const char *name);
 
+/* Makes a file of a folder; ends the program if it cannot. */
+void store(const char *folder, const char *name, struct bytes b);
+
 #endif

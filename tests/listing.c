@@ -25,18 +25,6 @@ static int passed, failed;
 static const char as_file[] = "\"$program\" < \"$in\" > \"$out\"";
 static const char by_pipe[] = "dd obs=1000 if=\"$in\" 2> /dev/null | \"$program\" > \"$out\"";
 
-static void store_input(struct bytes b)
-{
-    char path[4096];
-    FILE *file;
-    snprintf(path, sizeof path, "%s/listing.in", work);
-    file = fopen(path, "wb");
-    if (file == NULL || fwrite(b.at, 1, b.length, file) != b.length || fclose(file) != 0) {
-        fprintf(stderr, "%s cannot be written\n", path);
-        exit(2);
-    }
-}
-
 /* True if the program ends with status 0 and prints what is wanted for the input. */
 static int prints(const char *way, struct bytes want)
 {
@@ -54,7 +42,7 @@ static int prints(const char *way, struct bytes want)
 
 static void run(const char *way, const char *name, int number, struct bytes file, struct bytes want)
 {
-    store_input(file);
+    store(work, "listing.in", file);
     if (prints(way, want)) {
         passed++;
         return;
@@ -130,13 +118,13 @@ static struct text {
 #define PUT(text, ...) \
     ((text).length += (size_t)snprintf((text).at + (text).length, sizeof (text).at - (text).length, __VA_ARGS__))
 
-/* The lines of both but for the key pairs; the data starts at a place. */
-static void start(unsigned samples, unsigned start)
+/* The lines of both before the key pairs; the data starts at this place. */
+static void begin(unsigned samples, unsigned place)
 {
     file.length = listing.length = 0;
     PUT(file, "NRRD0004\ntype: uint8\ndimension: 1\nsizes: %u\nencoding: raw\n", samples);
     PUT(listing, "version 4\nform attached\ntype uint8\nsizes %u\nencoding raw\nendian none\nstart %u\nextent %u\n",
-        samples, start, samples);
+        samples, place, samples);
 }
 
 /* Bytes up to a length. */
@@ -183,7 +171,7 @@ static void run_lengths(void)
     run_refused(0, "refused 2 line 1\n");
 
     /* the data reaches to the last byte */
-    start(65474, 62);
+    begin(65474, 62);
     PUT(file, "\n");
     fill(200000);
     run_refused(65535, "refused 18 line 0\n");
@@ -192,7 +180,7 @@ static void run_lengths(void)
     run_refused(200000, "refused 22 line 0\n");
 
     /* the header is as long as it may be, in as many lines, and the data is the last byte */
-    start(1, CRANEHOLT_MAX_HEADER);
+    begin(1, CRANEHOLT_MAX_HEADER);
     for (unsigned key = 0; key < 1017; key++)
         put_pair(key, 64);
     put_pair(1017, CRANEHOLT_MAX_HEADER - 1 - file.length);
