@@ -15,14 +15,10 @@ use mir.Val.{SFits, boolByte, toZ, ofZ}
 use mir.Facts.{toZ-ofZ}
 use borrow.Author.Tests.{ltb-true, ltb-false, eqb-true, eqb-false, ne-eqb}
 use Rattle.format.specs.Bytes.{if_then_else_, isDigit}
-use Rattle.format.specs.Samples.{blank, skipBlanks}
+use Rattle.format.specs.Samples.{blank}
 use Rattle.tokens.specs.declared.reader.Digits.the-variants.{Run}
-use Rattle.tokens.specs.declared.reader.TokenRead.{TokenRead}
-use Rattle.tokens.specs.declared.reader.TokenRead.the-variants.{NoSample, Sample}
-use Rattle.tokens.specs.declared.reader.TextSample.{TextSample}
-use Rattle.tokens.specs.Tokens.{Scan, Skipped, isSign, Front, ShortNumber, bySign, minus, digitsAt, boundToken, tokenAt, sampleOf, samplesIn, OneSample}
+use Rattle.tokens.specs.Tokens.{Scan, isSign, Front, ShortNumber, bySign, minus, digitsAt, boundToken, tokenAt}
 use Rattle.tokens.proofs.TokenLaws.{digit-high, scan-none, scan-more, scan-done, token-stop, token-plus, token-minus, token-plain}
-use Rattle.tokens.proofs.WalkLaws.{tokens-short, tokens-bad, got}
 
 pub bit-le : (d : Bool) → boolByte d ≤ 1
 bit-le true = omega arith
@@ -248,39 +244,3 @@ stored true (suc k) h z e =
 stored false m h z e =
     let f : SFits w64 (pos m) = record { sfits = omega (arith, h .1 refl) } in
     ap (λ (y : ℤ). toZ w64 (ofZ w64 y)) e ∙ toZ-ofZ f
-
--- ---- the first sample, by its token
-
-pub sample-is : {t : TokenRead} (z y : ℤ) (e at : ℕ) → t ≡ Sample z e → y ≡ z
-    → _≡_ {A = TextSample} (record { number = 0; value = y; next = e }) (sampleOf t at)
-sample-is z y e at p q = rw (p, q) refl
-
-module _ (low high : ℕ) (s : List ℕ) (at a i : ℕ) (p : drop a s ≡ drop at s) (k : Skipped s a i) where
-  skipped : skipBlanks (drop at s) ≡ drop i s
-  skipped = ap skipBlanks (sym p) ∙ k .past
-
-  pub one-end : i ≡ length s → OneSample (samplesIn low high) s at (record { number = 21; value = pos 0; next = i })
-  one-end q = record {
-    within = k .within;
-    refused = λ no-0 n. rw (skipped, tokens-short low high (suc n) s i (λ o. omega arith) q) refl;
-    taken = λ is-0 n. absurd (omega arith);
-    fits = record { sfits = omega arith };
-  }
-
-  pub one-token : (t : TokenRead) (o : ℕ) (r : TextSample) → i < length s → o ≤ length s → t ≡ tokenAt low high s i → r ≡ sampleOf t o → SFits w64 (r .value)
-      → OneSample (samplesIn low high) s at r
-  one-token NoSample o r h l q e f = rw e (record {
-    within = l;
-    refused = λ no-0 n. rw (skipped, tokens-bad low high (suc n) s i (λ z. omega arith) h q) refl;
-    taken = λ is-0 n. absurd (omega arith);
-    fits = record { sfits = omega arith };
-  })
-  one-token (Sample z y) o r h l q e f = rw e (record {
-    within = got low high 1 s i (λ x. omega arith) h z y q .within;
-    refused = λ no-0 n. absurd (no-0 refl);
-    taken = λ is-0 n.
-        let g = got low high (suc n) s i (λ x. omega arith) h z y q in
-        let one-less : suc n - 1 ≡ n = omega arith in
-        rw (skipped, g .more, one-less) refl;
-    fits = rw e at f;
-  })

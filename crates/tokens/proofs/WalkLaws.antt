@@ -1,27 +1,27 @@
 -- Laws of several tokens: a walk over n of them, the first of them alone, and a list that is filled with their values.
 -- Assumes nothing.
-use Prim.Native.Nat.{ℕ, zero, suc, _+_, _-_, _≤_, _<_, min}
-use native.Mathlib.Nat.{zero-add}
-use native.Mathlib.Numerals.{add-one}
+use Prim.Native.Nat.{ℕ, zero, suc, _+_, _*_, _-_, _/_, _≤_, _<_}
+use native.Mathlib.Nat.{zero-add, suc-add, zero-mul, mul-zero, suc-mul}
 use native.Mathlib.Omega.{arith}
-use mathlib.Core.Path.{_≡_, refl, sym, ap, _∙_}
+use mathlib.Core.Path.{_≡_, refl, sym, ap, _∙_, subst}
 use mathlib.Core.Bool.{Bool, true, false}
 use mathlib.Core.List.{List, [], _∷_, _++_}
 use mathlib.Core.Option.{Option, none, some}
-use lib.Dec.{leb}
+use lib.Dec.{ltb}
 use lib.IntN.{ℤ, pos, negsuc}
-use lib.ListN.{set, length, drop, length-drop}
-use lib.Seq.{drop-drop, sets, sets-eq}
+use lib.ListN.{set, length, drop, length-drop, length-set}
+use lib.Seq.{drop-drop, sets, sets-eq, set-out}
 use mir.Syntax.{w64}
-use mir.Val.{SFits}
-use borrow.Author.Tests.{leb-true, leb-false}
+use mir.Val.{SFits, toZ, ofZ}
+use mir.Facts.{toZ-ofZ}
+use borrow.Author.Tests.{ltb-true, ltb-false}
 use Rattle.format.specs.Bytes.{if_then_else_, over}
-use Rattle.format.specs.Descriptors.{NumberKind}
+use Rattle.format.specs.Descriptors.{NumberKind, little}
 use Rattle.format.specs.Refusals.{badSample}
-use Rattle.format.specs.Samples.{Decoded, stopped, withSample, blank, skipBlanks, token, afterToken, tokenValue, lowest, highest, inType, textSample, tokens, textSamples}
+use Rattle.format.specs.Samples.{Decoded, stopped, withSample, blank, skipBlanks, token, afterToken, tokenValue, lowest, highest, inType, textSample, tokens, textSamples, valueBytes}
+use Rattle.words.proofs.PackedLaws.{Packed, packed-more}
 use Rattle.tokens.specs.declared.reader.TokenRead.the-variants.{NoSample, Sample}
-use Rattle.tokens.specs.declared.reader.TextSample.{TextSample}
-use Rattle.tokens.specs.Tokens.{inRange, ranged, push, tokensIn, samplesIn, tokenOf, tokenAt, left, lastOf, Walked, OneSample}
+use Rattle.tokens.specs.Tokens.{inRange, ranged, push, tokensIn, samplesIn, tokenOf, tokenAt, left, lastOf, Walked, Skipped, Divides}
 use Rattle.tokens.proofs.TokenLaws.{front, back}
 
 -- ---- where a token ends
@@ -166,58 +166,197 @@ module _ (low high : ℕ) where
     fits = λ _. w .fits (rw p f);
   }
 
--- past the end there is no more than at the end
-pub drop-most : (s : List ℕ) (at a : ℕ) → a ≡ min at (length s) → drop a s ≡ drop at s
-drop-most s at a e = go (leb at (length s)) refl
-  where
-    go : (t : Bool) → leb at (length s) ≡ t → drop a s ≡ drop at s
-    go true q =
-        let k : a ≡ at = omega (arith, leb-true at (length s) q) in
-        rw k refl
-    go false q =
-        let l : length s < at = leb-false at (length s) q in
-        back s a (omega arith) ∙ sym (back s at (omega arith))
+-- ---- m tokens, and then j more
+
+-- samples before the ones of d
+abbrev joined : List ℤ → Decoded → Decoded
+joined [] d = d
+joined (z ∷ l) d = withSample z (joined l d)
+
+joined-number : (l : List ℤ) (d : Decoded) → joined l d .number ≡ d .number
+joined-number [] d = refl
+joined-number (z ∷ l) d = joined-number l d
+
+module _ (low high : ℕ) where
+  abbrev next : ℕ → List ℕ → Decoded
+  next m t = tokensIn low high m (skipBlanks (afterToken t))
+
+  -- none of the m is refused
+  tokens-more : (m j : ℕ) (t : List ℕ) → tokensIn low high m t .number ≡ 0
+      → tokensIn low high (m + j) t ≡ joined (tokensIn low high m t .seen) (tokensIn low high j (left m t))
+  unfolding tokensIn left
+  tokens-more zero j t e = ap (λ (i : ℕ). tokensIn low high i t) (zero-add j)
+  tokens-more (suc m) j [] e = absurd (omega arith)
+  tokens-more (suc m) j (b ∷ t) e =
+      ap (λ (i : ℕ). tokensIn low high i (b ∷ t)) (suc-add m j) ∙ go (ranged low high (tokenValue (token (b ∷ t)))) (tokens-more m j (skipBlanks (afterToken (b ∷ t)))) e
+    where
+      go : (o : Option ℤ)
+          → (next m (b ∷ t) .number ≡ 0 → next (m + j) (b ∷ t) ≡ joined (next m (b ∷ t) .seen) (tokensIn low high j (left m (skipBlanks (afterToken (b ∷ t))))))
+          → push o (next m (b ∷ t)) .number ≡ 0
+          → push o (next (m + j) (b ∷ t)) ≡ joined (push o (next m (b ∷ t)) .seen) (tokensIn low high j (left m (skipBlanks (afterToken (b ∷ t)))))
+      go none ih q = absurd (omega arith)
+      go (some z) ih q = ap (withSample z) (ih q)
+
+  -- one of the m is refused
+  tokens-refused : (m j : ℕ) (t : List ℕ) → (tokensIn low high m t .number ≡ 0 → ⊥) → tokensIn low high (m + j) t ≡ tokensIn low high m t
+  unfolding tokensIn
+  tokens-refused zero j t e = absurd (e refl)
+  tokens-refused (suc m) j [] e = ap (λ (i : ℕ). tokensIn low high i []) (suc-add m j)
+  tokens-refused (suc m) j (b ∷ t) e =
+      ap (λ (i : ℕ). tokensIn low high i (b ∷ t)) (suc-add m j) ∙ go (ranged low high (tokenValue (token (b ∷ t)))) (tokens-refused m j (skipBlanks (afterToken (b ∷ t)))) e
+    where
+      go : (o : Option ℤ) → ((next m (b ∷ t) .number ≡ 0 → ⊥) → next (m + j) (b ∷ t) ≡ next m (b ∷ t))
+          → (push o (next m (b ∷ t)) .number ≡ 0 → ⊥) → push o (next (m + j) (b ∷ t)) ≡ push o (next m (b ∷ t))
+      go none ih q = refl
+      go (some z) ih q = ap (withSample z) (ih q)
+
+  -- of one token the last value is the only one
+  one-seen : (t : List ℕ) (z : ℤ) → tokensIn low high 1 t .number ≡ 0 → tokensIn low high 1 t .seen ≡ lastOf z (tokensIn low high 1 t .seen) ∷ []
+  unfolding tokensIn
+  one-seen [] z e = absurd (omega arith)
+  one-seen (b ∷ t) z e = go (ranged low high (tokenValue (token (b ∷ t)))) e
+    where
+      go : (o : Option ℤ) → push o (stopped 0) .number ≡ 0 → push o (stopped 0) .seen ≡ lastOf z (push o (stopped 0) .seen) ∷ []
+      go none q = absurd (omega arith)
+      go (some y) q = refl
+
+  one-refused : (t : List ℕ) → (tokensIn low high 1 t .number ≡ 0 → ⊥) → tokensIn low high 1 t .seen ≡ []
+  unfolding tokensIn
+  one-refused [] e = refl
+  one-refused (b ∷ t) e = go (ranged low high (tokenValue (token (b ∷ t)))) e
+    where
+      go : (o : Option ℤ) → (push o (stopped 0) .number ≡ 0 → ⊥) → push o (stopped 0) .seen ≡ []
+      go none q = refl
+      go (some y) q = absurd (q refl)
 
 -- ---- a list that is filled
 
-module _ (low high n : ℕ) (s : List ℕ) (d₀ : List ℤ) where
-  -- d is filled up to k by what stands before `at`: the samples from there on make of it what all samples make of d₀
-  pub record Filling (d : List ℤ) (at k : ℕ) : Type 0 where
+positive : (t m : ℕ) → 0 < t * m → 0 < m
+positive t zero h = absurd (omega (arith, mul-zero t))
+positive t (suc m) h = omega arith
+
+module _ (low high step n : ℕ) (s : List ℕ) (d₀ : List ℤ) where
+  abbrev all : Decoded
+  all = samplesIn low high n s
+
+  -- k samples of n are read, up to `at`, the last of them z: what they come to is what the others, from `at` on, come to; and read one in each turn, the others
+  -- make of d what all make of d₀
+  pub record Filling (d : List ℤ) (at k : ℕ) (z : ℤ) : Type 0 where
+    pub within : at ≤ length s
     pub few : k ≤ n
+    pub turns : Divides step (n - k)
     pub long : length d ≡ length d₀
-    pub same : sets d₀ 0 (samplesIn low high n s .seen) ≡ sets d k (samplesIn low high (n - k) (drop at s) .seen)
+    pub fits : SFits w64 z
+    pub code : all .number ≡ tokensIn low high (n - k) (drop at s) .number
+    pub same : step ≡ 1 → sets d₀ 0 (all .seen) ≡ sets d k (tokensIn low high (n - k) (drop at s) .seen)
 
-  pub filling-none : Filling d₀ 0 0
-  filling-none =
+  -- what all samples come to, and what the list holds then
+  pub record Filled (r : ℕ) (d : List ℤ) : Type 0 where
+    pub code : r ≡ all .number
+    pub held : step ≡ 1 → d ≡ sets d₀ 0 (all .seen)
+
+  pub filling-none : {e : ℕ} → Divides step n → Skipped s 0 e → Filling d₀ e 0 (pos 0)
+  filling-none {e} t k =
       let q : n ≡ n - 0 = omega arith in
-      record { few = omega arith; long = refl; same = ap (λ (m : ℕ). sets d₀ 0 (samplesIn low high m s .seen)) q }
+      let p : all ≡ tokensIn low high (n - 0) (drop e s) =
+      ap (tokensIn low high n) (k .past) ∙ ap (λ (m : ℕ). tokensIn low high m (drop e s)) q in
+      record {
+        within = k .within;
+        few = omega arith;
+        turns = (t .0, sym q ∙ t .1);
+        long = refl;
+        fits = record { sfits = omega arith };
+        code = ap (λ (x : Decoded). x .number) p;
+        same = λ one. ap (λ (x : Decoded). sets d₀ 0 (x .seen)) p;
+      }
 
-  module _ {d : List ℤ} {at k : ℕ} (f : Filling d at k) where
-    module _ {r : TextSample} (h : k < n) (one : OneSample (samplesIn low high) s at r) where
-      some-more : n - k ≡ suc (n - (k + 1))
-      some-more = omega arith
+  module _ {d : List ℤ} {at k : ℕ} {z : ℤ} (f : Filling d at k z) where
+    -- a turn more leaves no less than none
+    pub turn : k < n → (0 < step) × ((k + step ≤ n) × Divides step (n - (k + step)))
+    turn h = go (f .turns .0) (f .turns .1)
+      where
+        go : (t : ℕ) → n - k ≡ t * step → (0 < step) × ((k + step ≤ n) × Divides step (n - (k + step)))
+        go zero e = absurd (omega (arith, zero-mul step))
+        go (suc t) e = (positive (suc t) step (omega arith), (omega (arith, suc-mul t step), (t, omega (arith, suc-mul t step))))
 
-      pub filling-stop : (r .number ≡ 0 → ⊥) → d ≡ sets d₀ 0 (samplesIn low high n s .seen)
-      filling-stop q =
-          sym (f .same ∙ ap (λ (m : ℕ). sets d k (samplesIn low high m (drop at s) .seen)) some-more
-          ∙ ap (λ (x : Decoded). sets d k (x .seen)) (one .refused q (n - (k + 1))))
+    module _ {r e : ℕ} {y : ℤ} (h : k < n) (w : Walked low high step (drop at s) z s r e y) where
+      abbrev others : ℕ
+      others = n - (k + step)
 
-      pub filling-more : {d′ : List ℤ} → r .number ≡ 0 → d′ ≡ set d k (r .value) → length d′ ≡ length d → Filling d′ (r .next) (k + 1)
-      filling-more {d′} q p l =
-          let m = n - (k + 1) in
+      parted : n - k ≡ step + others
+      parted = omega (arith, turn h .1 .0)
+
+      refused-here : (r ≡ 0 → ⊥) → tokensIn low high (n - k) (drop at s) ≡ tokensIn low high step (drop at s)
+      refused-here q =
+          ap (λ (m : ℕ). tokensIn low high m (drop at s)) parted ∙ tokens-refused low high step others (drop at s) (λ c. q (w .code ∙ c))
+
+      pub filling-stop : (r ≡ 0 → ⊥) → Filled r d
+      filling-stop q = record {
+        code = w .code ∙ sym (f .code ∙ ap (λ (x : Decoded). x .number) (refused-here q));
+        held = λ one.
+            let c : tokensIn low high 1 (drop at s) .number ≡ 0 → ⊥ = λ c. q (w .code ∙ ap (λ (m : ℕ). tokensIn low high m (drop at s) .number) one ∙ c) in
+            sym (f .same one ∙ ap (λ (x : Decoded). sets d k (x .seen)) (refused-here q ∙ ap (λ (m : ℕ). tokensIn low high m (drop at s)) one)
+            ∙ ap (sets d k) (one-refused low high (drop at s) c));
+      }
+
+      more-here : r ≡ 0 → tokensIn low high (n - k) (drop at s)
+          ≡ joined (tokensIn low high step (drop at s) .seen) (tokensIn low high others (drop e s))
+      more-here q =
+          ap (λ (m : ℕ). tokensIn low high m (drop at s)) parted
+          ∙ tokens-more low high step others (drop at s) (sym (w .code) ∙ q)
+          ∙ ap (λ (t : List ℕ). joined (tokensIn low high step (drop at s) .seen) (tokensIn low high others t)) (sym (w .place q))
+
+      -- what was read in a turn of one
+      only : r ≡ 0 → step ≡ 1 → tokensIn low high step (drop at s) .seen ≡ y ∷ []
+      only q one =
+          let m : tokensIn low high step (drop at s) ≡ tokensIn low high 1 (drop at s) = ap (λ (m : ℕ). tokensIn low high m (drop at s)) one in
+          let l = ap (λ (x : Decoded). lastOf z (x .seen)) m in
+          ap (λ (x : Decoded). x .seen) m
+          ∙ one-seen low high (drop at s) z (sym (ap (λ (x : Decoded). x .number) m) ∙ sym (w .code) ∙ q)
+          ∙ ap (λ (x : ℤ). x ∷ []) (sym (w .last ∙ l))
+
+      -- the value is stored as its bits
+      kept : toZ w64 (ofZ w64 y) ≡ y
+      kept = toZ-ofZ (w .fits (f .fits))
+
+      pub filling-more : {d′ : List ℤ} → r ≡ 0 → d′ ≡ set d k (toZ w64 (ofZ w64 y)) → Filling d′ e (k + step) (toZ w64 (ofZ w64 y))
+      filling-more {d′} q p =
+          let p′ : d′ ≡ set d k y = p ∙ ap (set d k) kept in
           record {
-            few = omega arith;
-            long = l ∙ f .long;
-            same =
-                f .same ∙ ap (λ (j : ℕ). sets d k (samplesIn low high j (drop at s) .seen)) some-more
-                ∙ ap (λ (x : Decoded). sets d k (x .seen)) (one .taken q m)
-                ∙ ap (λ (j : ℕ). sets (set d k (r .value)) j (samplesIn low high m (drop (r .next) s) .seen)) (sym (add-one k))
-                ∙ ap (λ (x : List ℤ). sets x (k + 1) (samplesIn low high m (drop (r .next) s) .seen)) (sym p);
+            within = w .within;
+            few = turn h .1 .0;
+            turns = turn h .1 .1;
+            long = ap length p′ ∙ length-set d k y ∙ f .long;
+            fits = rw kept (w .fits (f .fits));
+            code =
+                f .code ∙ ap (λ (x : Decoded). x .number) (more-here q)
+                ∙ joined-number (tokensIn low high step (drop at s) .seen) (tokensIn low high others (drop e s));
+            same = λ one.
+                let next-place : suc k ≡ k + step = omega arith in
+                f .same one ∙ ap (λ (x : Decoded). sets d k (x .seen)) (more-here q)
+                ∙ ap (λ (l : List ℤ). sets d k (joined l (tokensIn low high others (drop e s)) .seen)) (only q one)
+                ∙ ap (λ (j : ℕ). sets (set d k y) j (tokensIn low high others (drop e s) .seen)) next-place
+                ∙ ap (λ (x : List ℤ). sets x (k + step) (tokensIn low high others (drop e s) .seen)) (sym p′);
           }
 
-    pub filling-done : n ≤ k → d ≡ sets d₀ 0 (samplesIn low high n s .seen)
+    pub filling-done : n ≤ k → Filled 0 d
     filling-done h =
-        sym (f .same ∙ ap (λ (r : Decoded). sets d k (r .seen)) (tokens-none low high (n - k) (skipBlanks (drop at s)) (omega arith)))
+        let none-left = tokens-none low high (n - k) (drop at s) (omega arith) in
+        record {
+          code = sym (f .code ∙ ap (λ (x : Decoded). x .number) none-left);
+          held = λ one. sym (f .same one ∙ ap (λ (x : Decoded). sets d k (x .seen)) none-left);
+        }
+
+-- lent bytes in which sample k is stored where there is room
+pub packed-put : (d₀ : List ℕ) {P Q : List ℤ → Type 0} {d d′ : List ℕ} (p : Packed d₀ P d) (k : ℕ) (z : ℤ)
+    → d′ ≡ (if ltb k (length d / 8) then sets d (8 * k) (valueBytes 8 little z) else d) → Q (set (p .list) k z) → Packed d₀ Q d′
+packed-put d₀ {P} {Q} {d} {d′} p k z e q = go (ltb k (length d / 8)) refl e
+  where
+    go : (t : Bool) → ltb k (length d / 8) ≡ t → d′ ≡ (if t then sets d (8 * k) (valueBytes 8 little z) else d) → Packed d₀ Q d′
+    go true b r = packed-more d₀ p k z (omega (arith, ltb-true k (length d / 8) b, p .long)) r q
+    go false b r =
+        let h : length (p .list) ≤ k = omega (arith, ltb-false k (length d / 8) b, p .few, p .long) in
+        record { list = p .list; held = subst Q (set-out (p .list) k z h) q; few = p .few; long = ap length r ∙ p .long; is = r ∙ p .is }
 
 -- ---- the samples of a type are those between its bounds
 
@@ -264,9 +403,9 @@ seen-within low high (suc n) (b ∷ t) =
     push-length (ranged low high (tokenValue (token (b ∷ t)))) _ n (seen-within low high n (skipBlanks (afterToken (b ∷ t))))
 
 -- a list that is filled has the samples in front
-pub filled : (k : NumberKind) (w : ℕ) {low high : ℕ} → low ≡ lowest k w → high ≡ highest k w → (n : ℕ) (s : List ℕ) (d₀ : List ℤ) {d : List ℤ}
+pub in-front : (k : NumberKind) (w : ℕ) {low high : ℕ} → low ≡ lowest k w → high ≡ highest k w → (n : ℕ) (s : List ℕ) (d₀ : List ℤ) {d : List ℤ}
     → d ≡ sets d₀ 0 (samplesIn low high n s .seen) → n ≤ length d₀ → d ≡ over (textSamples k w n s .seen) d₀
-filled k w {low} {high} p q n s d₀ e h =
+in-front k w {low} {high} p q n s d₀ e h =
     let vs = samplesIn low high n s .seen in
     e ∙ sets-eq vs d₀ 0 (omega (arith, seen-within low high n (skipBlanks s)))
     ∙ ap (λ (j : ℕ). vs ++ drop j d₀) (zero-add (length vs))

@@ -1,5 +1,5 @@
 -- Text samples as the code reads them: by position, and over the two bounds of a type.
-use Prim.Native.Nat.{ℕ, zero, suc, _+_, _^_, _≤_, _<_, min}
+use Prim.Native.Nat.{ℕ, zero, suc, _+_, _*_, _^_, _≤_, _<_, min}
 use mathlib.Core.Path.{_≡_}
 use mathlib.Core.Bool.{Bool, true, false, _||_}
 use mathlib.Core.List.{List, [], _∷_}
@@ -7,9 +7,11 @@ use mathlib.Core.Option.{Option, none, some}
 use lib.Dec.{leb, ltb, eqb}
 use lib.IntN.{ℤ, pos, negsuc, negℤ}
 use lib.ListN.{length, drop, getD}
+use lib.Seq.{sets}
 use mir.Syntax.{w64}
 use mir.Val.{SFits, boolByte}
 use Rattle.format.specs.Bytes.{if_then_else_, isDigit}
+use Rattle.format.specs.Boundary.{samplesLent, lentSamples}
 use Rattle.format.specs.Descriptors.{number, digitsFrom}
 use Rattle.format.specs.Refusals.{badSample, dataEndsEarly}
 use Rattle.format.specs.Samples.{Decoded, stopped, withSample, skipBlanks, token, afterToken, tokenValue}
@@ -17,7 +19,6 @@ use Rattle.tokens.specs.declared.reader.Digits.{Digits}
 use Rattle.tokens.specs.declared.reader.Digits.the-variants.{NoDigits, Run}
 use Rattle.tokens.specs.declared.reader.TokenRead.{TokenRead}
 use Rattle.tokens.specs.declared.reader.TokenRead.the-variants.{NoSample, Sample}
-use Rattle.tokens.specs.declared.reader.TextSample.{TextSample}
 
 -- ---- samples from -low to high: `textSamples` of a type with these bounds
 
@@ -111,11 +112,6 @@ bySign false m = pos m
 
 -- ---- several tokens
 
--- a token as one sample; `at` is named where it is none
-abbrev pub sampleOf : TokenRead → ℕ → TextSample
-sampleOf NoSample at = record { number = badSample; value = pos 0; next = at }
-sampleOf (Sample z e) at = record { number = 0; value = z; next = e }
-
 -- what n tokens leave of a text, from the next token on
 unfoldable pub left : ℕ → List ℕ → List ℕ
 left zero s = s
@@ -135,9 +131,12 @@ pub record Walked (low high n : ℕ) (t : List ℕ) (z : ℤ) (s : List ℕ) (r 
   pub last : y ≡ lastOf z (tokensIn low high n t .seen)
   pub fits : SFits w64 z → SFits w64 y
 
--- r is the first of the samples that f decodes from `at` on: the refusal, or its value and where the others start
-pub record OneSample (f : ℕ → List ℕ → Decoded) (s : List ℕ) (at : ℕ) (r : TextSample) : Type 0 where
-  pub within : r .next ≤ length s
-  pub refused : (r .number ≡ 0 → ⊥) → (n : ℕ) → f (suc n) (drop at s) ≡ stopped (r .number)
-  pub taken : r .number ≡ 0 → (n : ℕ) → f (suc n) (drop at s) ≡ withSample (r .value) (f n (drop (r .next) s))
-  pub fits : SFits w64 (r .value)
+-- n is so many times step
+abbrev pub Divides : ℕ → ℕ → Type 0
+Divides step n = (turns : ℕ) × (n ≡ turns * step)
+
+-- n samples of s were read, `step` in each turn: r is what they come to, and d what the lent bytes d₀ then hold. Read one in each turn, all up to
+-- the first that is refused are at the front of d, as far as there is room
+pub record Stored (low high step n : ℕ) (s d₀ : List ℕ) (r : ℕ) (d : List ℕ) : Type 0 where
+  pub code : r ≡ samplesIn low high n s .number
+  pub held : step ≡ 1 → d ≡ lentSamples (sets (samplesLent d₀) 0 (samplesIn low high n s .seen)) d₀

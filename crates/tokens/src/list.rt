@@ -5,17 +5,16 @@ ghost use lib.ListN.{length, set};
 ghost use Rattle.format.specs.Bytes.{over};
 ghost use Rattle.format.specs.Samples.{textSamples};
 ghost use Rattle.words.specs.Widths.{Width, kindBy};
+use crate::packed;
 use crate::reader;
 
-// The refusal that n samples come to: 20 or 21, whichever comes first in the data, or 0.
+// The refusal that n samples come to: 20 or 21, whichever comes first in the data, or 0. All are read in one turn, and none is stored.
 pub fn check(s: &[u8], n: usize, w: usize, signed: bool) -> u32
     ensures { λ r. ⌜ (Width w → r ≡ textSamples (kindBy signed) w n (now (s .entry)) .number) ⌝ }
 {
     let low = reader::lowest_of(signed, w);
     let high = reader::highest_of(signed, w);
-    let mut at: usize = 0;
-    let mut v: i64 = 0;
-    reader::blanks(&s, &mut at, n, low, high, &mut v)
+    packed::read(s, n, n, low, high, &mut [])
 }
 
 // Writes where there is room.
@@ -33,15 +32,14 @@ pub fn fill(s: &[u8], n: usize, w: usize, signed: bool, dst: &mut [i64])
 {
     let low = reader::lowest_of(signed, w);
     let high = reader::highest_of(signed, w);
-    let mut at: usize = 0;
+    let mut at = reader::skip(s, 0);
+    let mut v: i64 = 0;
     let mut k: usize = 0;
     while k < n {
-        let one = reader::sample_in(s, at, low, high);
-        if one.number != 0 {
+        if reader::token(&s, &mut at, 1, low, high, &mut v) != 0 {
             return;
         }
-        put(dst, k, one.value);
-        at = one.next;
+        put(dst, k, v);
         k += 1;
     }
 }

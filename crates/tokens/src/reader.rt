@@ -3,11 +3,9 @@ ghost use mathlib.Core.Path.{_≡_};
 ghost use mathlib.Core.Bool.{true, false};
 ghost use Prim.Native.Nat.{_+_, _*_, _-_, _^_, _≤_, _<_, min};
 ghost use lib.ListN.{length, drop};
-ghost use mir.Syntax.{w64};
-ghost use mir.Val.{SFits};
 ghost use Rattle.format.specs.Bytes.{if_then_else_, isDigit};
 ghost use Rattle.format.specs.Samples.{blank, skipBlanks, lowest, highest};
-ghost use Rattle.tokens.specs.Tokens.{cap, isSign, bySign, Skipped, digitsAt, boundToken, tokenAt, sampleOf, samplesIn, Walked, OneSample};
+ghost use Rattle.tokens.specs.Tokens.{cap, isSign, bySign, Skipped, digitsAt, boundToken, tokenAt, Walked};
 ghost use Rattle.words.specs.Widths.{Width, kindBy};
 use crate::short;
 
@@ -21,13 +19,6 @@ pub(crate) enum Digits {
 pub(crate) enum TokenRead {
     NoSample,
     Sample { value: i64, end: usize },
-}
-
-// One sample: 0, its value, and where to go on for the next one; or the number of the refusal.
-pub(crate) struct TextSample {
-    pub(crate) number: u32,
-    pub(crate) value: i64,
-    pub(crate) next: usize,
 }
 
 pub(crate) fn is_blank(b: u8) -> bool
@@ -61,7 +52,7 @@ fn with_digit(m: u64, b: u8) -> u64
 }
 
 // Where the blanks from `at` on end.
-fn skip(s: &[u8], at: usize) -> usize
+pub(crate) fn skip(s: &[u8], at: usize) -> usize
     requires { ⌜ at ≤ length (now s) ⌝ }
     ensures { λ r. ⌜ Skipped (now (s .entry)) at r ⌝ }
 {
@@ -171,19 +162,9 @@ fn token_at(s: &[u8], at: usize, low: u64, high: u64) -> TokenRead
     long_token(s, at, low, high)
 }
 
-// Passes the blanks from *at on, and then reads n tokens: 0, or the number of the refusal.
-// *at is left at the first token that was not read, and the last value in *v.
-pub(crate) fn blanks(s: &&[u8], at: &mut usize, n: usize, low: u64, high: u64, v: &mut i64) -> u32
-    requires { ⌜ (now at ≤ length (now (now s))) × ((low ≤ 2 ^ 63) × (high < 2 ^ 63)) ⌝ }
-    ensures { λ r. ⌜ Walked low high n (skipBlanks (drop (now (at .entry)) (now (now (s .entry))))) (now (v .entry)) (now (now (s .entry))) r (now (at .exit)) (now (v .exit)) ⌝ }
-{
-    let i = skip(*s, *at);
-    *at = i;
-    token(s, at, n, low, high, v)
-}
-
-// The same from a token on. Each call is the last thing done, so that both compile to jumps.
-fn token(s: &&[u8], at: &mut usize, n: usize, low: u64, high: u64, v: &mut i64) -> u32
+// Reads n tokens, the first of them at *at, and passes the blanks after each: 0, or the number of the refusal.
+// *at is left at the first token that was not read, and the last value in *v. Each call of `blanks` and `token` is the last thing done, so that both compile to jumps.
+pub(crate) fn token(s: &&[u8], at: &mut usize, n: usize, low: u64, high: u64, v: &mut i64) -> u32
     requires { ⌜ (now at ≤ length (now (now s))) × ((low ≤ 2 ^ 63) × (high < 2 ^ 63)) ⌝ }
     ensures { λ r. ⌜ Walked low high n (drop (now (at .entry)) (now (now (s .entry)))) (now (v .entry)) (now (now (s .entry))) r (now (at .exit)) (now (v .exit)) ⌝ }
 {
@@ -202,6 +183,16 @@ fn token(s: &&[u8], at: &mut usize, n: usize, low: u64, high: u64, v: &mut i64) 
             blanks(s, at, n - 1, low, high, v)
         }
     }
+}
+
+// The same from the blanks before a token on.
+fn blanks(s: &&[u8], at: &mut usize, n: usize, low: u64, high: u64, v: &mut i64) -> u32
+    requires { ⌜ (now at ≤ length (now (now s))) × ((low ≤ 2 ^ 63) × (high < 2 ^ 63)) ⌝ }
+    ensures { λ r. ⌜ Walked low high n (skipBlanks (drop (now (at .entry)) (now (now (s .entry))))) (now (v .entry)) (now (now (s .entry))) r (now (at .exit)) (now (v .exit)) ⌝ }
+{
+    let i = skip(*s, *at);
+    *at = i;
+    token(s, at, n, low, high, v)
 }
 
 // The least value of a type is minus this.
@@ -233,75 +224,5 @@ pub(crate) fn highest_of(signed: bool, w: usize) -> u64
         if signed { 2147483647 } else { 4294967295 }
     } else {
         9223372036854775807
-    }
-}
-
-fn at_most(at: usize, most: usize) -> usize
-    ensures { λ r. ⌜ r ≡ min at most ⌝ }
-{
-    if at < most { at } else { most }
-}
-
-// A token as one sample, with a place to name where it is none.
-fn sample_of(t: TokenRead, at: usize) -> TextSample
-    ensures { λ r. ⌜ (r ≡ sampleOf t at) × SFits w64 (r .value) ⌝ }
-{
-    match t {
-        TokenRead::NoSample => TextSample {
-            number: format::BAD_SAMPLE,
-            value: 0,
-            next: at,
-        },
-        TokenRead::Sample { value, end } => TextSample {
-            number: 0,
-            value,
-            next: end,
-        },
-    }
-}
-
-// The first sample from `at` on, of any length.
-fn long_sample(s: &[u8], at: usize, low: u64, high: u64) -> TextSample
-    requires { ⌜ (low ≤ 2 ^ 63) × (high < 2 ^ 63) ⌝ }
-    ensures { λ r. ⌜ OneSample (samplesIn low high) (now (s .entry)) at r ⌝ }
-{
-    let i = skip(s, at_most(at, s.len()));
-    if i == s.len() {
-        return TextSample {
-            number: format::DATA_ENDS_EARLY,
-            value: 0,
-            next: i,
-        };
-    }
-    sample_of(long_token(s, i, low, high), i)
-}
-
-// The same, where it is short with no branch for a digit.
-fn short_sample(s: &[u8], at: usize, low: u64, high: u64) -> TextSample
-    requires { ⌜ (low ≤ 2 ^ 63) × (high < 2 ^ 63) ⌝ }
-    ensures { λ r. ⌜ OneSample (samplesIn low high) (now (s .entry)) at r ⌝ }
-{
-    let i = skip(s, at_most(at, s.len()));
-    if short::has_room(s, i, high) {
-        let n = short::front(s, i);
-        if short::is_token(s, i, n) {
-            let m = short::number(s, i, n);
-            let end = i + n;
-            // the place is `end` in any case, so that the next token does not wait for the bound
-            return sample_of(bounded(s[i] == 45, m, end, low, high), end);
-        }
-    }
-    long_sample(s, at, low, high)
-}
-
-// The first sample from `at` on, from -low to high. The compiler makes a loop of its own of each way.
-pub(crate) fn sample_in(s: &[u8], at: usize, low: u64, high: u64) -> TextSample
-    requires { ⌜ (low ≤ 2 ^ 63) × (high < 2 ^ 63) ⌝ }
-    ensures { λ r. ⌜ OneSample (samplesIn low high) (now (s .entry)) at r ⌝ }
-{
-    if high < 65536 {
-        short_sample(s, at, low, high)
-    } else {
-        long_sample(s, at, low, high)
     }
 }

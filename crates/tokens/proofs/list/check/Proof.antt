@@ -1,5 +1,6 @@
--- `check` meets its contract: the bounds are those of the type, and the walk starts at 0.
+-- `check` meets its contract: the bounds are those of the type, and all samples are read in one turn.
 -- Assumes nothing.
+use native.Mathlib.Omega.{arith}
 use denote.Ref.{now}
 use borrow.Author.Needs.{needs}
 use Rattle.words.specs.Widths.{kindBy}
@@ -13,17 +14,21 @@ lowest-of-requires c κs = search needs
 highest-of-requires : tie.Need-highest-of-requires
 highest-of-requires c κs = search needs
 
-blanks-requires : tie.Need-blanks-requires
-blanks-requires c κs = search needs
+slice-aggregate-read : tie.Need-slice-aggregate-read
+slice-aggregate-read c = search needs
+
+read-requires : tie.Need-read-requires
+read-requires c κs = ((1, omega arith), (c .before .before .lowest-of .ensures .0, c .before .highest-of .ensures .0))
 
 returns : tie.Need-returns
 returns c =
-    let h = c .before .before .before .before in
+    let h = c .before .before .before in
     let a = h .before .before .before .args in
     λ x.
-    type-number (kindBy (a .signed)) (a .w) (h .before .lowest-of .ensures .1 x) (h .highest-of .ensures .1 x) (a .n) (now (a .t1))
-    (c .blanks .ensures .code)
+    type-number (kindBy (a .signed)) (a .w) (h .before .lowest-of .ensures .1 x) (h .highest-of .ensures .1 x) (a .n) (now (a .s))
+    (c .before .read .ensures .code)
 
 pub check-spec : {M : Type 1} → statement M
 check-spec =
-    tie.close (tie.spec lowest-of-requires highest-of-requires blanks-requires returns)
+    tie.close
+    (tie.spec lowest-of-requires highest-of-requires slice-aggregate-read read-requires returns)

@@ -2,21 +2,21 @@
 -- The measure is the samples to come. Assumes nothing.
 use Prim.Native.Nat.{_-_}
 use native.Mathlib.Omega.{arith}
-use mathlib.Core.Path.{ap, _∙_}
-use lib.ListN.{set}
 use denote.Ref.{now}
-use mir.Facts.{toZ-ofZ}
+use mathlib.Core.Path.{refl}
+use mir.Syntax.{w64}
+use mir.Val.{toZ}
 use borrow.Author.Needs.{needs}
 use Rattle.words.specs.Widths.{kindBy}
-use Rattle.tokens.proofs.WalkLaws.{Filling, filling-none, filling-stop, filling-more, filling-done, filled}
+use Rattle.tokens.proofs.WalkLaws.{Filling, filling-none, filling-stop, filling-more, filling-done, in-front}
 use Rattle.tokens.proofs.list.fill.Statement.{statement}
 use Rattle.tokens.proofs.list.fill.Tie as tie
 
 abbrev Inv-loop : tie.InvT-loop
-Inv-loop s n w signed dst₀ low high at₀ k₀ dst at k = Filling low high n s dst₀ dst at k
+Inv-loop t1 n w signed dst₀ s low high at₀ v₀ k₀ dst at v k = Filling low high 1 n t1 dst₀ dst at k (toZ w64 v)
 
 abbrev μ-loop : tie.MeasureT-loop
-μ-loop s n w signed dst₀ low high at₀ k₀ dst at k = n - k
+μ-loop t1 n w signed dst₀ s low high at₀ v₀ k₀ dst at v k = n - k
 
 lowest-of-requires : tie.Need-lowest-of-requires Inv-loop μ-loop
 lowest-of-requires c κs = search needs
@@ -24,55 +24,56 @@ lowest-of-requires c κs = search needs
 highest-of-requires : tie.Need-highest-of-requires Inv-loop μ-loop
 highest-of-requires c κs = search needs
 
+skip-requires : tie.Need-skip-requires Inv-loop μ-loop
+skip-requires c κs = search needs
+
 loop-holds : tie.Need-loop-holds Inv-loop μ-loop
 loop-holds c =
-    let a = c .before .before .before .args in
-    filling-none (c .before .lowest-of .result) (c .highest-of .result) (a .n) (now (a .s)) (now (a .dst))
+    let a = c .before .before .before .before .args in
+    filling-none _ _ _ _ _ _ (a .n, omega arith) (c .skip .ensures)
 
-sample-in-requires : tie.Need-sample-in-requires Inv-loop μ-loop
-sample-in-requires c κs = (c .before .before .before .lowest-of .ensures .0, c .before .before .highest-of .ensures .0)
+token-requires : tie.Need-token-requires Inv-loop μ-loop
+token-requires c κs = search needs
 
 same-length : tie.Need-same-length Inv-loop μ-loop
-same-length c = c .before .before .before .before .loop .inv .long
+same-length c = search needs
 
 returns : tie.Need-returns Inv-loop μ-loop
 returns c =
-    let l = c .before .before .before .before in
-    let h = l .before in
+    let t = c .before .before .before .before .before in
+    let l = t .before in
+    let h = l .before .before in
     let a = h .before .before .before .args in
     λ x few none-refused.
-    filled (kindBy (a .signed)) (a .w) (h .before .lowest-of .ensures .1 x) (h .highest-of .ensures .1 x) (a .n) (now (a .s)) (now (a .dst))
-    (filling-stop _ _ _ _ _ (l .loop .inv) (c .before .before .before .loop-test .taken) (c .before .before .sample-in .ensures) (c .if1 .taken))
+    in-front (kindBy (a .signed)) (a .w) (h .before .lowest-of .ensures .1 x) (h .highest-of .ensures .1 x) (a .n) (now (a .t1)) (now (a .dst))
+    (filling-stop _ _ _ _ _ _ (l .loop .inv) (t .loop-test .taken) (c .before .token .ensures) (c .if1 .taken) .held refl)
     few
 
 put-requires : tie.Need-put-requires Inv-loop μ-loop
 put-requires c κs = search needs
 
 add-k : tie.Need-add-k Inv-loop μ-loop
-add-k c = omega arith
+add-k c = search needs
 
 loop-less : tie.Need-loop-less Inv-loop μ-loop
-loop-less c = omega arith
+loop-less c = search needs
 
 loop-again : tie.Need-loop-again Inv-loop μ-loop
 loop-again c =
-    let i = c .before .before .before .before in
-    let l = i .before .before .before .before in
-    let one = i .before .before .sample-in .ensures in
-    filling-more _ _ _ _ _ (l .loop .inv) (i .before .before .before .loop-test .taken) one (i .if1 .left)
-    (c .before .put .ensures ∙ ap (set (l .loop .dst) (l .loop .k)) (toZ-ofZ (one .fits)))
-    (c .before .put .kept .0)
+    let i = c .before .before .before in
+    let t = i .before .before .before .before .before in
+    filling-more _ _ _ _ _ _ (t .before .loop .inv) (t .loop-test .taken) (i .before .token .ensures) (i .if1 .left) (c .before .put .ensures)
 
 same-length-2 : tie.Need-same-length-2 Inv-loop μ-loop
-same-length-2 c = c .before .loop .inv .long
+same-length-2 c = search needs
 
 returns-2 : tie.Need-returns-2 Inv-loop μ-loop
 returns-2 c =
-    let h = c .before .before in
+    let h = c .before .before .before in
     let a = h .before .before .before .args in
     λ x few none-refused.
-    filled (kindBy (a .signed)) (a .w) (h .before .lowest-of .ensures .1 x) (h .highest-of .ensures .1 x) (a .n) (now (a .s)) (now (a .dst))
-    (filling-done _ _ _ _ _ (c .before .loop .inv) (c .loop-test .left))
+    in-front (kindBy (a .signed)) (a .w) (h .before .lowest-of .ensures .1 x) (h .highest-of .ensures .1 x) (a .n) (now (a .t1)) (now (a .dst))
+    (filling-done _ _ _ _ _ _ (c .before .loop .inv) (c .loop-test .left) .held refl)
     few
 
 pub fill-spec : {M : Type 1} → statement M
@@ -83,8 +84,9 @@ fill-spec =
     μ-loop
     lowest-of-requires
     highest-of-requires
+    skip-requires
     loop-holds
-    sample-in-requires
+    token-requires
     same-length
     returns
     put-requires
