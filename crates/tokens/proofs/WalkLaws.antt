@@ -387,8 +387,8 @@ module _ (k : NumberKind) (w : ℕ) where
     type-samples : (n : ℕ) (s : List ℕ) → textSamples k w n s ≡ samplesIn low high n s
     type-samples n s = rw (p, q) (type-tokens n (skipBlanks s))
 
-    pub type-number : (n : ℕ) (s : List ℕ) {r : ℕ} → r ≡ samplesIn low high n s .number → r ≡ textSamples k w n s .number
-    type-number n s e = e ∙ sym (ap (λ (d : Decoded). d .number) (type-samples n s))
+    pub by-type : {A : Type 0} (f : Decoded → A) (n : ℕ) (s : List ℕ) → f (samplesIn low high n s) ≡ f (textSamples k w n s)
+    by-type f n s = sym (ap f (type-samples n s))
 
 -- there are at most as many samples as were asked for
 push-length : (o : Option ℤ) (r : Decoded) (n : ℕ) → length (r .seen) ≤ n → length (push o r .seen) ≤ suc n
@@ -402,11 +402,10 @@ seen-within low high (suc n) [] = omega arith
 seen-within low high (suc n) (b ∷ t) =
     push-length (ranged low high (tokenValue (token (b ∷ t)))) _ n (seen-within low high n (skipBlanks (afterToken (b ∷ t))))
 
--- a list that is filled has the samples in front
-pub in-front : (k : NumberKind) (w : ℕ) {low high : ℕ} → low ≡ lowest k w → high ≡ highest k w → (n : ℕ) (s : List ℕ) (d₀ : List ℤ) {d : List ℤ}
-    → d ≡ sets d₀ 0 (samplesIn low high n s .seen) → n ≤ length d₀ → d ≡ over (textSamples k w n s .seen) d₀
-in-front k w {low} {high} p q n s d₀ e h =
-    let vs = samplesIn low high n s .seen in
-    e ∙ sets-eq vs d₀ 0 (omega (arith, seen-within low high n (skipBlanks s)))
-    ∙ ap (λ (j : ℕ). vs ++ drop j d₀) (zero-add (length vs))
-    ∙ ap (λ (x : Decoded). over (x .seen) d₀) (sym (type-samples k w p q n s))
+-- samples for which a list has room are stored in front
+pub in-front : (k : NumberKind) (w n : ℕ) (s : List ℕ) (d : List ℤ) → n ≤ length d → sets d 0 (textSamples k w n s .seen) ≡ over (textSamples k w n s .seen) d
+in-front k w n s d h =
+    let vs = textSamples k w n s .seen in
+    let few : length vs ≤ n =
+    rw (type-samples k w refl refl n s) (seen-within (lowest k w) (highest k w) n (skipBlanks s)) in
+    sets-eq vs d 0 (omega arith) ∙ ap (λ (j : ℕ). vs ++ drop j d) (zero-add (length vs))

@@ -1,8 +1,7 @@
 // Text samples into a list.
 ghost use mathlib.Core.Path.{_≡_};
-ghost use Prim.Native.Nat.{_≤_};
-ghost use lib.ListN.{length, set};
-ghost use Rattle.format.specs.Bytes.{over};
+ghost use lib.ListN.{set};
+ghost use lib.Seq.{sets};
 ghost use Rattle.format.specs.Samples.{textSamples};
 ghost use Rattle.words.specs.Widths.{Width, kindBy};
 use crate::packed;
@@ -26,9 +25,9 @@ fn put(dst: &mut [i64], k: usize, z: i64)
     }
 }
 
-// The samples to the front of dst, where none is refused.
+// The samples up to the first that is refused, to the front of dst as far as there is room.
 pub fn fill(s: &[u8], n: usize, w: usize, signed: bool, dst: &mut [i64])
-    ensures { λ _. ⌜ (Width w → n ≤ length (now (dst .entry)) → textSamples (kindBy signed) w n (now (s .entry)) .number ≡ 0 → now (dst .exit) ≡ over (textSamples (kindBy signed) w n (now (s .entry)) .seen) (now (dst .entry))) ⌝ }
+    ensures { λ _. ⌜ (Width w → now (dst .exit) ≡ sets (now (dst .entry)) 0 (textSamples (kindBy signed) w n (now (s .entry)) .seen)) ⌝ }
 {
     let low = reader::lowest_of(signed, w);
     let high = reader::highest_of(signed, w);

@@ -5,10 +5,10 @@ ghost use lib.Dec.{ltb};
 ghost use lib.ListN.{length};
 ghost use lib.Seq.{sets};
 ghost use Rattle.format.specs.Bytes.{if_then_else_};
+ghost use Rattle.format.specs.Boundary.{samplesLent, lentSamples};
 ghost use Rattle.format.specs.Descriptors.{little};
 ghost use Rattle.format.specs.Samples.{textSamples, valueBytes};
 ghost use Rattle.tokens.specs.Tokens.{Divides, Stored};
-ghost use Rattle.words.specs.Packed.{samplesOver};
 ghost use Rattle.words.specs.Widths.{Width, kindBy};
 use crate::reader;
 
@@ -41,13 +41,10 @@ pub(crate) fn read(s: &[u8], n: usize, step: usize, low: u64, high: u64, dst: &m
     0
 }
 
-// Text samples to the front of dst, where none is refused.
+// The samples up to the first that is refused, to the front of dst as far as there is room.
 pub fn fill(s: &[u8], n: usize, w: usize, signed: bool, dst: &mut [u8])
-    ensures { λ _. ⌜ (Width w → n ≤ length (now (dst .entry)) / 8 → textSamples (kindBy signed) w n (now (s .entry)) .number ≡ 0 → now (dst .exit) ≡ samplesOver (textSamples (kindBy signed) w n (now (s .entry)) .seen) (now (dst .entry))) ⌝ }
+    ensures { λ _. ⌜ (Width w → now (dst .exit) ≡ lentSamples (sets (samplesLent (now (dst .entry))) 0 (textSamples (kindBy signed) w n (now (s .entry)) .seen)) (now (dst .entry))) ⌝ }
 {
-    if dst.len() / 8 < n {
-        return;
-    }
     let low = reader::lowest_of(signed, w);
     let high = reader::highest_of(signed, w);
     read(s, n, 1, low, high, dst);

@@ -3,6 +3,7 @@
 use borrow.Author.Needs.{needs}
 use mathlib.Core.Path.{ap, _∙_}
 use Rattle.format.specs.Samples.{Decoded}
+use Rattle.tokens.proofs.WalkLaws.{in-front}
 use Rattle.samples.proofs.Parts.{PartIs, part-is}
 use Rattle.samples.proofs.part.fill_part.Statement.{statement}
 use Rattle.samples.proofs.part.fill_part.Tie as tie
@@ -45,7 +46,7 @@ returns-2 c =
     let p = is (c .before .before .before .before .before .before .before .before) in
     let r = c .before .before .before .before .before .before .before .before .before .before .before .pre in
     let l = p .as-text (c .before .before .before .if2 .taken) in
-    rw (← l) (c .before .fill2 .ensures (p .width) (r .1 .1) (ap (λ (d : Decoded). d .number) l ∙ r .1 .0))
+    rw (← l) (c .before .fill2 .ensures (p .width) ∙ in-front _ _ _ _ _ (r .1 .1))
 
 fill-requires-3 : tie.Need-fill-requires-3
 fill-requires-3 c κs = search needs

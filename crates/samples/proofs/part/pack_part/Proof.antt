@@ -1,7 +1,13 @@
 -- `samples::part::pack_part` meets its contract, by the encoding.
 -- Assumes nothing.
 use mathlib.Core.Path.{ap, _∙_}
+use mathlib.Core.List.{List}
+use lib.IntN.{ℤ}
+use denote.Ref.{now}
+use Rattle.format.specs.Boundary.{samplesLent, lentSamples}
 use Rattle.format.specs.Samples.{Decoded}
+use Rattle.words.proofs.PackedLaws.{room-lent}
+use Rattle.tokens.proofs.WalkLaws.{in-front}
 use Rattle.samples.proofs.Parts.{PartIs, part-is}
 use borrow.Author.Needs.{needs}
 use Rattle.samples.proofs.part.pack_part.Statement.{statement}
@@ -44,9 +50,12 @@ same-length-2 c = search needs
 returns-2 : tie.Need-returns-2
 returns-2 c =
     let p = is (c .before .before .before .before .before .before .before .before .before) in
-    let r = c .before .before .before .before .before .before .before .before .before .before .before .before .before .pre in
+    let o = c .before .before .before .before .before .before .before .before .before .before .before .before .before in
     let l = p .as-text (c .before .before .before .before .if2 .taken) in
-    rw (← l) (c .before .before .fill2 .ensures (p .width) (r .1 .1) (ap (λ (d : Decoded). d .number) l ∙ r .1 .0))
+    let d₀ = now (o .args .list) in
+    rw (← l)
+    (c .before .before .fill2 .ensures (p .width)
+    ∙ ap (λ (zs : List ℤ). lentSamples zs d₀) (in-front _ _ _ _ (samplesLent d₀) (room-lent d₀ (o .args .n) (o .pre .1 .1))))
 
 fill-requires-3 : tie.Need-fill-requires-3
 fill-requires-3 c κs = search needs

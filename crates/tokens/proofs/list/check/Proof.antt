@@ -2,9 +2,11 @@
 -- Assumes nothing.
 use native.Mathlib.Omega.{arith}
 use denote.Ref.{now}
+use mathlib.Core.Path.{_∙_}
 use borrow.Author.Needs.{needs}
+use Rattle.format.specs.Samples.{Decoded}
 use Rattle.words.specs.Widths.{kindBy}
-use Rattle.tokens.proofs.WalkLaws.{type-number}
+use Rattle.tokens.proofs.WalkLaws.{by-type}
 use Rattle.tokens.proofs.list.check.Statement.{statement}
 use Rattle.tokens.proofs.list.check.Tie as tie
 
@@ -25,8 +27,8 @@ returns c =
     let h = c .before .before .before in
     let a = h .before .before .before .args in
     λ x.
-    type-number (kindBy (a .signed)) (a .w) (h .before .lowest-of .ensures .1 x) (h .highest-of .ensures .1 x) (a .n) (now (a .s))
-    (c .before .read .ensures .code)
+    c .before .read .ensures .code
+    ∙ by-type (kindBy (a .signed)) (a .w) (h .before .lowest-of .ensures .1 x) (h .highest-of .ensures .1 x) (λ (d : Decoded). d .number) (a .n) (now (a .s))
 
 pub check-spec : {M : Type 1} → statement M
 check-spec =

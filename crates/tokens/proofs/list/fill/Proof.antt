@@ -3,12 +3,14 @@
 use Prim.Native.Nat.{_-_}
 use native.Mathlib.Omega.{arith}
 use denote.Ref.{now}
-use mathlib.Core.Path.{refl}
+use mathlib.Core.Path.{refl, _∙_}
+use lib.Seq.{sets}
 use mir.Syntax.{w64}
 use mir.Val.{toZ}
 use borrow.Author.Needs.{needs}
+use Rattle.format.specs.Samples.{Decoded}
 use Rattle.words.specs.Widths.{kindBy}
-use Rattle.tokens.proofs.WalkLaws.{Filling, filling-none, filling-stop, filling-more, filling-done, in-front}
+use Rattle.tokens.proofs.WalkLaws.{Filling, filling-none, filling-stop, filling-more, filling-done, by-type}
 use Rattle.tokens.proofs.list.fill.Statement.{statement}
 use Rattle.tokens.proofs.list.fill.Tie as tie
 
@@ -44,10 +46,9 @@ returns c =
     let l = t .before in
     let h = l .before .before in
     let a = h .before .before .before .args in
-    λ x few none-refused.
-    in-front (kindBy (a .signed)) (a .w) (h .before .lowest-of .ensures .1 x) (h .highest-of .ensures .1 x) (a .n) (now (a .t1)) (now (a .dst))
-    (filling-stop _ _ _ _ _ _ (l .loop .inv) (t .loop-test .taken) (c .before .token .ensures) (c .if1 .taken) .held refl)
-    few
+    λ x.
+    filling-stop _ _ _ _ _ _ (l .loop .inv) (t .loop-test .taken) (c .before .token .ensures) (c .if1 .taken) .held refl
+    ∙ by-type (kindBy (a .signed)) (a .w) (h .before .lowest-of .ensures .1 x) (h .highest-of .ensures .1 x) (λ (d : Decoded). sets (now (a .dst)) 0 (d .seen)) (a .n) (now (a .t1))
 
 put-requires : tie.Need-put-requires Inv-loop μ-loop
 put-requires c κs = search needs
@@ -71,10 +72,9 @@ returns-2 : tie.Need-returns-2 Inv-loop μ-loop
 returns-2 c =
     let h = c .before .before .before in
     let a = h .before .before .before .args in
-    λ x few none-refused.
-    in-front (kindBy (a .signed)) (a .w) (h .before .lowest-of .ensures .1 x) (h .highest-of .ensures .1 x) (a .n) (now (a .t1)) (now (a .dst))
-    (filling-done _ _ _ _ _ _ (c .before .loop .inv) (c .loop-test .left) .held refl)
-    few
+    λ x.
+    filling-done _ _ _ _ _ _ (c .before .loop .inv) (c .loop-test .left) .held refl
+    ∙ by-type (kindBy (a .signed)) (a .w) (h .before .lowest-of .ensures .1 x) (h .highest-of .ensures .1 x) (λ (d : Decoded). sets (now (a .dst)) 0 (d .seen)) (a .n) (now (a .t1))
 
 pub fill-spec : {M : Type 1} → statement M
 fill-spec =
