@@ -16,12 +16,14 @@ use Rattle.format.specs.declared.Reading.{Reading}
 use Rattle.format.specs.Bytes.{isIn, orDefault, if_then_else_}
 use Rattle.format.specs.Limits.{maxAxes, maxSize, maxExtent}
 use Rattle.format.specs.Refusals.{badDescriptor, missingField, extentTooLarge, refusal, fine}
-use Rattle.format.specs.Fields.{Given, given, descriptorOf, isGiven, inOrder, understood, dimension, type, encoding, endian, sizes, lineSkip, byteSkip, dataFile}
+use Rattle.format.specs.Fields.{Given, given, descriptorOf, isGiven, understood, dimension, type, encoding, endian, sizes, lineSkip, byteSkip, dataFile}
 use Rattle.format.specs.Descriptors.{meaning, noEndian, number, valueOfNumber, within, numbersIn, sizesFine, words, typeNamed, encodingNamed, endianNamed, isDetached, mayDescribe, dimensionOf, typeOf, sizesOf, sampleBytes, endianNeeded, hasNeeded, product, extentOf}
 use Rattle.format.specs.Header.{Item, magic, comment, field, pair, closing, Entry, right, judge, refused, afterItem, versionOf, headerLength}
+use Rattle.format.specs.Rules.{FieldLine, Keeps}
 use Rattle.format.specs.Calls.{readAnswer, readingOf}
 use Rattle.format.proofs.Bytes.{and-left, and-right}
-use Rattle.format.proofs.Header.{FieldFine, Says, judge-says}
+use Rattle.format.proofs.Judged.{judge-keeps}
+use Rattle.format.proofs.Rules.{needed-of}
 use Rattle.text.proofs.Places.{drop-next}
 use Rattle.text.specs.Numbers.{numberAnswer, noSizes, sizesAnswer}
 use Rattle.text.specs.Rows.{rowAnswer}
@@ -264,11 +266,7 @@ module _ {st : State} {gs : List Given} (h : Holds st gs) where
   needed-is = ap neededBy (h .is)
 
   pub needs-sizes : hasNeeded gs ≡ true → isGiven sizes gs ≡ true
-  unfolding hasNeeded
-  needs-sizes e = fourth (isGiven dimension gs) (isGiven type gs) (isGiven encoding gs) (isGiven sizes gs) _ e
-    where
-      fourth : (a b c d e : Bool) → (a && (b && (c && (d && e)))) ≡ true → d ≡ true
-      fourth a b c d e h = and-left d e (and-right c (d && e) (and-right b (c && (d && e)) (and-right a (b && (c && (d && e))) h)))
+  needs-sizes e = needed-of gs e .has-sizes
 
   -- the sizes of the axes
   pub sizes-of-axes : isGiven sizes gs ≡ true → take (st .dimension) (st .sizes) ≡ sizesOf gs
@@ -350,7 +348,7 @@ within-most least most (some n) e = leb-true n most (and-right (leb least n) (le
 
 -- one field more
 module _ (version : ℕ) {gs : List Given} (d : List ℕ) (k : Kept gs) where
-  kept-dimension : FieldFine version gs dimension d → Kept (given dimension d ∷ gs)
+  kept-dimension : {t : List ℕ} → FieldLine version gs t dimension d → Kept (given dimension d ∷ gs)
   unfolding descriptorOf mayDescribe
   kept-dimension h =
       record {
@@ -359,12 +357,12 @@ module _ (version : ℕ) {gs : List Given} (d : List ℕ) (k : Kept gs) where
         sized = λ e. absurd (false≢true (sym (h .new) ∙ k .ordered e));
       }
 
-  kept-sizes : FieldFine version gs sizes d → Kept (given sizes d ∷ gs)
-  unfolding descriptorOf mayDescribe inOrder isIn
+  kept-sizes : {t : List ℕ} → FieldLine version gs t sizes d → Kept (given sizes d ∷ gs)
+  unfolding descriptorOf mayDescribe isIn
   kept-sizes h =
       record {
         axes = k .axes;
-        ordered = λ e. and-left (isGiven dimension gs) true (h .order);
+        ordered = λ e. h .after-dimension refl;
         sized = λ e. length-map (words d) valueOfNumber ∙ fine-length (dimensionOf gs) (words d) (h .described);
       }
 
@@ -379,8 +377,8 @@ module _ (version : ℕ) {gs : List Given} (d : List ℕ) (k : Kept gs) where
         sized = λ e. rw (p, q) (k .sized (rw q at e));
       }
 
-kept-field : (version : ℕ) {gs : List Given} (f : ℕ) (d : List ℕ) → Kept gs → FieldFine version gs f d → Kept (given f d ∷ gs)
-kept-field version {gs} f d k h = go (eqb dimension f) refl (eqb sizes f) refl
+kept-field : (version : ℕ) {gs : List Given} {t : List ℕ} (f : ℕ) (d : List ℕ) → Kept gs → FieldLine version gs t f d → Kept (given f d ∷ gs)
+kept-field version {gs} {t} f d k h = go (eqb dimension f) refl (eqb sizes f) refl
   where
     go : (x : Bool) → eqb dimension f ≡ x → (y : Bool) → eqb sizes f ≡ y → Kept (given f d ∷ gs)
     go true p y q = let e = eqb-true dimension f p in rw (sym e) (kept-dimension version d k (rw (sym e) at h))
@@ -389,9 +387,9 @@ kept-field version {gs} f d k h = go (eqb dimension f) refl (eqb sizes f) refl
 
 -- one line more
 pub kept-next : (version : ℕ) (gs : List Given) (t : List ℕ) (i : Item) → Kept gs → judge version gs t ≡ right i → Kept (afterItem i gs)
-kept-next version gs t i k e = go i (judge-says version gs t e)
+kept-next version gs t i k e = go i (judge-keeps version gs t e)
   where
-    go : (i : Item) → Says version gs t i → Kept (afterItem i gs)
+    go : (i : Item) → Keeps version gs t i → Kept (afterItem i gs)
     go (magic n) s = k
     go comment s = k
     go (field f d) s = kept-field version f d k s

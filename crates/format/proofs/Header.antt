@@ -10,16 +10,16 @@ use lib.ListN.{length, drop, length-append, length-map}
 use borrow.Author.Tests.{ltb-false, le-ltb}
 use native.Mathlib.Omega.{arith}
 use Rattle.format.specs.declared.Refusal.{Refusal}
-use Rattle.format.specs.Bytes.{bytes, every, same, HASH, if_then_else_}
+use Rattle.format.specs.Bytes.{bytes, same, if_then_else_}
 use Rattle.format.specs.Limits.{maxFile, maxHeader, maxLines, maxExtent}
-use Rattle.format.specs.Refusals.{badByte, notInVersion, repeatedField, outOfOrder, badDescriptor, fileTooLong, missingField, extentTooLarge, noEnd, headerTooLong, tooManyLines, atLine, refusal}
+use Rattle.format.specs.Refusals.{fileTooLong, missingField, extentTooLarge, noEnd, headerTooLong, tooManyLines, atLine, refusal}
 use Rattle.format.specs.Lines.{Line, line, lf, crlf, eof, text, size, lines, unlines}
-use Rattle.format.specs.Pairs.{plain, Marked, unmarked, fieldMark, pairMark, mark, unescape}
-use Rattle.format.specs.Fields.{fieldNamed, pairsSince, fieldSince, Given, isGiven, inOrder}
-use Rattle.format.specs.Descriptors.{descriptor, mayDescribe, hasNeeded, extentOf, isDetached}
-use Rattle.format.specs.Header.{Item, magic, comment, field, pair, closing, Entry, entry, lineOf, linesOf, magicVersion, versionOfLine, Judged, wrong, right, unescaped, onPair, onField, onMark, judge, Outcome, refused, accepted, withEntry, closes, afterItem, complete, onJudged, walk, afterMagic, fromFirst, header, tableOf, headerLength}
-pub use Rattle.format.specs.Laws.{closed}
+use Rattle.format.specs.Fields.{Given}
+use Rattle.format.specs.Descriptors.{hasNeeded, extentOf, isDetached}
+use Rattle.format.specs.Header.{Item, magic, comment, field, pair, closing, Entry, entry, lineOf, linesOf, magicVersion, versionOfLine, Judged, wrong, right, judge, Outcome, refused, accepted, withEntry, closes, afterItem, complete, onJudged, walk, afterMagic, fromFirst, header, tableOf, headerLength}
+use Rattle.format.specs.Rules.{Keeps, closed}
 use Rattle.format.proofs.Lines.{unlines-of-lines, unlines-append, length-unlines-cons, Shape, lf-line, crlf-line, eof-line, shape-of-lines, shape-before, shape-after, lines-of-parts, bytes-after, length-starts}
+use Rattle.format.proofs.Judged.{judge-keeps}
 
 -- ---- what an accepted header is, the limits left out
 
@@ -290,80 +290,10 @@ module _ (s : List ℕ) {es : List Entry} {gs : List Given} {r : List Line} (e :
 pub length-table : (es : List Entry) → length (tableOf es) ≡ length es
 length-table es = length-starts 0 (linesOf es) ∙ length-map es lineOf
 
--- ---- what the items of an accepted header say
-
--- the field f may come with the descriptor d after the fields gs
-pub record FieldFine (version : ℕ) (gs : List Given) (f : ℕ) (d : List ℕ) : Type 0 where
-  pub since : fieldSince f ≤ version
-  pub new : isGiven f gs ≡ false
-  pub order : inOrder f gs ≡ true
-  pub described : mayDescribe gs f d ≡ true
-
--- what is known of a line with the text t, after the fields gs, that is judged to be this item; none is judged to be a magic
-abbrev pub Says : ℕ → List Given → List ℕ → Item → Type 0
-Says version gs t (magic n) = ⊥
-Says version gs t comment = Unit {0}
-Says version gs t (field f d) = FieldFine version gs f d
-Says version gs t (pair k v) = pairsSince ≤ version
-Says version gs t closing = t ≡ []
-
--- the same of what a line is judged to be, right or wrong
-abbrev SaysRight : ℕ → List Given → List ℕ → Judged → Type 0
-SaysRight version gs t (wrong w) = Unit {0}
-SaysRight version gs t (right i) = Says version gs t i
-
-module _ (version : ℕ) (gs : List Given) where
-  field-says : (t : List ℕ) (f : Option ℕ) (rest : List ℕ) → SaysRight version gs t (onField version gs f rest)
-  unfolding onField
-  field-says t none rest = tt
-  field-says t (some f) rest =
-      go (ltb version (fieldSince f)) refl (isGiven f gs) refl (inOrder f gs) refl (mayDescribe gs f (descriptor f rest)) refl
-    where
-      go : (a : Bool) → ltb version (fieldSince f) ≡ a → (b : Bool) → isGiven f gs ≡ b → (c : Bool) → inOrder f gs ≡ c
-          → (d : Bool) → mayDescribe gs f (descriptor f rest) ≡ d
-          → SaysRight version gs t
-          (if a then wrong notInVersion else if b then wrong repeatedField else if not c then wrong outOfOrder
-          else if not d then wrong badDescriptor else right (field f (descriptor f rest)))
-      go true ha b hb c hc d hd = tt
-      go false ha true hb c hc d hd = tt
-      go false ha false hb false hc d hd = tt
-      go false ha false hb true hc false hd = tt
-      go false ha false hb true hc true hd =
-          record { since = ltb-false version (fieldSince f) ha; new = hb; order = hc; described = hd }
-
-  pair-says : (t k v : List ℕ) → SaysRight version gs t (onPair version k v)
-  unfolding onPair
-  pair-says t [] v = tt
-  pair-says t (b ∷ k) v = go (ltb version pairsSince) refl (unescape (b ∷ k)) (unescape v)
-    where
-      go : (a : Bool) → ltb version pairsSince ≡ a → (x y : Option (List ℕ))
-          → SaysRight version gs t (if a then wrong notInVersion else unescaped x y)
-      go true e x y = tt
-      go false e none y = tt
-      go false e (some k′) none = tt
-      go false e (some k′) (some v′) = ltb-false version pairsSince e
-
-  judged : (t : List ℕ) → SaysRight version gs t (judge version gs t)
-  unfolding judge
-  judged [] = refl
-  judged (b ∷ t) = go (eqb b HASH) (every plain (b ∷ t)) (mark (b ∷ t))
-    where
-      go : (x y : Bool) (m : Marked)
-          → SaysRight version gs (b ∷ t) (if x then right comment else if not y then wrong badByte else onMark version gs m)
-      go true y m = tt
-      go false false m = tt
-      go false true unmarked = tt
-      go false true (fieldMark name rest) = field-says (b ∷ t) (fieldNamed name) rest
-      go false true (pairMark k v) = pair-says (b ∷ t) k v
-
-  -- a line that is judged to be an item is as `Says` says
-  pub judge-says : (t : List ℕ) {i : Item} → judge version gs t ≡ right i → Says version gs t i
-  judge-says t e = subst (SaysRight version gs t) e (judged t)
-
 -- ---- the first line of a fine header
 
 -- the line that closes the header gives no field
-after-closing : (i : Item) (gs : List Given) → closes i ≡ true → afterItem i gs ≡ gs
+pub after-closing : (i : Item) (gs : List Given) → closes i ≡ true → afterItem i gs ≡ gs
 after-closing (magic n) gs e = refl
 after-closing comment gs e = refl
 after-closing (field f d) gs e = absurd (false≢true e)
@@ -374,17 +304,23 @@ module _ (version : ℕ) where
   -- the first line of a fine header closes it, or the entries after that line are fine
   pub fine-cases : (gs : List Given) (l : Line) (i : Item) (es : List Entry) (gs′ : List Given) (r : List Line) (P : List Entry → List Given → Type 0)
       → Fine version gs (entry l i ∷ es) gs′ r
-      → (Says version gs (text l) i → closes i ≡ true → Complete gs → P [] (afterItem i gs))
-      → (Says version gs (text l) i → closes i ≡ false → Fine version (afterItem i gs) es gs′ r → P es gs′)
+      → (Keeps version gs (text l) i → closes i ≡ true → Complete gs → P [] (afterItem i gs))
+      → (Keeps version gs (text l) i → closes i ≡ false → Fine version (afterItem i gs) es gs′ r → P es gs′)
       → P es gs′
   fine-cases gs l i es gs′ r P f last more = go (closes i) refl (f .1)
     where
-      says : Says version gs (text l) i
-      says = judge-says version gs (text l) (f .0)
+      keeps : Keeps version gs (text l) i
+      keeps = judge-keeps version gs (text l) (f .0)
 
       go : (t : Bool) → closes i ≡ t → FineBy t gs es gs′ (Fine version (afterItem i gs) es gs′ r) → P es gs′
-      go true e g = rw (g .0, g .2, ← after-closing i gs e) (last says e (g .1))
-      go false e g = more says e g
+      go true e g = rw (g .0, g .2, ← after-closing i gs e) (last keeps e (g .1))
+      go false e g = more keeps e g
+
+  -- the fields at the end of a fine header are complete
+  pub fine-complete : (es : List Entry) (gs gs′ : List Given) (r : List Line) → Fine version gs es gs′ r → Complete gs′
+  fine-complete [] gs gs′ r f = rw (f .3) (f .2)
+  fine-complete (entry l i ∷ es) gs gs′ r f =
+      fine-cases gs l i es gs′ r (λ es gs′. Complete gs′) f (λ k c q. rw (after-closing i gs c) q) (λ k c g. fine-complete es (afterItem i gs) gs′ r g)
 
 -- ---- where an accepted header ends
 
@@ -395,7 +331,7 @@ shape-empty h (crlf-line p s) m = crlf-line p m
 shape-empty h (eof-line p n) m = absurd (omega (arith, ap length h))
 
 -- a line that closes the header is empty
-closes-empty : (version : ℕ) (gs : List Given) (t : List ℕ) (i : Item) → Says version gs t i → closes i ≡ true → t ≡ []
+closes-empty : (version : ℕ) (gs : List Given) (t : List ℕ) (i : Item) → Keeps version gs t i → closes i ≡ true → t ≡ []
 closes-empty version gs t (magic n) s c = absurd s
 closes-empty version gs t comment s c = absurd (false≢true c)
 closes-empty version gs t (field f d) s c = absurd (false≢true c)
@@ -427,7 +363,7 @@ module _ (version : ℕ) where
   unfolding closed
   shape-closed [] gs gs′ r r′ c f s s′ = absurd (false≢true c)
   shape-closed (entry l i ∷ []) gs gs′ r r′ c f s s′ =
-      shape-empty (closes-empty version gs (text l) i (judge-says version gs (text l) (f .0)) c) s s′
+      shape-empty (closes-empty version gs (text l) i (judge-keeps version gs (text l) (f .0)) c) s s′
   shape-closed (entry l i ∷ e ∷ es) gs gs′ r r′ c f s s′ =
       shape-before s (omega arith)
       (shape-closed (e ∷ es) (afterItem i gs) gs′ r r′ c (fine-tail gs l i e es gs′ r f .1) (shape-after (l ∷ []) (linesOf (e ∷ es) ++ r) s) s′)

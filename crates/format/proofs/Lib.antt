@@ -1,10 +1,12 @@
 pub mod Bytes
 pub mod Stores
 pub mod Lines
+pub mod Judged
 pub mod Pairs
 pub mod Header
 pub mod Numbered
 pub mod Places
+pub mod Rules
 pub mod Samples
 pub mod Boundary
 pub mod Writer
@@ -13,5 +15,6 @@ pub mod Found
 pub mod Starred
 pub mod Listed
 pub mod FindTrials
+pub mod Acceptance
 pub mod AtLimits
 pub mod Believable

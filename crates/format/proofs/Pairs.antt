@@ -5,19 +5,19 @@ use Prim.Native.Nat.{ℕ, _+_, _≤_}
 use native.Mathlib.Omega.{arith}
 use mathlib.Core.Bool.{Bool, true, false, not, _&&_, false≢true}
 use mathlib.Core.List.{List, [], _∷_, _++_}
-use mathlib.Core.Option.{Option, none, some}
-use lib.Dec.{eqb, ltb}
+use mathlib.Core.Option.{none, some}
+use lib.Dec.{eqb}
 use lib.ListN.{length, length-append}
-use borrow.Author.Tests.{eqb-true, not-true, le-ltb, ltb-false}
-use Rattle.format.specs.Bytes.{bytes, every, onto, LF, HASH, COLON, SPACE, EQUALS, BACKSLASH, if_then_else_}
-use Rattle.format.specs.Refusals.{badByte, notInVersion}
+use borrow.Author.Tests.{eqb-true, not-true}
+use Rattle.format.specs.Bytes.{bytes, every, onto, isEmpty, LF, HASH, COLON, SPACE, EQUALS, BACKSLASH, if_then_else_}
 use Rattle.format.specs.Pairs.{plain, Marked, unmarked, fieldMark, pairMark, afterColon, moreBefore, firstMark, mark, escape, unescapeFrom, unescape}
-use Rattle.format.specs.Fields.{pairsSince, fieldSince, fieldNamed, Given, isGiven, inOrder}
-use Rattle.format.specs.Descriptors.{descriptor, mayDescribe}
-use Rattle.format.specs.Header.{magic, comment, field, pair, closing, Judged, wrong, right, unescaped, onPair, onField, onMark, judge}
+use Rattle.format.specs.Fields.{Given}
+use Rattle.format.specs.Header.{pair, right, judge}
+use Rattle.format.specs.Rules.{isComment, PairLine}
 use Rattle.format.specs.Settings.{settable, hasMark, beginsFine, keyFine, valueFine, pairText}
 use Rattle.format.proofs.Bytes.{and-left, and-right, every-append, every-left, every-right, every-weaker, onto-some}
 use Rattle.format.proofs.Lines.{notLF}
+use Rattle.format.proofs.Judged.{judge-keeps, keeps-judge}
 
 -- ---- escapes
 
@@ -268,120 +268,59 @@ plain-of-pair k v h i =
 
 -- ---- what the reader takes for a pair
 
-on-pair-is : (version : ℕ) (a c k v : List ℕ) → pairsSince ≤ version → beginsFine a ≡ true
-    → unescape a ≡ some k → unescape c ≡ some v → onPair version a c ≡ right (pair k v)
-unfolding onPair
-on-pair-is version [] c k v n h i j = absurd (false≢true h)
-on-pair-is version (b ∷ a) c k v n h i j = rw (le-ltb version pairsSince n, i, j)
+-- a text that is not empty and does not begin with `#`
+begins-other : (t : List ℕ) → beginsFine t ≡ true → (isEmpty t ≡ false) × (isComment t ≡ false)
+begins-other [] h = absurd (false≢true h)
+begins-other (b ∷ t) h = (refl, not-true (eqb b HASH) h)
 
-judge-is : (version : ℕ) (gs : List Given) (t : List ℕ) → beginsFine t ≡ true → every plain t ≡ true
-    → judge version gs t ≡ onMark version gs (mark t)
-unfolding judge
-judge-is version gs [] h p = absurd (false≢true h)
-judge-is version gs (b ∷ t) h p = rw (not-true (eqb b HASH) h, p)
+-- and the other way round, of the first part of a text
+other-begins : (a r : List ℕ) → isEmpty a ≡ false → isComment (a ++ r) ≡ false → beginsFine a ≡ true
+other-begins [] r h c = absurd (false≢true (sym h))
+other-begins (b ∷ a) r h c = rw c
 
 -- the line that sets k to v is read as the pair of k and v
 pub judge-of-pair : (version : ℕ) (gs : List Given) (k v : List ℕ) → 2 ≤ version → keyFine k ≡ true → valueFine v ≡ true
     → judge version gs (pairText k v) ≡ right (pair k v)
 judge-of-pair version gs k v n h i =
-    rw (judge-is version gs (pairText k v) (begins-of-pair k v h) (plain-of-pair k v h i), mark-of-pair k v h)
-    (on-pair-is version (escape k) (escape v) k v n (begins-of-escape k ∙ fine-key k h .begins) (unescape-of-escape k) (unescape-of-escape v))
+    let o = begins-other (pairText k v) (begins-of-pair k v h) in
+    keeps-judge version gs (pairText k v) (pair k v) record {
+      other = record { filled = o .0; no-comment = o .1; all-plain = plain-of-pair k v h i };
+      key = escape k;
+      value = escape v;
+      marked = mark-of-pair k v h;
+      key-filled = begins-other (escape k) (begins-of-escape k ∙ fine-key k h .begins) .0;
+      since = n;
+      key-is = unescape-of-escape k;
+      value-is = unescape-of-escape v;
+    }
 
 -- of a line t of that version: it is the line that sets k to v, and both can be set
-pub record PairLine (version : ℕ) (t k v : List ℕ) : Type 0 where
+pub record SetLine (version : ℕ) (t k v : List ℕ) : Type 0 where
   pub since : 2 ≤ version
   pub text-is : t ≡ pairText k v
   pub key : keyFine k ≡ true
   pub value : valueFine v ≡ true
 
--- of a line t: it is a name, `: ` and a rest, in which d is the descriptor of the field f
-pub record FieldLine (t : List ℕ) (f : ℕ) (d : List ℕ) : Type 0 where
-  pub name : List ℕ
-  pub rest : List ℕ
-  pub marked : mark t ≡ fieldMark name rest
-  pub text-is : t ≡ name ++ (bytes ": " ++ rest)
-  pub described : d ≡ descriptor f rest
-
--- what holds of a line t by its judgement: the above of a pair and of a field, nothing of the others
-abbrev Told : ℕ → List ℕ → Judged → Type 0
-Told version t (wrong n) = Unit
-Told version t (right (magic n)) = Unit
-Told version t (right comment) = Unit
-Told version t (right (field f d)) = FieldLine t f d
-Told version t (right (pair k v)) = PairLine version t k v
-Told version t (right closing) = Unit
-
-told-unless : (version : ℕ) (t : List ℕ) (x : Bool) (n : ℕ) (j : Judged) → Told version t j → Told version t (if x then wrong n else j)
-told-unless version t true n j h = tt
-told-unless version t false n j h = h
-
-told-field : (version : ℕ) (gs : List Given) (t n : List ℕ) (o : Option ℕ) (rest : List ℕ) → mark t ≡ fieldMark n rest → t ≡ n ++ (bytes ": " ++ rest)
-    → Told version t (onField version gs o rest)
-unfolding onField
-told-field version gs t n none rest m e = tt
-told-field version gs t n (some f) rest m e =
-    told-unless version t (ltb version (fieldSince f)) _ _
-    (told-unless version t (isGiven f gs) _ _
-    (told-unless version t (not (inOrder f gs)) _ _
-    (told-unless version t (not (mayDescribe gs f (descriptor f rest))) _ (right (field f (descriptor f rest)))
-    (record { name = n; rest = rest; marked = m; text-is = e; described = refl }))))
-
-told-pair : (version : ℕ) (a c : List ℕ)
-    → beginsFine (a ++ (bytes ":=" ++ c)) ≡ true → every plain (a ++ (bytes ":=" ++ c)) ≡ true → mark a ≡ unmarked
-    → Told version (a ++ (bytes ":=" ++ c)) (onPair version a c)
-unfolding onPair every pairText valueFine
-told-pair version [] c h p m = tt
-told-pair version (b ∷ s) c h p m = go (ltb version pairsSince) refl (unescape a) refl (unescape c) refl
-  where
-    a : List ℕ
-    a = b ∷ s
-
-    plain-key : every plain a ≡ true
-    plain-key = every-left plain a (bytes ":=" ++ c) p
-
-    plain-value : every plain c ≡ true
-    plain-value = every-right plain a (bytes ":=" ++ c) p
-
-    fine : (k v : List ℕ) → pairsSince ≤ version → escape k ≡ a → escape v ≡ c → PairLine version (a ++ (bytes ":=" ++ c)) k v
-    fine k v n i j = record {
-      since = n;
-      text-is = rw (i, j);
-      key = key-fine k record {
-        begins = sym (begins-of-escape k) ∙ rw i h;
-        bytes-fine = settable-of-plain k (rw i plain-key);
-        no-mark = rw i m;
-      };
+set-line : {version : ℕ} {t k v : List ℕ} → PairLine version t k v → SetLine version t k v
+unfolding every pairText valueFine
+set-line {version} {t} {k} {v} p =
+    let q = rw (p .marked) at (mark-parts t) in
+    let all = rw (q .0) at (p .other .all-plain) in
+    let plain-key = every-left plain (p .key) (bytes ":=" ++ p .value) all in
+    let plain-value = every-right plain (p .key) (bytes ":=" ++ p .value) all in
+    let i : escape k ≡ p .key = escape-of-plain (p .key) k plain-key (p .key-is) in
+    let j : escape v ≡ p .value = escape-of-plain (p .value) v plain-value (p .value-is) in
+    let begins = other-begins (p .key) (bytes ":=" ++ p .value) (p .key-filled) (rw (q .0) at (p .other .no-comment)) in
+    record {
+      since = p .since;
+      text-is = rw (i, j) (q .0);
+      key = key-fine k record { begins = sym (begins-of-escape k) ∙ rw i begins; bytes-fine = settable-of-plain k (rw i plain-key); no-mark = rw i (q .1) };
       value = settable-of-plain v (rw j plain-value);
     }
 
-    go : (x : Bool) → ltb version pairsSince ≡ x → (o : Option (List ℕ)) → unescape a ≡ o → (q : Option (List ℕ)) → unescape c ≡ q
-        → Told version (a ++ (bytes ":=" ++ c)) (if x then wrong notInVersion else unescaped o q)
-    go true n o i q j = tt
-    go false n none i q j = tt
-    go false n (some k) i none j = tt
-    go false n (some k) i (some v) j =
-        fine k v (ltb-false version pairsSince n) (escape-of-plain a k plain-key i) (escape-of-plain c v plain-value j)
-
-told-mark : (version : ℕ) (gs : List Given) (t : List ℕ) (m : Marked) → mark t ≡ m → Parts t m → beginsFine t ≡ true → every plain t ≡ true
-    → Told version t (onMark version gs m)
-told-mark version gs t unmarked e q h p = tt
-told-mark version gs t (fieldMark n d) e q h p = told-field version gs t n (fieldNamed n) d e (q .0)
-told-mark version gs t (pairMark a c) e q h p = rw (q .0) (told-pair version a c (rw (q .0) at h) (rw (q .0) at p) (q .1))
-
-told-judge : (version : ℕ) (gs : List Given) (t : List ℕ) → Told version t (judge version gs t)
-unfolding judge
-told-judge version gs [] = tt
-told-judge version gs (b ∷ t) = go (eqb b HASH) refl (every plain (b ∷ t)) refl
-  where
-    go : (x : Bool) → eqb b HASH ≡ x → (y : Bool) → every plain (b ∷ t) ≡ y
-        → Told version (b ∷ t) (if x then right comment else if not y then wrong badByte else onMark version gs (mark (b ∷ t)))
-    go true e y p = tt
-    go false e true p = told-mark version gs (b ∷ t) (mark (b ∷ t)) refl (mark-parts (b ∷ t)) (rw e) p
-    go false e false p = tt
-
 -- what holds of every line that is read as a pair
-pub pair-line : (version : ℕ) (gs : List Given) (t k v : List ℕ) → judge version gs t ≡ right (pair k v) → PairLine version t k v
-pair-line version gs t k v e = rw e at (told-judge version gs t)
+pub pair-line : (version : ℕ) (gs : List Given) (t k v : List ℕ) → judge version gs t ≡ right (pair k v) → SetLine version t k v
+pair-line version gs t k v e = set-line (judge-keeps version gs t e)
 
 -- what holds of every line that is read as a field
 pub field-line : (version : ℕ) (gs : List Given) (t : List ℕ) (f : ℕ) (d : List ℕ) → judge version gs t ≡ right (field f d) → FieldLine t f d

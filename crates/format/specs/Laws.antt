@@ -7,13 +7,15 @@ use mathlib.Core.Option.{some}
 use lib.Dec.{eqb}
 use lib.IntN.{ℤ}
 use lib.ListN.{length, drop, getD}
+use Rattle.format.specs.declared.Refusal.{Refusal}
 use Rattle.format.specs.Bytes.{every, over, LF, CR}
 use Rattle.format.specs.Limits.{maxFile}
 use Rattle.format.specs.Lines.{Line, line, lf, crlf, eof, lines, unlines, starts}
 use Rattle.format.specs.Pairs.{pairMark, mark, escape, unescape}
 use Rattle.format.specs.Fields.{Given}
 use Rattle.format.specs.Descriptors.{NumberKind, signed, number}
-use Rattle.format.specs.Header.{Entry, itemOf, linesOf, right, judge, pair, closes, accepted, header, headerLength}
+use Rattle.format.specs.Header.{Entry, linesOf, right, judge, pair, refused, accepted, header, headerLength}
+use Rattle.format.specs.Rules.{closed, KeepsRules}
 use Rattle.format.specs.Samples.{inType, sampleValue, valueBytes, hexRun, hexBytes, tokenValue, samplesOf}
 use Rattle.format.specs.Writer.{decimal, signedDecimal, hexText, dataBytes, allInType}
 use Rattle.format.specs.Settings.{keyFine, valueFine, pairText}
@@ -45,7 +47,7 @@ pub data Shape : List Line → Type 0 where
   crlf-line : {t : List ℕ} {ls : List Line} → NoLF t → Shape ls → Shape (line t crlf ∷ ls)
   eof-line : {t : List ℕ} → NoLF t → 0 < length t → Shape (line t eof ∷ [])
 
--- ---- bytes and entries
+-- ---- bytes
 
 -- it holds of each element
 abbrev pub Each {ℓ} : {A : Type ℓ} → (A → Type 0) → List A → Type 0
@@ -59,12 +61,6 @@ AllBelow m ns = Each (λ (n : ℕ). n < m) ns
 -- every number is a byte
 abbrev pub AllBytes : List ℕ → Type 0
 AllBytes s = AllBelow 256 s
-
--- the last entry is the closing line
-unfoldable pub closed : List Entry → Bool
-closed [] = false
-closed (e ∷ []) = closes (itemOf e)
-closed (e ∷ f ∷ es) = closed (f ∷ es)
 
 -- ---- the laws
 
@@ -84,6 +80,11 @@ pub record Laws : Type 0 where
   pub judge-of-pair : (version : ℕ) (gs : List Given) (k v : List ℕ) → 2 ≤ version → keyFine k ≡ true → valueFine v ≡ true → judge version gs (pairText k v) ≡ right (pair k v)
   pub pair-key-fine : (version : ℕ) (gs : List Given) (t k v : List ℕ) → judge version gs t ≡ right (pair k v) → keyFine k ≡ true
   pub pair-value-fine : (version : ℕ) (gs : List Given) (t k v : List ℕ) → judge version gs t ≡ right (pair k v) → valueFine v ≡ true
+  -- a header is accepted exactly when it keeps the rules, as the lines that it has by them; a file is refused exactly when none keeps them
+  pub accepted-keeps : (file : List ℕ) {es : List Entry} {gs : List Given} {r : List Line} → header file ≡ accepted es gs r → KeepsRules file es gs r
+  pub keeps-accepted : (file : List ℕ) {es : List Entry} {gs : List Given} {r : List Line} → KeepsRules file es gs r → header file ≡ accepted es gs r
+  pub refused-none : (file : List ℕ) {x : Refusal} → header file ≡ refused x → (es : List Entry) (gs : List Given) (r : List Line) → KeepsRules file es gs r → ⊥
+  pub none-refused : (file : List ℕ) → ((es : List Entry) (gs : List Given) (r : List Line) → KeepsRules file es gs r → ⊥) → (x : Refusal) × (header file ≡ refused x)
   -- what follows the closing line decides nothing about the header; the data area is what follows it
   pub header-ends : (s : List ℕ) {es : List Entry} {gs : List Given} {r : List Line} → header s ≡ accepted es gs r → closed es ≡ true → (d : List ℕ) → length (unlines (linesOf es) ++ d) ≤ maxFile → header (unlines (linesOf es) ++ d) ≡ accepted es gs (lines d)
   pub data-area : (s : List ℕ) {es : List Entry} {gs : List Given} {r : List Line} → header s ≡ accepted es gs r → drop (headerLength es) s ≡ unlines r

@@ -17,6 +17,8 @@ pub mod Found
 pub mod Trials
 pub mod ListingTrials
 pub mod FindTrials
+pub mod AcceptanceTrials
 pub mod Boundary
 pub mod EntryPoints
+pub mod Rules
 pub mod Laws

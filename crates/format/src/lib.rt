@@ -2,6 +2,7 @@
 // What is right is said in specs/; the laws that make it believable are in proofs/.
 ghost use mathlib.Core.Path.{_≡_};
 ghost use Rattle.format.specs.FindTrials.{FindTrials};
+ghost use Rattle.format.specs.AcceptanceTrials.{AcceptanceTrials};
 ghost use Rattle.format.specs.Laws.{Laws};
 ghost use Rattle.format.specs.Limits.{limits};
 ghost use Rattle.format.specs.ListingTrials.{ListingTrials};
@@ -286,6 +287,13 @@ pub fn listing_trials() -> u64
 // The trials of the look-ups hold of the definitions.
 pub fn find_trials() -> u64
     ensures { λ r. ⌜ FindTrials ⌝ }
+{
+    0
+}
+
+// Further trials of the reader hold of the definitions.
+pub fn acceptance_trials() -> u64
+    ensures { λ r. ⌜ AcceptanceTrials ⌝ }
 {
     0
 }

@@ -12,11 +12,12 @@ use lib.Seq.{take-at, getD-take}
 use borrow.Author.Tests.{leb-true, ltb-true, ltb-false, eqb-true, eqb-false, not-true}
 use Rattle.format.specs.Limits.{maxAxes, maxExtent}
 use Rattle.format.specs.Lines.{Line, text}
-use Rattle.format.specs.Fields.{Given, isGiven, dimension, type, encoding, sizes}
-use Rattle.format.specs.Descriptors.{SampleType, sampleType, signed, types, bytesOfType, numberKindType, typeAt, sampleBytes, typeOf, dimensionOf, sizesOf, hasNeeded, product, numberKind, isFloating}
+use Rattle.format.specs.Fields.{Given}
+use Rattle.format.specs.Descriptors.{SampleType, sampleType, signed, types, bytesOfType, numberKindType, typeAt, sampleBytes, typeOf, dimensionOf, sizesOf, product, numberKind, isFloating}
 use Rattle.format.specs.Header.{Entry, entry, accepted, header, afterItem}
 use Rattle.format.proofs.Bytes.{and-left, and-right}
-use Rattle.format.proofs.Header.{Fine, fine-cases, header-sound, header-complete}
+use Rattle.format.proofs.Header.{Fine, fine-cases, header-sound}
+use Rattle.format.proofs.Rules.{accepted-keeps}
 use Rattle.fields.specs.States.{Kept}
 use Rattle.fields.proofs.States.{kept-none, kept-next}
 
@@ -27,14 +28,6 @@ module _ (version : ℕ) where
   fine-kept (entry l i ∷ es) gs gs′ r f k =
       let n = kept-next version gs (text l) i k (f .0) in
       fine-cases version gs l i es gs′ r (λ es gs′. Kept gs′) f (λ s c q. n) (λ s c g. fine-kept es (afterItem i gs) gs′ r g n)
-
--- sizes are among the needed fields
-needs-sizes : (gs : List Given) → hasNeeded gs ≡ true → isGiven sizes gs ≡ true
-unfolding hasNeeded
-needs-sizes gs e = fourth (isGiven dimension gs) (isGiven type gs) (isGiven encoding gs) (isGiven sizes gs) _ e
-  where
-    fourth : (a b c d e : Bool) → (a && (b && (c && (d && e)))) ≡ true → d ≡ true
-    fourth a b c d e h = and-left d e (and-right c (d && e) (and-right b (c && (d && e)) (and-right a (b && (c && (d && e))) h)))
 
 -- ---- the types by their numbers
 
@@ -89,7 +82,7 @@ module _ (s : List ℕ) {es : List Entry} {gs : List Given} {r : List Line} (e :
 
   -- there is a size for each axis
   as-many : length (sizesOf gs) ≡ dimensionOf gs
-  as-many = header-kept .sized (needs-sizes gs (header-complete s e .needed))
+  as-many = header-kept .sized (accepted-keeps s e .needed .has-sizes)
 
   -- there are at most 16
   pub header-few : length (sizesOf gs) ≤ maxAxes
@@ -106,4 +99,4 @@ module _ (s : List ℕ) {es : List Entry} {gs : List Given} {r : List Line} (e :
   -- the product of the sizes is within the limit of the extent
   pub header-product : product (sizesOf gs) ≤ maxExtent
   header-product =
-      omega (arith, header-complete s e .small, mul-le-mul-left (product (sizesOf gs)) (sample-bytes (typeOf gs)), mul-one (product (sizesOf gs)))
+      omega (arith, accepted-keeps s e .extent-bytes, mul-le-mul-left (product (sizesOf gs)) (sample-bytes (typeOf gs)), mul-one (product (sizesOf gs)))

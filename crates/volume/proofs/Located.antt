@@ -22,7 +22,8 @@ use Rattle.format.specs.Descriptors.{isDetached, encodingOf, typeOf, numberKind
 use Rattle.format.specs.Header.{Entry, linesOf, Outcome, refused, accepted, header, headerLength}
 use Rattle.format.specs.Data.{skipLines, afterSkips, Place, nowhere, part, placeFrom, placeOf, partOf}
 use Rattle.format.specs.Calls.{readingOf, readAnswer, readHeaderCall, noData, dataAnswer, dataPlaceIn, dataPlaceCall, dataCall}
-use Rattle.format.proofs.Header.{header-sound, header-complete}
+use Rattle.format.proofs.Header.{header-sound}
+use Rattle.format.proofs.Rules.{accepted-keeps}
 use Rattle.format.proofs.Numbered.{NumberedOutcome, header-numbered}
 use Rattle.format.proofs.Places.{AtMost, skips-at-most}
 use Rattle.volume.specs.Places.{IsReading, placeBy, leftBy, placeLeft}
@@ -66,7 +67,7 @@ module _ {file : List ℕ} {x : Reading} {es : List Entry} {gs : List Given} (w 
   unfolding readingOf placeBy
   place-from second whole h none = refl
   place-from second whole h (some left) =
-      let k : whole - length left + extentOf gs < 2 ^ 64 = omega (arith, header-complete file (w .header-is) .small) in
+      let k : whole - length left + extentOf gs < 2 ^ 64 = omega (arith, accepted-keeps file (w .header-is) .extent-bytes) in
       rw (lt-leb (2 ^ 64) (whole - length left + extentOf gs) k) (go (eqb (encodingOf gs) raw) (ltb (length left) (extentOf gs)))
     where
       go : (a b : Bool)

@@ -1,0 +1,134 @@
+-- When a header keeps the rules of document 01: `KeepsRules`. It is said of all lines at once, each with the lines before it, and not by a walk over them.
+-- Headers are accepted exactly when they keep the rules: the laws `accepted-keeps` and `keeps-accepted` (specs/Laws.antt).
+-- At each rule stand its heading, where that is not "Lines and headers", and the number of the refusal where it is broken.
+use Prim.Native.Nat.{ℕ, _≤_}
+use mathlib.Core.Path.{_≡_}
+use mathlib.Core.Bool.{Bool, true, false, _||_}
+use mathlib.Core.List.{List, [], _∷_, _++_}
+use mathlib.Core.Option.{some}
+use lib.Dec.{eqb}
+use lib.ListN.{length}
+use Rattle.format.specs.Bytes.{every, isIn, isEmpty, HASH}
+use Rattle.format.specs.Limits.{maxFile, maxHeader, maxLines, maxExtent}
+use Rattle.format.specs.Lines.{Ending, lf, crlf, eof, Line, text, ending, lines}
+use Rattle.format.specs.Pairs.{plain, fieldMark, pairMark, mark, unescape}
+use Rattle.format.specs.Fields.{fieldNamed, pairsSince, fieldSince, Given, given, isGiven, perAxis, inSpace, dimension, type, encoding, endian, sizes, dataFile, space, spaceDimension}
+use Rattle.format.specs.Descriptors.{descriptor, mayDescribe, endianNeeded, typeOf, encodingOf, extentOf}
+use Rattle.format.specs.Header.{Item, magic, comment, field, pair, closing, Entry, entry, itemOf, linesOf, magicVersion, closes, headerLength}
+
+-- ---- one line after line 1
+
+-- the first byte is `#`
+abbrev pub isComment : List ℕ → Bool
+isComment [] = false
+isComment (b ∷ t) = eqb b HASH
+
+-- a line that is neither empty nor a comment: each of its bytes is a tab or from 32 to 126 (5)
+pub record OtherLine (t : List ℕ) : Type 0 where
+  pub filled : isEmpty t ≡ false
+  pub no-comment : isComment t ≡ false
+  pub all-plain : every plain t ≡ true
+
+-- a line with the text t gives the field f the descriptor d, in a header of this version, after lines that give the fields gs
+pub record FieldLine (version : ℕ) (gs : List Given) (t : List ℕ) (f : ℕ) (d : List ℕ) : Type 0 where
+  pub other : OtherLine t
+  pub name : List ℕ
+  pub rest : List ℕ
+  -- its first mark is `: ` (6), and the text before it is a name of the field ("Understood fields", "Carried fields"; 7)
+  pub marked : mark t ≡ fieldMark name rest
+  pub named : fieldNamed name ≡ some f
+  -- this version has the field ("Versions"; 8)
+  pub since : fieldSince f ≤ version
+  -- no line before gives it, in either spelling (9)
+  pub new : isGiven f gs ≡ false
+  -- a per-axis field comes after dimension, and a field that lies in a space after space or space dimension ("Order"; 10)
+  pub after-dimension : isIn f perAxis ≡ true → isGiven dimension gs ≡ true
+  pub after-space : isIn f inSpace ≡ true → (isGiven space gs || isGiven spaceDimension gs) ≡ true
+  -- its descriptor is the text after the mark, trimmed, and it is one that the field may have ("Understood fields", "Carried fields"; 11)
+  pub descriptor-is : d ≡ descriptor f rest
+  pub described : mayDescribe gs f d ≡ true
+
+-- a line with the text t is the pair of the key k and the value v, in a header of this version
+pub record PairLine (version : ℕ) (t k v : List ℕ) : Type 0 where
+  pub other : OtherLine t
+  pub key : List ℕ
+  pub value : List ℕ
+  -- its first mark is `:=`, and the text before it is not empty (6)
+  pub marked : mark t ≡ pairMark key value
+  pub key-filled : isEmpty key ≡ false
+  -- this version has key pairs ("Versions"; 8)
+  pub since : pairsSince ≤ version
+  -- key and value are what the texts before and after the mark mean, untrimmed; no backslash stands in them but in `\n` and `\\` (12)
+  pub key-is : unescape key ≡ some k
+  pub value-is : unescape value ≡ some v
+
+-- A line with the text t is what the item says, in a header of this version, after lines that give the fields gs. Only line 1 is a magic.
+-- A comment may hold any byte.
+abbrev pub Keeps : ℕ → List Given → List ℕ → Item → Type 0
+Keeps version gs t (magic n) = ⊥
+Keeps version gs t comment = isComment t ≡ true
+Keeps version gs t (field f d) = FieldLine version gs t f d
+Keeps version gs t (pair k v) = PairLine version t k v
+Keeps version gs t closing = t ≡ []
+
+-- ---- all lines
+
+-- a line with this ending has one: LF or CR LF, not the end of the bytes
+abbrev pub hasEnding : Ending → Bool
+hasEnding lf = true
+hasEnding crlf = true
+hasEnding eof = false
+
+-- the field that a line gives
+abbrev pub fieldOf : Item → List Given
+fieldOf (magic n) = []
+fieldOf comment = []
+fieldOf (field f d) = given f d ∷ []
+fieldOf (pair k v) = []
+fieldOf closing = []
+
+-- the fields that lines give, the last one first
+unfoldable pub fieldsOf : List Entry → List Given
+fieldsOf [] = []
+fieldsOf (e ∷ es) = fieldsOf es ++ fieldOf (itemOf e)
+
+-- the last line is the closing one
+unfoldable pub closed : List Entry → Bool
+closed [] = false
+closed (e ∷ []) = closes (itemOf e)
+closed (e ∷ f ∷ es) = closed (f ∷ es)
+
+-- the needed fields are given, endian only where a sample has more than one byte and the encoding is raw or hex ("Needed"; 14)
+pub record Needed (gs : List Given) : Type 0 where
+  pub has-dimension : isGiven dimension gs ≡ true
+  pub has-type : isGiven type gs ≡ true
+  pub has-encoding : isGiven encoding gs ≡ true
+  pub has-sizes : isGiven sizes gs ≡ true
+  pub has-endian : endianNeeded (typeOf gs) (encodingOf gs) ≡ true → isGiven endian gs ≡ true
+
+-- The file begins with a header: es are its lines with what they are, gs its fields, the last one first, and r the lines of the file after it.
+pub record KeepsRules (file : List ℕ) (es : List Entry) (gs : List Given) (r : List Line) : Type 0 where
+  pub split : lines file ≡ linesOf es ++ r
+  -- line 1 is exactly a magic, and has its ending (2)
+  pub first : Line
+  pub version : ℕ
+  pub others : List Entry
+  pub entries : es ≡ entry first (magic version) ∷ others
+  pub first-magic : magicVersion (text first) ≡ some version
+  pub first-ended : hasEnding (ending first) ≡ true
+  -- each other line is what its item says, after the lines before it
+  pub each : (before : List Entry) (l : Line) (i : Item) (after : List Entry) → others ≡ before ++ entry l i ∷ after
+      → Keeps version (fieldsOf before) (text l) i
+  -- an empty line with its ending closes the header: none of its lines comes after that one
+  pub last : (before : List Entry) (l : Line) (after : List Entry) → others ≡ before ++ entry l closing ∷ after
+      → (hasEnding (ending l) ≡ true) × (after ≡ [])
+  -- without that line the header closes at the end of the bytes, and has a data file field (13)
+  pub unclosed : closed others ≡ false → (r ≡ []) × (isGiven dataFile gs ≡ true)
+  -- its fields are those that its lines give, and the needed ones are among them
+  pub fields : gs ≡ fieldsOf others
+  pub needed : Needed gs
+  -- the limits of the file, the header's bytes and lines, and the extent ("Numbers of refusal"; 1, 3, 4, 15)
+  pub file-bytes : length file ≤ maxFile
+  pub header-bytes : headerLength es ≤ maxHeader
+  pub header-lines : length es ≤ maxLines
+  pub extent-bytes : extentOf gs ≤ maxExtent
