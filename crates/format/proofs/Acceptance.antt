@@ -13,4 +13,4 @@ use Rattle.format.specs.AcceptanceTrials.{AcceptanceTrials}
 
 pub acceptance-trials : AcceptanceTrials
 unfolding every same alike beginsWith isIn isAny rowFrom lines unlines mark unescapeFrom fieldSince descriptorOf inOrder trimFront trimEnd descriptor digitsFrom number parts notEmpty numbersIn typeAt mayDescribe hasNeeded product magicVersion onPair onField judge complete walk header skipLine skipLines skipBytes placeOf noReading readingOf texts
-acceptance-trials = (refl, (refl, (refl, (refl, (refl, (refl, (refl, (refl, (refl, (refl, (refl, (refl, (refl, (refl, (refl, (refl, (refl, (refl, (refl, (refl, (refl, tt)))))))))))))))))))))
+acceptance-trials = (refl, (refl, (refl, (refl, (refl, (refl, (refl, (refl, (refl, (refl, (refl, (refl, (refl, (refl, (refl, (refl, (refl, (refl, (refl, (refl, (refl, (refl, (refl, tt)))))))))))))))))))))))

@@ -15,6 +15,7 @@ use Rattle.format.specs.Descriptors.{descriptor, mayDescribe}
 use Rattle.format.specs.Header.{Item, magic, comment, field, pair, closing, Judged, wrong, right, unescaped, onPair, onField, onMark, judge}
 use Rattle.format.specs.Rules.{isComment, OtherLine, Keeps}
 use Rattle.format.proofs.Bytes.{and-left, and-right}
+use Rattle.format.proofs.Marks.{first-of-field, first-of-pair, field-of-first, pair-of-first}
 
 -- ---- the order of fields
 
@@ -62,10 +63,10 @@ module _ (version : ℕ) (gs : List Given) where
   keeps-judge t (magic n) k = absurd k
   keeps-judge t comment k = keeps-comment t k
   keeps-judge t (field f d) k =
-      rw (judge-other t (k .other), k .marked, k .named, k .descriptor-is)
+      rw (judge-other t (k .other), field-of-first (k .marked), k .named, k .descriptor-is)
       (on-field-is f (k .rest) (k .since) (k .new) (in-order f gs (k .after-dimension) (k .after-space)) (rw (k .descriptor-is) at (k .described)))
   keeps-judge t (pair x v) k =
-      rw (judge-other t (k .other), k .marked) (on-pair-is (k .key) (k .value) x v (k .key-filled) (k .since) (k .key-is) (k .value-is))
+      rw (judge-other t (k .other), pair-of-first (k .marked)) (on-pair-is (k .key) (k .value) x v (k .key-filled) (k .since) (k .key-is) (k .value-is))
   keeps-judge t closing k = rw k
 
   -- ---- judged: it keeps the rules
@@ -102,7 +103,7 @@ module _ (version : ℕ) (gs : List Given) where
             other = other;
             name = name;
             rest = rest;
-            marked = m;
+            marked = first-of-field t m;
             named = e;
             since = ltb-false version (fieldSince f) ha;
             new = hb;
@@ -127,7 +128,7 @@ module _ (version : ℕ) (gs : List Given) where
             other = other;
             key = b ∷ k;
             value = v;
-            marked = m;
+            marked = first-of-pair t m;
             key-filled = refl;
             since = ltb-false version pairsSince e;
             key-is = hx;

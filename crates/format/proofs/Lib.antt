@@ -1,6 +1,7 @@
 pub mod Bytes
 pub mod Stores
 pub mod Lines
+pub mod Marks
 pub mod Judged
 pub mod Pairs
 pub mod Header

@@ -1,6 +1,6 @@
--- Laws of pair lines: escapes, the first mark of a line, and what the reader takes for a pair.
+-- Laws of pair lines: escapes, the line that sets a key, and what the reader takes for a pair.
 -- Assumes nothing.
-use mathlib.Core.Path.{_≡_, refl, sym, ap, _∙_}
+use mathlib.Core.Path.{_≡_, refl, sym, _∙_}
 use Prim.Native.Nat.{ℕ, _+_, _≤_}
 use native.Mathlib.Omega.{arith}
 use mathlib.Core.Bool.{Bool, true, false, not, _&&_, false≢true}
@@ -9,14 +9,15 @@ use mathlib.Core.Option.{none, some}
 use lib.Dec.{eqb}
 use lib.ListN.{length, length-append}
 use borrow.Author.Tests.{eqb-true, not-true}
-use Rattle.format.specs.Bytes.{bytes, every, onto, isEmpty, LF, HASH, COLON, SPACE, EQUALS, BACKSLASH, if_then_else_}
-use Rattle.format.specs.Pairs.{plain, Marked, unmarked, fieldMark, pairMark, afterColon, moreBefore, firstMark, mark, escape, unescapeFrom, unescape}
+use Rattle.format.specs.Bytes.{bytes, every, onto, isEmpty, LF, HASH, BACKSLASH, if_then_else_}
+use Rattle.format.specs.Pairs.{plain, unmarked, pairMark, mark, escape, unescapeFrom, unescape}
 use Rattle.format.specs.Fields.{Given}
 use Rattle.format.specs.Header.{pair, right, judge}
 use Rattle.format.specs.Rules.{isComment, PairLine}
 use Rattle.format.specs.Settings.{settable, hasMark, beginsFine, keyFine, valueFine, pairText}
 use Rattle.format.proofs.Bytes.{and-left, and-right, every-append, every-left, every-right, every-weaker, onto-some}
 use Rattle.format.proofs.Lines.{notLF}
+use Rattle.format.proofs.Marks.{unmarked-is, mark-parts, mark-of-append, first-of-pair, pair-of-first}
 use Rattle.format.proofs.Judged.{judge-keeps, keeps-judge}
 
 -- ---- escapes
@@ -128,98 +129,6 @@ begins-of-escape (b ∷ s) = go (eqb b LF) refl (eqb b BACKSLASH) refl
     go false e true f = rw (eqb-true b BACKSLASH f)
     go false e false f = refl
 
--- ---- the first mark
-
--- what a mark says of the text: its two parts with the mark between them are the text, and the first part has no mark
-abbrev pub Parts : List ℕ → Marked → Type 0
-Parts t unmarked = Unit
-Parts t (fieldMark n d) = (t ≡ n ++ (bytes ": " ++ d)) × (mark n ≡ unmarked)
-Parts t (pairMark k v) = (t ≡ k ++ (bytes ":=" ++ v)) × (mark k ≡ unmarked)
-
-unmarked-is : (m : Marked) → hasMark m ≡ false → m ≡ unmarked
-unmarked-is unmarked h = refl
-unmarked-is (fieldMark n d) h = cc
-unmarked-is (pairMark k v) h = cc
-
--- the mark that the byte b makes with the text s right after it
-abbrev markAt : ℕ → List ℕ → Marked
-markAt b s = if eqb b COLON then afterColon s else unmarked
-
--- a text that has another colon after it makes a mark with b if and only if it does so alone
-mark-at-more : (b : ℕ) (a r : List ℕ) → hasMark (markAt b (a ++ (COLON ∷ r))) ≡ hasMark (markAt b a)
-mark-at-more b [] r = refl
-mark-at-more b (c ∷ a) r = go (eqb b COLON) (eqb c SPACE) (eqb c EQUALS)
-  where
-    go : (x y z : Bool)
-        → hasMark (if x then if y then fieldMark [] (a ++ (COLON ∷ r)) else if z then pairMark [] (a ++ (COLON ∷ r)) else unmarked else unmarked)
-        ≡ hasMark (if x then if y then fieldMark [] a else if z then pairMark [] a else unmarked else unmarked)
-    go true true z = refl
-    go true false true = refl
-    go true false false = refl
-    go false y z = refl
-
-parts-first : (b : ℕ) (s : List ℕ) → Parts (b ∷ s) (markAt b s)
-unfolding mark
-parts-first b [] = go (eqb b COLON)
-  where
-    go : (x : Bool) → Parts (b ∷ []) (if x then unmarked else unmarked)
-    go true = tt
-    go false = tt
-parts-first b (c ∷ s) = go (eqb b COLON) refl (eqb c SPACE) refl (eqb c EQUALS) refl
-  where
-    go : (x : Bool) → eqb b COLON ≡ x → (y : Bool) → eqb c SPACE ≡ y → (z : Bool) → eqb c EQUALS ≡ z
-        → Parts (b ∷ c ∷ s) (if x then if y then fieldMark [] s else if z then pairMark [] s else unmarked else unmarked)
-    go true e true f z g = (rw (eqb-true b COLON e, eqb-true c SPACE f), refl)
-    go true e false f true g = (rw (eqb-true b COLON e, eqb-true c EQUALS g), refl)
-    go true e false f false g = tt
-    go false e y f z g = tt
-
--- b before a text without a mark: there is none either, if none begins at b
-unmarked-more : (b : ℕ) (a r : List ℕ) → markAt b (a ++ (COLON ∷ r)) ≡ unmarked → mark a ≡ unmarked → mark (b ∷ a) ≡ unmarked
-unfolding mark
-unmarked-more b a r h i =
-    let e : markAt b a ≡ unmarked = unmarked-is (markAt b a) (sym (mark-at-more b a r) ∙ ap hasMark h) in
-    rw (e, i)
-
-parts-more : (b : ℕ) (s : List ℕ) (m : Marked) → markAt b s ≡ unmarked → Parts s m → Parts (b ∷ s) (moreBefore b m)
-parts-more b s unmarked h p = tt
-parts-more b s (fieldMark n d) h p = (rw (p .0), unmarked-more b n (SPACE ∷ d) (rw (p .0) at h) (p .1))
-parts-more b s (pairMark k v) h p = (rw (p .0), unmarked-more b k (EQUALS ∷ v) (rw (p .0) at h) (p .1))
-
--- the text of a marked line, from its parts
-pub mark-parts : (t : List ℕ) → Parts t (mark t)
-unfolding mark
-mark-parts [] = tt
-mark-parts (b ∷ s) = go (markAt b s) refl (parts-first b s) (mark-parts s)
-  where
-    go : (m : Marked) → markAt b s ≡ m → Parts (b ∷ s) m → Parts s (mark s) → Parts (b ∷ s) (firstMark m (moreBefore b (mark s)))
-    go unmarked e p q = parts-more b s (mark s) e q
-    go (fieldMark n d) e p q = p
-    go (pairMark k v) e p q = p
-
--- where the first of two marks is missing, both are
-first-left : (m o : Marked) → firstMark m o ≡ unmarked → m ≡ unmarked
-first-left unmarked o h = refl
-first-left (fieldMark n d) o h = h
-first-left (pairMark k v) o h = h
-
-first-right : (b : ℕ) (m o : Marked) → firstMark m (moreBefore b o) ≡ unmarked → o ≡ unmarked
-first-right b unmarked unmarked h = refl
-first-right b unmarked (fieldMark n d) h = cc
-first-right b unmarked (pairMark k v) h = cc
-first-right b (fieldMark n d) o h = cc
-first-right b (pairMark k v) o h = cc
-
--- after a text without a mark, `:=` is the first mark
-pub mark-of-append : (a r : List ℕ) → mark a ≡ unmarked → mark (a ++ (bytes ":=" ++ r)) ≡ pairMark a r
-unfolding mark
-mark-of-append [] r h = refl
-mark-of-append (b ∷ a) r h =
-    let n : markAt b a ≡ unmarked = first-left (markAt b a) (moreBefore b (mark a)) h in
-    let s = a ++ (bytes ":=" ++ r) in
-    let e : markAt b s ≡ unmarked = unmarked-is (markAt b s) (mark-at-more b a (EQUALS ∷ r) ∙ ap hasMark n) in
-    rw (e, mark-of-append a r (first-right b (markAt b a) (mark a) h))
-
 -- ---- keys that can be set, and the line of a pair
 
 -- a key that can be set, by its parts
@@ -287,7 +196,7 @@ judge-of-pair version gs k v n h i =
       other = record { filled = o .0; no-comment = o .1; all-plain = plain-of-pair k v h i };
       key = escape k;
       value = escape v;
-      marked = mark-of-pair k v h;
+      marked = first-of-pair (pairText k v) (mark-of-pair k v h);
       key-filled = begins-other (escape k) (begins-of-escape k ∙ fine-key k h .begins) .0;
       since = n;
       key-is = unescape-of-escape k;
@@ -304,7 +213,7 @@ pub record SetLine (version : ℕ) (t k v : List ℕ) : Type 0 where
 set-line : {version : ℕ} {t k v : List ℕ} → PairLine version t k v → SetLine version t k v
 unfolding every pairText valueFine
 set-line {version} {t} {k} {v} p =
-    let q = rw (p .marked) at (mark-parts t) in
+    let q = rw (pair-of-first (p .marked)) at (mark-parts t) in
     let all = rw (q .0) at (p .other .all-plain) in
     let plain-key = every-left plain (p .key) (bytes ":=" ++ p .value) all in
     let plain-value = every-right plain (p .key) (bytes ":=" ++ p .value) all in

@@ -2,7 +2,7 @@
 -- What they answer follows from document 01, "Lines and headers", "Understood fields", "Versions", "Order" and "Data and samples".
 use Prim.Native.Nat.{ℕ, _+_, _-_}
 use Prim.Native.String.{String}
-use mathlib.Core.Bool.{true, false}
+use mathlib.Core.Bool.{true}
 use mathlib.Core.List.{List, [], _∷_, _++_}
 use lib.ListN.{replicate}
 use Rattle.format.specs.declared.Refusal.{Refusal}
@@ -67,6 +67,9 @@ acceptanceTrials =
     ∷ trial (List ℕ) (dataCall detached secondFile) (1 ∷ 2 ∷ 3 ∷ 4 ∷ [])
     -- without its data file field it has no end
     ∷ trial Refusal (refusalOf unclosed) (refusal 13)
+    -- the first mark decides: a field with `:=` in its descriptor, and a pair, which version 1 does not have
+    ∷ trial Refusal (withLines 1 ("content: a:=b" ∷ [])) fine
+    ∷ trial Refusal (withLines 1 ("content:=a: b" ∷ [])) (atLine 8 6)
     -- what is no name of a data file; in small letters `list` is one
     ∷ trial Refusal (withLines 1 ("data file: LIST" ∷ [])) (atLine 11 6)
     ∷ trial Refusal (withLines 1 ("data file: LIST 2" ∷ [])) (atLine 11 6)

@@ -80,7 +80,7 @@ pub record Laws : Type 0 where
   pub judge-of-pair : (version : ℕ) (gs : List Given) (k v : List ℕ) → 2 ≤ version → keyFine k ≡ true → valueFine v ≡ true → judge version gs (pairText k v) ≡ right (pair k v)
   pub pair-key-fine : (version : ℕ) (gs : List Given) (t k v : List ℕ) → judge version gs t ≡ right (pair k v) → keyFine k ≡ true
   pub pair-value-fine : (version : ℕ) (gs : List Given) (t k v : List ℕ) → judge version gs t ≡ right (pair k v) → valueFine v ≡ true
-  -- a header is accepted exactly when it keeps the rules, as the lines that it has by them; a file is refused exactly when none keeps them
+  -- a header is accepted exactly when it keeps the rules, with the lines and fields that it has by them; a file is refused exactly when it has no such header
   pub accepted-keeps : (file : List ℕ) {es : List Entry} {gs : List Given} {r : List Line} → header file ≡ accepted es gs r → KeepsRules file es gs r
   pub keeps-accepted : (file : List ℕ) {es : List Entry} {gs : List Given} {r : List Line} → KeepsRules file es gs r → header file ≡ accepted es gs r
   pub refused-none : (file : List ℕ) {x : Refusal} → header file ≡ refused x → (es : List Entry) (gs : List Given) (r : List Line) → KeepsRules file es gs r → ⊥

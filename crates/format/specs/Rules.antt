@@ -8,10 +8,10 @@ use mathlib.Core.List.{List, [], _∷_, _++_}
 use mathlib.Core.Option.{some}
 use lib.Dec.{eqb}
 use lib.ListN.{length}
-use Rattle.format.specs.Bytes.{every, isIn, isEmpty, HASH}
+use Rattle.format.specs.Bytes.{bytes, every, isIn, isEmpty, HASH}
 use Rattle.format.specs.Limits.{maxFile, maxHeader, maxLines, maxExtent}
 use Rattle.format.specs.Lines.{Ending, lf, crlf, eof, Line, text, ending, lines}
-use Rattle.format.specs.Pairs.{plain, fieldMark, pairMark, mark, unescape}
+use Rattle.format.specs.Pairs.{plain, unescape}
 use Rattle.format.specs.Fields.{fieldNamed, pairsSince, fieldSince, Given, given, isGiven, perAxis, inSpace, dimension, type, encoding, endian, sizes, dataFile, space, spaceDimension}
 use Rattle.format.specs.Descriptors.{descriptor, mayDescribe, endianNeeded, typeOf, encodingOf, extentOf}
 use Rattle.format.specs.Header.{Item, magic, comment, field, pair, closing, Entry, entry, itemOf, linesOf, magicVersion, closes, headerLength}
@@ -29,13 +29,19 @@ pub record OtherLine (t : List ℕ) : Type 0 where
   pub no-comment : isComment t ≡ false
   pub all-plain : every plain t ≡ true
 
+-- the text t is a, the mark m and b, and no mark comes before this one: each place of `: ` or `:=` has at least the text a before it
+pub record FirstMark (t a m b : List ℕ) : Type 0 where
+  pub parted : t ≡ a ++ (m ++ b)
+  pub no-field-before : (c d : List ℕ) → t ≡ c ++ (bytes ": " ++ d) → length a ≤ length c
+  pub no-pair-before : (c d : List ℕ) → t ≡ c ++ (bytes ":=" ++ d) → length a ≤ length c
+
 -- a line with the text t gives the field f the descriptor d, in a header of this version, after lines that give the fields gs
 pub record FieldLine (version : ℕ) (gs : List Given) (t : List ℕ) (f : ℕ) (d : List ℕ) : Type 0 where
   pub other : OtherLine t
   pub name : List ℕ
   pub rest : List ℕ
   -- its first mark is `: ` (6), and the text before it is a name of the field ("Understood fields", "Carried fields"; 7)
-  pub marked : mark t ≡ fieldMark name rest
+  pub marked : FirstMark t name (bytes ": ") rest
   pub named : fieldNamed name ≡ some f
   -- this version has the field ("Versions"; 8)
   pub since : fieldSince f ≤ version
@@ -54,7 +60,7 @@ pub record PairLine (version : ℕ) (t k v : List ℕ) : Type 0 where
   pub key : List ℕ
   pub value : List ℕ
   -- its first mark is `:=`, and the text before it is not empty (6)
-  pub marked : mark t ≡ pairMark key value
+  pub marked : FirstMark t key (bytes ":=") value
   pub key-filled : isEmpty key ≡ false
   -- this version has key pairs ("Versions"; 8)
   pub since : pairsSince ≤ version

@@ -16,7 +16,7 @@ use Rattle.format.specs.Lines.{lf, crlf, eof, line, size, extend, lines}
 use Rattle.format.specs.Pairs.{Marked, unmarked, fieldMark, pairMark, moreBefore, firstMark, mark}
 use Rattle.format.specs.Descriptors.{trimFront, trimByte, trimEnd}
 use Rattle.format.proofs.Lines.{NoLF, no-lf-nil, no-lf-cons, no-lf-head, no-lf-tail, lines-eof}
-use Rattle.format.proofs.Pairs.{Parts, mark-parts}
+use Rattle.format.proofs.Marks.{Parts, mark-parts}
 use Rattle.text.specs.declared.lines.Mark.{Mark}
 use Rattle.text.specs.declared.lines.Mark.the-variants.{Field, Pair, Nothing}
 use Rattle.text.specs.Places.{before, withoutCR, endingAt, markPlace}
