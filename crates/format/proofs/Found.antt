@@ -21,9 +21,11 @@ use Rattle.format.specs.Header.{Item, magic, comment, field, pair, closi
 use Rattle.format.specs.Settings.{pairText}
 use Rattle.format.specs.Calls.{noPlace, foundAt, valuePlace, keyPlace, findKeyIn, findKeyCall, beforeDescriptor, fieldPlace, findFieldIn, findFieldCall}
 pub use Rattle.format.specs.Found.{HasAt, Finds, FindsField, escaped, FindsKey}
-use Rattle.format.proofs.Pairs.{FieldLine, field-line, pair-line}
+use Rattle.format.specs.Rules.{FieldLine, Keeps}
+use Rattle.format.proofs.Marks.{field-of-first}
+use Rattle.format.proofs.Pairs.{pair-line}
 use Rattle.format.proofs.Descriptors.{drop-to-descriptor, take-trimmed}
-use Rattle.format.proofs.Header.{Fine, Says, fine-cases, header-sound}
+use Rattle.format.proofs.Header.{Fine, fine-cases, header-sound}
 
 -- ---- a text in a line
 
@@ -46,20 +48,20 @@ value-here file at k v z h =
     rw n at (has-at file at (escape k ++ bytes ":=") (escape v) z (omega arith) (h ∙ simp append-assoc))
 
 -- the descriptor in the line of its field
-descriptor-here : (file : List ℕ) (at f : ℕ) (t d z : List ℕ) → drop at file ≡ t ++ z → FieldLine t f d
+descriptor-here : (version : ℕ) (gs : List Given) (file : List ℕ) (at f : ℕ) (t d z : List ℕ) → drop at file ≡ t ++ z → FieldLine version gs t f d
     → HasAt file d (foundAt (at + beforeDescriptor f t) (length d))
 unfolding descriptor
-descriptor-here file at f t d z h w =
+descriptor-here version gs file at f t d z h w =
     let from = fromDescriptor f (w .rest) in
     let n = length (w .rest) - length from in
     let blanks = take n (w .rest) in
     let after = drop (length d) from in
     let front = w .name ++ (bytes ": " ++ blanks) in
     let rest-is : w .rest ≡ blanks ++ from = sym (take-append-drop n (w .rest)) ∙ ap (λ (u : List ℕ). blanks ++ u) (drop-to-descriptor f (w .rest)) in
-    let begins : take (length d) from ≡ d = rw (w .described) (take-trimmed from) in
+    let begins : take (length d) from ≡ d = rw (w .descriptor-is) (take-trimmed from) in
     let from-is : from ≡ d ++ after = sym (take-append-drop (length d) from) ∙ ap (λ (u : List ℕ). u ++ after) begins in
-    let t-is : t ≡ front ++ from = w .text-is ∙ ap (λ (u : List ℕ). w .name ++ (bytes ": " ++ u)) rest-is ∙ simp append-assoc in
-    let long : length front ≡ beforeDescriptor f t = rw (w .marked) (omega (arith, ap length t-is, length-append front from)) in
+    let t-is : t ≡ front ++ from = w .marked .parted ∙ ap (λ (u : List ℕ). w .name ++ (bytes ": " ++ u)) rest-is ∙ simp append-assoc in
+    let long : length front ≡ beforeDescriptor f t = rw (field-of-first (w .marked)) (omega (arith, ap length t-is, length-append front from)) in
     let some : 0 < length front = omega (arith, length-append (w .name) (bytes ": " ++ blanks)) in
     rw long at (has-at file at front d (after ++ z) some (h ∙ ap (λ (u : List ℕ). u ++ z) (t-is ∙ ap (λ (u : List ℕ). front ++ u) from-is) ∙ simp append-assoc))
 
@@ -75,7 +77,7 @@ past file at l ls z h = sym (drop-drop (size l) at file) ∙ ap (drop (size l)) 
 module _ (file : List ℕ) (P : ℕ → List Given → List Entry → List Given → Type 0)
     (at-end : (at : ℕ) (gs : List Given) → P at gs [] gs)
     (before : (version at : ℕ) (gs : List Given) (l : Line) (i : Item) (es : List Entry) (gs′ : List Given) (z : List ℕ) → drop at file ≡ lineBytes l ++ z
-    → judge version gs (text l) ≡ right i → Says version gs (text l) i → P (at + size l) (afterItem i gs) es gs′ → P at gs (entry l i ∷ es) gs′)
+    → judge version gs (text l) ≡ right i → Keeps version gs (text l) i → P (at + size l) (afterItem i gs) es gs′ → P at gs (entry l i ∷ es) gs′)
     (first : (l : Line) (v : ℕ) (es : List Entry) (gs′ : List Given) → P (0 + size l) [] es gs′ → P 0 [] (entry l (magic v) ∷ es) gs′) where
   fine-lines : (version at : ℕ) (gs : List Given) (es : List Entry) (gs′ : List Given) (r : List Line) (z : List ℕ)
       → Fine version gs es gs′ r → drop at file ≡ unlines (linesOf es) ++ z → P at gs es gs′
@@ -111,32 +113,32 @@ module _ (file : List ℕ) (f : ℕ) where
       go (some d) e = e
 
   -- a line that gives g the descriptor d
-  field-given : (at : ℕ) (gs : List Given) (l : Line) (g : ℕ) (d : List ℕ) (es : List Entry) (gs′ : List Given) (z : List ℕ)
-      → drop at file ≡ lineBytes l ++ z → FieldLine (text l) g d → isGiven g gs ≡ false
+  field-given : (version at : ℕ) (gs : List Given) (l : Line) (g : ℕ) (d : List ℕ) (es : List Entry) (gs′ : List Given) (z : List ℕ)
+      → drop at file ≡ lineBytes l ++ z → FieldLine version gs (text l) g d
       → Field (fieldPlace f (at + size l) es) gs′ (descriptorOf f (given g d ∷ gs)) → Field (fieldPlace f at (entry l (field g d) ∷ es)) gs′ (descriptorOf f gs)
   unfolding fieldPlace descriptorOf
-  field-given at gs (line t e) g d es gs′ z h w n = go (eqb f g) refl
+  field-given version at gs (line t e) g d es gs′ z h w = go (eqb f g) refl
     where
       rest : FindAnswer
       rest = fieldPlace f (at + size (line t e)) es
 
       -- it is the field's first line
       new : f ≡ g → descriptorOf f gs′ ≡ some d → (o : Option (List ℕ)) → isSome o ≡ false → Field (foundAt (at + beforeDescriptor f t) (length d)) gs′ o
-      new q p none n = rw p (descriptor-here file at f t d (endingBytes e ++ z) (h ∙ append-assoc t (endingBytes e) z) (rw q w))
+      new q p none n = rw p (descriptor-here version gs file at f t d (endingBytes e ++ z) (h ∙ append-assoc t (endingBytes e) z) (rw q w))
       new q p (some c) n = absurd (false≢true (sym n))
 
       go : (x : Bool) → eqb f g ≡ x → Field rest gs′ (if x then some d else descriptorOf f gs)
           → Field (if x then foundAt (at + beforeDescriptor f t) (length d) else rest) gs′ (descriptorOf f gs)
-      go true q p = let r = eqb-true f g q in new r p (descriptorOf f gs) (rw r n)
+      go true q p = let r = eqb-true f g q in new r p (descriptorOf f gs) (rw r (w .new))
       go false q p = p
 
   field-before : (version at : ℕ) (gs : List Given) (l : Line) (i : Item) (es : List Entry) (gs′ : List Given) (z : List ℕ)
-      → drop at file ≡ lineBytes l ++ z → judge version gs (text l) ≡ right i → Says version gs (text l) i
+      → drop at file ≡ lineBytes l ++ z → judge version gs (text l) ≡ right i → Keeps version gs (text l) i
       → Field (fieldPlace f (at + size l) es) gs′ (descriptorOf f (afterItem i gs)) → Field (fieldPlace f at (entry l i ∷ es)) gs′ (descriptorOf f gs)
   unfolding fieldPlace
   field-before version at gs l (magic n) es gs′ z h j s p = p
   field-before version at gs l comment es gs′ z h j s p = p
-  field-before version at gs l (field g d) es gs′ z h j s p = field-given at gs l g d es gs′ z h (field-line version gs (text l) g d j) (s .new) p
+  field-before version at gs l (field g d) es gs′ z h j s p = field-given version at gs l g d es gs′ z h s p
   field-before version at gs l (pair k v) es gs′ z h j s p = p
   field-before version at gs l closing es gs′ z h j s p = p
 

@@ -266,25 +266,10 @@ header-fine s l v es gs r p m f b c h =
     let b′ = rw length-unlines-cons at b in
     rw (le-ltb maxFile (length s) h, p, m, walk-fine v 2 (size l) [] es gs r f (record { bytes = omega arith; count = omega arith }))
 
-module _ (version : ℕ) where
-  -- the fields at the end of fine entries are complete
-  fine-complete : (es : List Entry) (gs gs′ : List Given) (r : List Line) → Fine version gs es gs′ r → Complete gs′
-  fine-complete [] gs gs′ r f = rw (f .3) (f .2)
-  fine-complete (entry l i ∷ es) gs gs′ r f = go (closes i) (f .1) (λ g. fine-complete es (afterItem i gs) gs′ r g)
-    where
-      go : (t : Bool) → FineBy t gs es gs′ (Fine version (afterItem i gs) es gs′ r)
-          → (Fine version (afterItem i gs) es gs′ r → Complete gs′) → Complete gs′
-      go true g s = rw (g .2) (g .1)
-      go false g s = s g
-
 module _ (s : List ℕ) {es : List Entry} {gs : List Given} {r : List Line} (e : header s ≡ accepted es gs r) where
   -- the bytes after an accepted header are those of the lines after it
   pub data-area : drop (headerLength es) s ≡ unlines r
   data-area = bytes-after s (linesOf es) r (header-sound s e .split)
-
-  -- its fields are complete
-  pub header-complete : Complete gs
-  header-complete = let x = header-sound s e in fine-complete (x .version) (x .rest) [] gs r (x .fine)
 
 -- the table has an entry for each line
 pub length-table : (es : List Entry) → length (tableOf es) ≡ length es

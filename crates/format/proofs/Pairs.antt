@@ -231,10 +231,6 @@ set-line {version} {t} {k} {v} p =
 pub pair-line : (version : ℕ) (gs : List Given) (t k v : List ℕ) → judge version gs t ≡ right (pair k v) → SetLine version t k v
 pair-line version gs t k v e = set-line (judge-keeps version gs t e)
 
--- what holds of every line that is read as a field
-pub field-line : (version : ℕ) (gs : List Given) (t : List ℕ) (f : ℕ) (d : List ℕ) → judge version gs t ≡ right (field f d) → FieldLine t f d
-field-line version gs t f d e = rw e at (told-judge version gs t)
-
 -- every key that a file holds can be set, and so can every value
 pub pair-key-fine : (version : ℕ) (gs : List Given) (t k v : List ℕ) → judge version gs t ≡ right (pair k v) → keyFine k ≡ true
 pair-key-fine version gs t k v e = pair-line version gs t k v e .key

@@ -21,7 +21,8 @@ use Rattle.format.specs.Descriptors.{isDetached, lineSkipOf, byteSkipOf,
 use Rattle.format.specs.Header.{Entry, linesOf, accepted, header, headerLength}
 use Rattle.format.specs.Data.{skipLine, skipLines, skipBytes, afterSkips, Place, nowhere, part, placeFrom, placeOf, partOf}
 use Rattle.format.specs.Calls.{dataAnswer, dataPlaceCall, dataCall, decoded, checkAt, checkSamplesCall, seenIn, listAfter, samplesCall}
-use Rattle.format.proofs.Header.{header-sound, data-area, header-complete}
+use Rattle.format.proofs.Header.{header-sound, data-area}
+use Rattle.format.proofs.Rules.{accepted-keeps}
 
 -- ---- what is left past the skips is no more than there was
 
@@ -199,7 +200,7 @@ module _ (file : List ℕ) {es : List Entry} {gs : List Given} {ls : List Line} 
   place-after wanted =
       let x = header-sound file e in
       let k : headerLength es ≤ length file = omega (arith, ap length (x .bytes), length-append (unlines (linesOf es)) (unlines ls)) in
-      rw (← data-area file e) (place-past wanted gs (headerLength es) file second k (x .small) (header-complete file e .small))
+      rw (← data-area file e) (place-past wanted gs (headerLength es) file second k (x .small) (accepted-keeps file e .extent-bytes))
 
   part-after : (wanted : Bool)
       → partOf (placeOf wanted gs (headerLength es) file second) file second ≡ partOf (placeAfter wanted) (unlines ls) second
