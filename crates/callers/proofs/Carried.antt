@@ -6,7 +6,7 @@ use Prim.Native.Nat.{ℕ, _+_, _*_, _^_, _/_, _≤_, _<_}
 use native.Mathlib.Omega.{arith}
 use mathlib.Core.Bool.{Bool, true, false}
 use mathlib.Core.List.{List, [], _∷_}
-use lib.Dec.{ltb}
+use lib.Dec.{eqb, ltb}
 use lib.IntN.{ℤ}
 use lib.ListN.{length, take, drop, length-take}
 use lib.Seq.{take-at, length-take-le}
@@ -14,9 +14,10 @@ use borrow.Author.Tests.{ltb-false, le-ltb}
 use Rattle.format.specs.declared.Refusal.{Refusal}
 use Rattle.format.specs.declared.ReadAnswer.{ReadAnswer}
 use Rattle.format.specs.declared.CountAnswer.{CountAnswer}
-use Rattle.format.specs.Bytes.{if_then_else_, orDefault, over}
+use Rattle.format.specs.declared.SetAnswer.{SetAnswer}
+use Rattle.format.specs.Bytes.{if_then_else_, over}
 use Rattle.format.specs.Limits.{maxHeader}
-use Rattle.format.specs.Refusals.{refusal, fine, lentTooShort}
+use Rattle.format.specs.Refusals.{refusal, lentTooShort}
 use Rattle.format.specs.Lines.{Line, size, unlines, starts}
 use Rattle.format.specs.Fields.{Given}
 use Rattle.format.specs.Header.{Entry, linesOf, Outcome, refused, accepted, header, valueOf, tableOf}
@@ -30,7 +31,7 @@ use Rattle.format.proofs.Header.{header-sound, length-table}
 use Rattle.format.proofs.Numbered.{NumberedOutcome, header-numbered}
 use Rattle.format.proofs.Samples.{AllBytes}
 use Rattle.format.proofs.Boundary.{length-over, over-past, bytes-over, length-number-bytes, number-bytes-bytes, length-numbers, first-numbers, numbers-over, lent-of-numbers, numbers-of-front}
-use Rattle.lists.specs.Lists.{tableIn, countIn, Settled, firstCase, setCases}
+use Rattle.lists.specs.Lists.{tableIn, countIn, Settled}
 use Rattle.lists.proofs.Buffers.{Done, set-done}
 use Rattle.lists.proofs.Lists.{settings}
 use Rattle.callers.specs.Callers.{NotRefused, inNumbers, Carried, SettingsAreCarried}
@@ -232,8 +233,9 @@ carried =
       lists = λ buf used table h p z. carried-by buf used table h p (header (take used buf)) refl z;
       numbers = λ l ss p. list-follows ss l [] p .1;
       tables = λ l ss p. let after = setKeysBy setKeyEntry ss l [] .0 in list-follows ss l [] p .0 .past (countIn after) (omega arith);
-      cases = cases-are;
+      cases = λ l s. ap (λ (a : SetAnswer). a .refusal) (same-answer l s) ∙ settings .cases (inNumbers l) s;
+      taken = λ l s. ap (λ (a : SetAnswer). eqb (a .refusal .number) 0) (same-answer l s) ∙ settings .taken (inNumbers l) s;
     }
   where
-    cases-are : (l : Lent) (s : Setting) → callOn setKeyEntry l s .0 .refusal ≡ orDefault fine (firstCase (setCases (inNumbers l) s))
-    cases-are (lent buf used table count) (setting k v) = settings .cases (lent buf used (numbersOf entryBytes table) count) (setting k v)
+    same-answer : (l : Lent) (s : Setting) → callOn setKeyEntry l s .0 ≡ callOn setKeyCall (inNumbers l) s .0
+    same-answer (lent buf used table count) (setting k v) = refl

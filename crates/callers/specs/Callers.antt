@@ -3,11 +3,13 @@
 -- however many. Numbers in lent bytes have their low byte first: 4 bytes an entry of a table, 8 a size or a sample (Boundary.antt).
 use Prim.Native.Nat.{ℕ, _*_, _/_, _≤_}
 use mathlib.Core.Path.{_≡_}
+use mathlib.Core.Bool.{not}
 use mathlib.Core.List.{List, []}
+use lib.Dec.{eqb}
 use lib.ListN.{length, take, drop}
 use Rattle.format.specs.declared.Refusal.{Refusal}
 use Rattle.format.specs.declared.CountAnswer.{CountAnswer}
-use Rattle.format.specs.Bytes.{over, orElse, orDefault}
+use Rattle.format.specs.Bytes.{over, isSome, orElse, orDefault}
 use Rattle.format.specs.Refusals.{fine}
 use Rattle.format.specs.Lines.{Line}
 use Rattle.format.specs.Fields.{Given}
@@ -133,8 +135,9 @@ pub record SettingsAreCarried : Type 0 where
   -- past the entries of the count the table's bytes stay
   pub tables : (l : Lent) (ss : List Setting) → AllBytes (tableIn l)
       → let after = setKeysBy setKeyEntry ss l [] .0 in drop (bytesCounted after) (tableIn after) ≡ drop (bytesCounted after) (tableIn l)
-  -- a call is refused by the first case that holds, and accepted if none does
+  -- a call is refused by the first case that holds, and accepted, which the number 0 says, exactly when none does
   pub cases : (l : Lent) (s : Setting) → callOn setKeyEntry l s .0 .refusal ≡ orDefault fine (firstCase (setCases (inNumbers l) s))
+  pub taken : (l : Lent) (s : Setting) → eqb (callOn setKeyEntry l s .0 .refusal .number) 0 ≡ not (isSome (firstCase (setCases (inNumbers l) s)))
 
 -- ---- the statement
 
