@@ -12,20 +12,21 @@ use lib.Seq.{take-append-add, drop-append-add, take-append-seam, drop-append-sea
 use Rattle.format.specs.declared.FindAnswer.{FindAnswer}
 use Rattle.format.specs.Bytes.{if_then_else_, same, isSome, orElse}
 use Rattle.format.specs.Limits.{maxHeader}
-use Rattle.format.specs.Refusals.{fine}
 use Rattle.format.specs.Lines.{Ending, Line, line, text, ending, endingBytes, lineBytes, size, lines, unlines, starts}
 use Rattle.format.specs.Pairs.{escape}
 use Rattle.format.specs.Fields.{Given}
 use Rattle.format.specs.Header.{Item, magic, comment, field, pair, closing, Entry, entry, lineOf, linesOf, accepted, header, headerLength, valueIn, valueOf}
 use Rattle.format.specs.Settings.{pairText, hasKey, replaced, newLines}
-use Rattle.format.specs.Calls.{noPlace, foundAt, valuePlace, keyPlace, findKeyIn, findKeyCall}
+use Rattle.format.specs.Calls.{foundAt, valuePlace, keyPlace, findKeyIn, findKeyCall}
+use Rattle.format.specs.Found.{Finds, escaped, FindsKey}
 use Rattle.format.proofs.Bytes.{same-true}
 use Rattle.format.proofs.Lines.{size-line}
-use Rattle.format.proofs.Pairs.{length-pair}
+use Rattle.format.proofs.Pairs.{pair-line, length-pair}
 use Rattle.format.proofs.Header.{header-sound, magic-line}
-use Rattle.header.specs.Accepted.{Headed}
+use Rattle.format.proofs.Found.{key-found}
+use Rattle.header.specs.Accepted.{Headed, IsItem, Items}
 use Rattle.header.specs.Spans.{LineAt, PastAt}
-use Rattle.header.proofs.Accepted.{items, WrittenAs, Written, written}
+use Rattle.header.proofs.Accepted.{items}
 use Rattle.splice.specs.Edited.{edited}
 use Rattle.settings.specs.declared.place.Place.{Place}
 use Rattle.settings.specs.Edits.{movedBy, shifted, FirstAt, Placed}
@@ -93,21 +94,21 @@ here k at t e i es w q h g p =
           (starts-moved (linesOf es) x y (at + size (line t e)) (at + size (line r e)) (omega (arith, ap length q)) (omega (arith, ap length q))));
     }
 
-one : (k : List ℕ) (at : ℕ) (l : Line) (i : Item) (es : List Entry) → WrittenAs (text l) i → hasKey k es ≡ false → isSome (valueIn k i) ≡ true
+one : (k : List ℕ) (at : ℕ) (l : Line) (i : Item) (es : List Entry) → IsItem (text l) i → hasKey k es ≡ false → isSome (valueIn k i) ≡ true
     → Spot k at (entry l i ∷ es) (keyPlace k at (entry l i ∷ es))
 one k at l (magic n) es w h g = absurd (false≢true g)
 one k at l comment es w h g = absurd (false≢true g)
 one k at l (field f d) es w h g = absurd (false≢true g)
 one k at (line t e) (pair j v) es w h g =
     let q : k ≡ j = same-true k j (go (same k j) g) in
-    here k at t e (pair j v) es v (rw q w) h g (rw q)
+    here k at t e (pair j v) es v (rw q (pair-line (w .version) (w .before) t j v (w .judged) .text-is)) h g (rw q)
   where
     go : (x : Bool) → isSome (if x then some v else none) ≡ true → x ≡ true
     go true g = refl
     go false g = absurd (false≢true g)
 one k at l closing es w h g = absurd (false≢true g)
 
-spot-of : (k : List ℕ) (at : ℕ) (es : List Entry) → Written es → hasKey k es ≡ true → Spot k at es (keyPlace k at es)
+spot-of : (k : List ℕ) (at : ℕ) (es : List Entry) → Items es → hasKey k es ≡ true → Spot k at es (keyPlace k at es)
 unfolding valueOf
 spot-of k at [] w h = absurd (false≢true h)
 spot-of k at (entry l i ∷ es) w h = go (valueOf k es) refl h (λ q. spot-of k (at + size l) es (w .1) q)
@@ -117,27 +118,17 @@ spot-of k at (entry l i ∷ es) w h = go (valueOf k es) refl h (λ q. spot-of k 
     go (some v) e g on = later k at l i es (on (ap isSome e)) (ap isSome e)
     go none e g on = one k at l i es (w .0) (ap isSome e) g
 
--- a value is found exactly where there is one
-found-there : (k : List ℕ) (at : ℕ) (es : List Entry) → keyPlace k at es .found ≡ hasKey k es
-unfolding keyPlace valueOf
-found-there k at [] = refl
-found-there k at (entry l i ∷ es) = go (valueOf k es) (found-there k (at + size l) es)
+-- line 1 is no pair
+spot-after : (k : List ℕ) (l : Line) (v : ℕ) (es : List Entry) → Items es → hasKey k (entry l (magic v) ∷ es) ≡ true
+    → Spot k 0 (entry l (magic v) ∷ es) (keyPlace k 0 (entry l (magic v) ∷ es))
+unfolding valueOf
+spot-after k l v es w h =
+    let g = go (valueOf k es) h in
+    later k 0 l (magic v) es (spot-of k (0 + size l) es w g) g
   where
-    this : (i : Item) → (if isSome (valueIn k i) then valuePlace at i else noPlace fine) .found ≡ isSome (valueIn k i)
-    this (magic n) = refl
-    this comment = refl
-    this (field f d) = refl
-    this (pair j v) = same-there (same k j)
-      where
-        same-there : (x : Bool) → (if isSome (if x then some v else none) then valuePlace at (pair j v) else noPlace fine) .found ≡ isSome (if x then some v else none)
-        same-there true = refl
-        same-there false = refl
-    this closing = refl
-
-    go : (o : Option (List ℕ)) → keyPlace k (at + size l) es .found ≡ isSome o
-        → (if isSome o then keyPlace k (at + size l) es else if isSome (valueIn k i) then valuePlace at i else noPlace fine) .found ≡ isSome (orElse o (valueIn k i))
-    go (some v) e = e
-    go none e = this i
+    go : (o : Option (List ℕ)) → isSome (orElse o none) ≡ true → isSome o ≡ true
+    go none h = h
+    go (some u) h = refl
 
 -- ---- the place by the look-up's answer
 
@@ -145,15 +136,21 @@ module _ (file k : List ℕ) (p : FindAnswer) (is : p ≡ findKeyCall file k) wh
   in-header : {es : List Entry} {gs : List Given} {ls : List Line} → header file ≡ accepted es gs ls → p ≡ keyPlace k 0 es
   in-header e = is ∙ ap (findKeyIn k) e
 
+  -- a value is found exactly where there is one
   has : {es : List Entry} {gs : List Given} {ls : List Line} → header file ≡ accepted es gs ls → p .found ≡ hasKey k es
-  has {es} e = ap (λ a. a .found) (in-header e) ∙ found-there k 0 es
+  has {es} e = go (valueOf k es) (subst (λ o. FindsKey file k o p) e (subst (FindsKey file k (header file)) (sym is) (key-found file k)))
+    where
+      go : (o : Option (List ℕ)) → Finds file (escaped o) p → p .found ≡ isSome o
+      go none q = ap (λ a. a .found) q
+      go (some v) q = q .there
 
   module _ (there : p .found ≡ true) where
     spot : {es : List Entry} {gs : List Given} {ls : List Line} → header file ≡ accepted es gs ls → Spot k 0 es p
     spot {es} {gs} {ls} e =
         let x = header-sound file e in
-        let w : Written es = rw (x .entries) (tt, written (x .rest) (items (x .version) (x .rest) [] gs ls (x .fine))) in
-        subst (Spot k 0 es) (sym (in-header e)) (spot-of k 0 es w (sym (has e) ∙ there))
+        let h : hasKey k (entry (x .first) (magic (x .version)) ∷ x .rest) ≡ true = rw (x .entries) at (sym (has e) ∙ there) in
+        subst (Spot k 0 es) (sym (in-header e))
+        (rw (x .entries) (spot-after k (x .first) (x .version) (x .rest) (items (x .version) (x .rest) [] gs ls (x .fine)) h))
 
     -- where the line's text starts and ends
     module _ (m : ℕ) (n : m ≡ min (length (escape k)) (maxHeader + 1)) where
