@@ -44,6 +44,8 @@ extern "C" {
 #define CRANEHOLT_MAX_AXES   16
 #define CRANEHOLT_MAX_LISTED 65536       /* bytes of a file that craneholt_listing takes */
 #define CRANEHOLT_MAX_LISTING 70111      /* bytes of a listing: so much room is always enough */
+#define CRANEHOLT_HEADER_ROOM 512        /* bytes for a written file, with CRANEHOLT_SAMPLE_ROOM for each sample: */
+#define CRANEHOLT_SAMPLE_ROOM 22         /* so much room is always enough */
 
 /* ---- Refusals ---- */
 
@@ -123,7 +125,7 @@ craneholt_read_answer craneholt_read_header(const uint8_t *file, size_t file_len
 
 /* The same, and the line table: for each line of the header, the magic and the closing line included, the byte at which it
  * starts, `reading.lines` entries from the front of the table on; the rest of the table stays. Refuses also 22, if the
- * table has fewer entries. The table is what craneholt_set_key asks for. */
+ * table has fewer entries (CRANEHOLT_MAX_LINES are always enough). The table is what craneholt_set_key asks for. */
 craneholt_read_answer craneholt_read(const uint8_t *file, size_t file_length, void *table, size_t table_length);
 
 /* ---- Fields and keys ---- */
@@ -215,7 +217,8 @@ typedef struct craneholt_write_answer {
 /* An attached file with these samples to the front of `out`; the bytes past it stay. Endian counts only where samples of more
  * than one byte are written in raw or hex, but has to be CRANEHOLT_LITTLE or CRANEHOLT_BIG. Refuses 11 (version, type,
  * encoding, endian; sizes: none, over 16, or one that is 0), 15, 19, 27, 20, 1, 22, in this order. What is written is
- * read back by the calls above as it was given. Room that is always enough: 512 bytes, and for each sample 22. */
+ * read back by the calls above as it was given. CRANEHOLT_HEADER_ROOM bytes, and CRANEHOLT_SAMPLE_ROOM for each sample,
+ * are always enough. */
 craneholt_write_answer craneholt_write(uint64_t version, const void *sizes, size_t sizes_length,
                                        uint64_t sampletype, uint64_t encoding, uint64_t endian,
                                        const void *samples, size_t samples_length,
@@ -236,7 +239,7 @@ typedef struct craneholt_set_answer {
  * file no longer takes become 0; bytes past the old and the new length stay, as do entries past the new count.
  * After any number of settings, some of them refused, a reading of the file gives each key the value accepted for it last.
  * Refuses: 22 if `used` passes the buffer; 1 to 15; 8 (version 1), 24, 25, 26; of the file as it would become 3, 4, 1, and 22
- * if it does not fit the buffer or its lines do not fit the table. */
+ * if it does not fit the buffer or its lines do not fit the table (CRANEHOLT_MAX_LINES entries are always enough). */
 craneholt_set_answer craneholt_set_key(uint8_t *buffer, size_t buffer_length, size_t used,
                                        void *table, size_t table_length, size_t count,
                                        const uint8_t *key, size_t key_length,

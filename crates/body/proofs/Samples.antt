@@ -5,24 +5,23 @@ use mathlib.Core.Bool.{Bool, true, false}
 use mathlib.Core.List.{List, [], _∷_, _++_, flatMap, append-assoc}
 use Prim.Native.Nat.{ℕ, zero, suc, _+_, _*_, _-_, _^_, _/_, _%_, _≤_, _<_}
 use lib.Pow.{pow-add}
-use native.Mathlib.Nat.{pow-suc, one-le-pow, pow-le-pow-right, mul-le-mul, mul-assoc, mul-sub, mul-one, mul-comm, mul-left-comm, mul-suc, suc-mul, zero-mul}
+use native.Mathlib.Nat.{pow-suc, one-le-pow, mul-le-mul, mul-assoc, mul-sub, mul-one, mul-comm, mul-left-comm, mul-suc, suc-mul, zero-mul}
 use native.Mathlib.Omega.{arith}
 use lib.Dec.{ltb, lit<}
 use lib.IntN.{ℤ, pos, negsuc}
 use lib.ListN.{length, drop, length-append}
 use lib.Seq.{slice, length-slice}
-use borrow.Author.Tests.{ltb-true, ltb-false, le-ltb, leb-true, ne-eqb}
+use borrow.Author.Tests.{ltb-true, ltb-false, le-ltb, ne-eqb}
 use Rattle.format.specs.Bytes.{if_then_else_, LF}
 use Rattle.format.specs.Limits.{maxFile}
 use Rattle.format.specs.Descriptors.{NumberKind, signed, unsigned, floating}
-use Rattle.format.specs.Samples.{inType, lowest, highest, toBytes, ordered, toSigned, fromSigned, valueBytes}
-use Rattle.format.specs.Writer.{signedDecimal, hexText, rawData, textData, dataBytes, allInType}
+use Rattle.format.specs.Samples.{inType, lowest, toBytes, ordered, toSigned, fromSigned, valueBytes}
+use Rattle.format.specs.Writer.{hexText, rawData, textData, dataBytes, allInType}
 use Rattle.format.proofs.Bytes.{and-left, and-right}
 use Rattle.format.proofs.Samples.{length-to-bytes, length-ordered, length-value-bytes}
 use Rattle.format.proofs.Boundary.{flat-length}
+use Rattle.format.proofs.Writer.{hex-length}
 use Rattle.store.specs.Stored.{textLine}
-use Rattle.store.proofs.Digits.{at-most-20}
-use Rattle.store.proofs.HexLaws.{hex-length}
 use Rattle.writable.specs.Refused.{lateRefusal}
 use Rattle.body.specs.LowBytes.{lowBytes}
 use Rattle.body.proofs.Parts.{flat-parts}
@@ -33,34 +32,6 @@ pub flat-text : (zs : List ℤ) → flatMap textLine zs ≡ textData zs
 unfolding flatMap textData
 flat-text [] = refl
 flat-text (z ∷ zs) = rw (flat-text zs, append-assoc)
-
--- ---- the longest text
-
-module _ (w : ℕ) (narrow : w ≤ 8) where
-  small : 256 ^ w ≤ 256 ^ 8
-  small = pow-le-pow-right {n = 256} (lit< tt) narrow
-
-  -- a sample of a type has at most 21 bytes
-  few-bytes : (k : NumberKind) (z : ℤ) → inType k w z ≡ true → length (signedDecimal z) ≤ 21
-  unfolding inType
-  few-bytes k (pos n) e = omega (arith, at-most-20 n (under k (leb-true n (highest k w) e)))
-    where
-      under : (k : NumberKind) → n ≤ highest k w → n < 18446744073709551616
-      under signed h = omega (arith, small)
-      under unsigned h = omega arith
-      under floating h = omega arith
-  few-bytes k (negsuc n) e = omega (arith, at-most-20 (suc n) (under k (ltb-true n (lowest k w) e)))
-    where
-      under : (k : NumberKind) → n < lowest k w → suc n < 18446744073709551616
-      under signed h = omega (arith, small)
-      under unsigned h = absurd (omega arith)
-      under floating h = absurd (omega arith)
-
-  pub text-bound : (k : NumberKind) (zs : List ℤ) → allInType k w zs ≡ true → length (textData zs) ≤ 22 * length zs
-  unfolding textData allInType
-  text-bound k [] e = omega arith
-  text-bound k (z ∷ zs) e =
-      omega (arith, length-append (signedDecimal z) (LF ∷ textData zs), few-bytes k z (and-left (inType k w z) (allInType k w zs) e), text-bound k zs (and-right (inType k w z) (allInType k w zs) e))
 
 -- ---- the size of a sample's bytes
 

@@ -2,3 +2,4 @@ pub mod CutTables
 pub mod CutCoordinates
 pub mod Fronts
 pub mod Packed
+pub mod Rooms

@@ -9,19 +9,22 @@ use format::ValueAnswer;
 use format::WriteAnswer;
 ghost use mathlib.Core.Path.{_≡_};
 ghost use mathlib.Core.List.{List};
-ghost use Prim.Native.Nat.{ℕ, _/_, min};
+ghost use Prim.Native.Nat.{ℕ, _/_, _≤_, min};
+ghost use lib.ListN.{length};
 ghost use Rattle.format.specs.declared.ReadAnswer.{ReadAnswer};
 ghost use Rattle.format.specs.declared.ValueAnswer.{ValueAnswer};
 ghost use Rattle.format.specs.declared.CountAnswer.{CountAnswer};
 ghost use Rattle.format.specs.declared.WriteAnswer.{WriteAnswer};
 ghost use Rattle.format.specs.declared.SetAnswer.{SetAnswer};
 ghost use Rattle.format.specs.Limits.{maxLines};
-ghost use Rattle.format.specs.Boundary.{entryBytes};
+ghost use Rattle.format.specs.Boundary.{entryBytes, wordBytes};
 ghost use Rattle.format.specs.Header.{header};
 ghost use Rattle.format.specs.Calls.{readHeaderCall, findFieldCall, findKeyCall, copyValueCall, dataPlaceCall, checkSamplesCall};
 ghost use Rattle.format.specs.Found.{FindsField, FindsKey};
 ghost use Rattle.format.specs.EntryPoints.{readEntry, samplesEntry, sampleNumberEntry, writeEntry, setKeyEntry};
 ghost use Rattle.format.specs.Listing.{listingCall};
+ghost use Rattle.describe.specs.Shown.{maxListing};
+ghost use Rattle.room.specs.Room.{Enough, tableRoom, writeRoom, Copied, HoldsSet};
 
 // How many entries a table of so many bytes has, at most 1,024: no header has more lines.
 fn room_of(bytes: usize) -> usize
@@ -42,7 +45,8 @@ pub extern "C" fn craneholt_read_header(file: &[u8]) -> ReadAnswer
 // The reading of a file's header, and where each of its lines starts, 4 bytes each, at the front of the table.
 #[no_mangle]
 pub extern "C" fn craneholt_read(file: &[u8], table: &mut [u8]) -> ReadAnswer
-    ensures { λ r. ⌜ _≡_ {A = ReadAnswer × List ℕ} (r, now (table .exit)) (readEntry (now (file .entry)) (now (table .entry))) ⌝ }
+    ensures call { λ r. ⌜ _≡_ {A = ReadAnswer × List ℕ} (r, now (table .exit)) (readEntry (now (file .entry)) (now (table .entry))) ⌝ }
+    ensures enough { λ r. ⌜ (tableRoom ≤ length (now (table .entry)) → (r ≡ readHeaderCall (now (file .entry))) × Enough (r .refusal)) ⌝ }
 {
     let mut local = [0u32; 1024];
     let room = room_of(table.len());
@@ -74,7 +78,8 @@ pub extern "C" fn craneholt_find_key(file: &[u8], key: &[u8]) -> FindAnswer
 // The value of a key to the front of `out`, escapes resolved.
 #[no_mangle]
 pub extern "C" fn craneholt_copy_value(file: &[u8], key: &[u8], out: &mut [u8]) -> ValueAnswer
-    ensures { λ r. ⌜ _≡_ {A = ValueAnswer × List ℕ} (r, now (out .exit)) (copyValueCall (now (file .entry)) (now (key .entry)) (now (out .entry))) ⌝ }
+    ensures call { λ r. ⌜ _≡_ {A = ValueAnswer × List ℕ} (r, now (out .exit)) (copyValueCall (now (file .entry)) (now (key .entry)) (now (out .entry))) ⌝ }
+    ensures enough { λ r. ⌜ (findKeyCall (now (file .entry)) (now (key .entry)) .length ≤ length (now (out .entry)) → Copied (findKeyCall (now (file .entry)) (now (key .entry))) r) ⌝ }
 {
     lookup::keys::copy_value(file, key, out)
 }
@@ -125,7 +130,8 @@ pub extern "C" fn craneholt_write(
     samples: &[u8],
     out: &mut [u8],
 ) -> WriteAnswer
-    ensures { λ r. ⌜ _≡_ {A = WriteAnswer × List ℕ} (r, now (out .exit)) (writeEntry version (now (sizes .entry)) sampletype encoding endian (now (samples .entry)) (now (out .entry))) ⌝ }
+    ensures call { λ r. ⌜ _≡_ {A = WriteAnswer × List ℕ} (r, now (out .exit)) (writeEntry version (now (sizes .entry)) sampletype encoding endian (now (samples .entry)) (now (out .entry))) ⌝ }
+    ensures enough { λ r. ⌜ (writeRoom (length (now (samples .entry)) / wordBytes) ≤ length (now (out .entry)) → Enough (r .refusal)) ⌝ }
 {
     writer::write_bytes(version, sizes, sampletype, encoding, endian, samples, out)
 }
@@ -140,7 +146,8 @@ pub extern "C" fn craneholt_set_key(
     key: &[u8],
     value: &[u8],
 ) -> SetAnswer
-    ensures { λ r. ⌜ _≡_ {A = SetAnswer × (List ℕ × List ℕ)} (r, (now (buf .exit), now (table .exit))) (setKeyEntry (now (buf .entry)) used (now (table .entry)) count (now (key .entry)) (now (value .entry))) ⌝ }
+    ensures call { λ r. ⌜ _≡_ {A = SetAnswer × (List ℕ × List ℕ)} (r, (now (buf .exit), now (table .exit))) (setKeyEntry (now (buf .entry)) used (now (table .entry)) count (now (key .entry)) (now (value .entry))) ⌝ }
+    ensures enough { λ r. ⌜ (tableRoom ≤ length (now (table .entry)) → HoldsSet (now (buf .entry)) used (now (key .entry)) (now (value .entry)) → Enough (r .refusal)) ⌝ }
 {
     // a header has at most 1,024 lines
     let mut local = [0u32; 1024];
@@ -157,7 +164,8 @@ pub extern "C" fn craneholt_set_key(
 // The listing of a file to the front of `out`.
 #[no_mangle]
 pub extern "C" fn craneholt_listing(file: &[u8], out: &mut [u8]) -> WriteAnswer
-    ensures { λ r. ⌜ _≡_ {A = WriteAnswer × List ℕ} (r, now (out .exit)) (listingCall (now (file .entry)) (now (out .entry))) ⌝ }
+    ensures call { λ r. ⌜ _≡_ {A = WriteAnswer × List ℕ} (r, now (out .exit)) (listingCall (now (file .entry)) (now (out .entry))) ⌝ }
+    ensures enough { λ r. ⌜ (maxListing ≤ length (now (out .entry)) → Enough (r .refusal)) ⌝ }
 {
     describe::listing(file, out)
 }

@@ -1,6 +1,6 @@
--- No refusal has the number 0.
+-- The refusals of a reading have the numbers 1 to 15.
 -- Assumes nothing.
-use Prim.Native.Nat.{ℕ, _+_, _<_}
+use Prim.Native.Nat.{ℕ, _+_, _≤_, _<_}
 use native.Mathlib.Omega.{arith}
 use mathlib.Core.Bool.{Bool, true, false, not}
 use mathlib.Core.List.{List, [], _∷_}
@@ -19,7 +19,7 @@ use Rattle.format.specs.Header.{Item, magic, comment, field, Entry, entr
 -- ---- a line's
 
 abbrev pub Numbered : Judged → Type 0
-Numbered (wrong w) = 0 < w
+Numbered (wrong w) = (0 < w) × (w ≤ extentTooLarge)
 Numbered (right i) = Unit {0}
 
 module _ (version : ℕ) (gs : List Given) where
@@ -66,7 +66,7 @@ module _ (version : ℕ) (gs : List Given) where
 -- ---- the reading's
 
 abbrev pub NumberedOutcome : Outcome → Type 0
-NumberedOutcome (refused r) = 0 < r .number
+NumberedOutcome (refused r) = (0 < r .number) × (r .number ≤ extentTooLarge)
 NumberedOutcome (accepted es gs ls) = Unit {0}
 
 entry-numbered : (e : Entry) (o : Outcome) → NumberedOutcome o → NumberedOutcome (withEntry e o)

@@ -1,6 +1,7 @@
 -- Laws of the writer: decimal and hex text are read back, and the samples of written data are the samples given.
 -- Assumes nothing.
-use Prim.Native.Nat.{ℕ, zero, suc, _+_, _*_, _/_, _%_, _≤_, _<_, _-_}
+use Prim.Native.Nat.{ℕ, zero, suc, _+_, _*_, _/_, _%_, _^_, _≤_, _<_, _-_}
+use native.Mathlib.Nat.{pow-suc}
 use native.Mathlib.Omega.{arith}
 use mathlib.Core.Path.{_≡_, refl, sym, ap, _∙_}
 use mathlib.Core.Bool.{Bool, true, false, _&&_, and-assoc, and-false, and-eq-true-iff}
@@ -85,6 +86,14 @@ decimal-digits = of-decimal (λ n s. every isDigit s ≡ true) (λ d h. rw (is-d
 pub decimal-not-empty : (n : ℕ) → 1 ≤ length (decimal n)
 decimal-not-empty = of-decimal (λ n s. 1 ≤ length s) (λ d h. omega arith) (λ n s h p. simp length-append (omega arith))
 
+-- a number below 10 to the k + 1 has at most k + 1 digits
+pub digits-few : (n k : ℕ) → n < 10 ^ suc k → length (decimal n) ≤ suc k
+digits-few = of-decimal (λ n s. (k : ℕ) → n < 10 ^ suc k → length s ≤ suc k) (λ d h k l. omega arith) more
+  where
+    more : (n : ℕ) (s : List ℕ) → 10 ≤ n → ((k : ℕ) → n / 10 < 10 ^ suc k → length s ≤ suc k) → (k : ℕ) → n < 10 ^ suc k → length (s ++ (digit (n % 10) ∷ [])) ≤ suc k
+    more n s h p zero l = absurd (omega (arith, pow-suc 10 0))
+    more n s h p (suc k) l = simp length-append (omega (arith, p k (omega (arith, pow-suc 10 (suc k)))))
+
 -- of a text that is not empty, `number` is `digitsFrom 0`
 number-from : (s : List ℕ) → 1 ≤ length s → number s ≡ digitsFrom 0 s
 unfolding number
@@ -146,6 +155,12 @@ hex-of-text [] r p = refl
 hex-of-text (b ∷ s) r p =
     let e : 16 * (b / 16) + b % 16 ≡ b = omega arith in
     rw (hex-digit-of-letter (b / 16) (omega arith), hex-digit-of-letter (b % 16) (omega arith), hex-of-text s r (p .1), e)
+
+-- two digits a byte
+pub hex-length : (s : List ℕ) → length (hexText s) ≡ 2 * length s
+unfolding hexText
+hex-length [] = omega arith
+hex-length (b ∷ s) = omega (arith, hex-length s)
 
 -- hex text of bytes after bytes
 hex-append : (s t : List ℕ) → hexText (s ++ t) ≡ hexText s ++ hexText t

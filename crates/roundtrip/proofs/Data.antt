@@ -18,7 +18,7 @@ use Rattle.format.proofs.Samples.{length-value-bytes}
 
 -- ---- raw data has the bytes of a sample as often as there are samples
 
-raw-length : (w endian : ℕ) (zs : List ℤ) → length (rawData w endian zs) ≡ length zs * w
+pub raw-length : (w endian : ℕ) (zs : List ℤ) → length (rawData w endian zs) ≡ length zs * w
 unfolding rawData
 raw-length w endian [] = omega arith
 raw-length w endian (z ∷ zs) = rw (length-append, length-value-bytes w endian z, raw-length w endian zs) (omega (arith, suc-mul (length zs) w))

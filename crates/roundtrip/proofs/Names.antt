@@ -108,3 +108,8 @@ version-of-magic (suc v) l h =
 pub sample-bytes : (t : ℕ) → t < length types → 1 ≤ sampleBytes t
 unfolding everyBelow typeAt
 sample-bytes t h = leb-true 1 (sampleBytes t) (every-below (λ i. leb 1 (sampleBytes i)) (length types) refl t h)
+
+-- and at most 8
+pub sample-bytes-to : (t : ℕ) → t < length types → sampleBytes t ≤ 8
+unfolding everyBelow typeAt
+sample-bytes-to t h = leb-true (sampleBytes t) 8 (every-below (λ i. leb (sampleBytes i) 8) (length types) refl t h)

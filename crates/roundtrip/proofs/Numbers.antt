@@ -1,21 +1,21 @@
 -- Numbers as a header is written with them: the dimension, and sizes parted by one space.
 -- Assumes nothing.
 use mathlib.Core.Path.{_≡_, refl, sym}
-use Prim.Native.Nat.{ℕ, zero, suc, _*_, _/_, _^_, _≤_, _<_}
+use Prim.Native.Nat.{ℕ, zero, suc, _*_, _≤_}
 use native.Mathlib.Omega.{arith}
-use native.Mathlib.Nat.{pow-suc, mul-comm, one-le-mul, le-mul-of-pos-right}
-use mathlib.Core.Bool.{Bool, true, false, false≢true}
+use native.Mathlib.Nat.{mul-comm, one-le-mul, le-mul-of-pos-right}
+use mathlib.Core.Bool.{true, false, false≢true}
 use mathlib.Core.List.{List, [], _∷_, _++_, map, append-nil}
-use lib.Dec.{leb, ltb}
+use lib.Dec.{leb}
 use lib.ListN.{length, length-append}
-use borrow.Author.Tests.{leb-true, le-leb, ltb-false, ne-eqb}
+use borrow.Author.Tests.{leb-true, le-leb, ne-eqb}
 use Rattle.format.specs.Bytes.{spaceOrTab, isDigit, every, isIn, SPACE}
 use Rattle.format.specs.Limits.{maxSize}
 use Rattle.format.specs.Pairs.{plain}
 use Rattle.format.specs.Descriptors.{trimFront, trimByte, trimEnd, valueOfNumber, parts, notEmpty, words, numbersIn, product}
-use Rattle.format.specs.Writer.{byDigits, decimalFrom, decimal, spaced}
+use Rattle.format.specs.Writer.{decimal, spaced}
 use Rattle.format.proofs.Bytes.{and-left, and-right, every-append, every-weaker}
-use Rattle.format.proofs.Writer.{decimal-digits, decimal-not-empty, number-of-decimal}
+use Rattle.format.proofs.Writer.{decimal-digits, decimal-not-empty, digits-few, number-of-decimal}
 use Rattle.roundtrip.proofs.Names.{Text}
 
 -- ---- digits
@@ -37,21 +37,9 @@ digit-no-space b h =
 pub decimal-plain : (n : ℕ) → every plain (decimal n) ≡ true
 decimal-plain n = every-weaker isDigit plain digit-plain (decimal n) (decimal-digits n)
 
--- a number below 10 to the k + 1 has at most k + 1 digits
-digits-few : (m k n : ℕ) → n < 10 ^ suc k → length (decimalFrom m n) ≤ suc k
-unfolding decimalFrom
-digits-few zero k n h = omega arith
-digits-few (suc m) k n h = go (ltb n 10) refl k h (λ j l. digits-few m j (n / 10) l)
-  where
-    go : (x : Bool) → ltb n 10 ≡ x → (k : ℕ) → n < 10 ^ suc k → ((j : ℕ) → n / 10 < 10 ^ suc j → length (decimalFrom m (n / 10)) ≤ suc j)
-        → length (byDigits x n (λ i. decimalFrom m i)) ≤ suc k
-    go true q k h on = omega arith
-    go false q zero h on = absurd (omega (arith, ltb-false n 10 q, pow-suc 10 0))
-    go false q (suc k) h on = simp length-append (omega (arith, on k (omega (arith, pow-suc 10 (suc k)))))
-
 -- a number up to the largest size has at most 10 digits
 pub decimal-short : (n : ℕ) → n ≤ maxSize → length (decimal n) ≤ 10
-decimal-short n h = digits-few n 9 n (omega arith)
+decimal-short n h = digits-few n 9 (omega arith)
 
 -- ---- texts of digits, and what stands before or after them
 

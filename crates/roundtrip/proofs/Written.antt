@@ -13,7 +13,7 @@ use lib.IntN.{ℤ}
 use lib.ListN.{length, length-append, length-map}
 use borrow.Author.Tests.{le-ltb, eq-eqb, le-leb}
 use Rattle.format.specs.Bytes.{if_then_else_, bytes, every, isIn, isAny, alike, rowFrom}
-use Rattle.format.specs.Limits.{maxHeader, maxLines, maxAxes}
+use Rattle.format.specs.Limits.{maxLines, maxAxes}
 use Rattle.format.specs.Lines.{Line, line, lf, lines, unlines}
 use Rattle.format.specs.Pairs.{plain, mark}
 use Rattle.format.specs.Fields.{Given, given, descriptorOf, isGiven, inOrder, fieldSince, understood, dimension, type, encoding, endian, sizes, lineSkip, byteSkip, dataFile}
@@ -224,8 +224,8 @@ module _ (version : ℕ) (ns : List ℕ) (t e n : ℕ) (zs : List ℤ) (a : Acce
       last true = plain-line _ (of-endian-name .text .bytes-plain) (plain-line [] refl s)
       last false = plain-line [] refl s
 
-  -- the header is within its limits
-  short-entries : (x : Bool) → headerLength (entriesOf x version ns t e n) ≤ maxHeader
+  -- the header is short, and so within its limits
+  pub short-entries : (x : Bool) → headerLength (entriesOf x version ns t e n) ≤ 511
   unfolding unlines
   short-entries x =
       let v = decimal-short version (omega (arith, a .numbers .version-to)) in
@@ -253,4 +253,4 @@ module _ (version : ℕ) (ns : List ℕ) (t e n : ℕ) (zs : List ℤ) (a : Acce
       ∙ lines-of-parts (linesOf es) s (shape-entries x (lines s) (shape-of-lines s)) in
       header-fine _ (firstLine version) version (restEntries x ns t e n) (fieldsOf x ns t e n) (lines s) split
       (version-of-magic version (a .numbers .version-from) (a .numbers .version-to))
-      (fine-entries x (complete-fields x h) (lines s)) (short-entries x) (few-entries x) (a .file-small)
+      (fine-entries x (complete-fields x h) (lines s)) (omega (arith, short-entries x)) (few-entries x) (a .file-small)

@@ -3,9 +3,12 @@ use format::Refusal;
 use format::SetAnswer;
 ghost use mathlib.Core.Path.{_≡_};
 ghost use mathlib.Core.List.{List};
-ghost use Prim.Native.Nat.{ℕ};
+ghost use Prim.Native.Nat.{ℕ, _≤_};
+ghost use lib.ListN.{length};
 ghost use Rattle.format.specs.declared.SetAnswer.{SetAnswer};
+ghost use Rattle.format.specs.Limits.{maxLines};
 ghost use Rattle.format.specs.Calls.{setKeyCall};
+ghost use Rattle.room.specs.Room.{Enough, HoldsSet};
 
 // The answer of a file of so many bytes and header lines.
 fn answer(refusal: Refusal, length: usize, count: usize) -> SetAnswer
@@ -19,6 +22,7 @@ fn answer(refusal: Refusal, length: usize, count: usize) -> SetAnswer
 }
 
 // Sets a key to a value in the file in the first `used` bytes of a buffer, whose line table has `count` entries. A refused call alters nothing.
+// A table of 1,024 entries is enough for any file.
 pub fn set_key(
     buf: &mut [u8],
     used: usize,
@@ -27,7 +31,8 @@ pub fn set_key(
     key: &[u8],
     value: &[u8],
 ) -> SetAnswer
-    ensures { λ r. ⌜ _≡_ {A = SetAnswer × (List ℕ × List ℕ)} (r, (now (buf .exit), now (table .exit))) (setKeyCall (now (buf .entry)) used (now (table .entry)) count (now (key .entry)) (now (value .entry))) ⌝ }
+    ensures call { λ r. ⌜ _≡_ {A = SetAnswer × (List ℕ × List ℕ)} (r, (now (buf .exit), now (table .exit))) (setKeyCall (now (buf .entry)) used (now (table .entry)) count (now (key .entry)) (now (value .entry))) ⌝ }
+    ensures enough { λ r. ⌜ (maxLines ≤ length (now (table .entry)) → HoldsSet (now (buf .entry)) used (now (key .entry)) (now (value .entry)) → Enough (r .refusal)) ⌝ }
 {
     let room = buf.len();
     if room < used {

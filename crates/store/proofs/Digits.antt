@@ -9,10 +9,11 @@ use native.Mathlib.Omega.{arith}
 use lib.Dec.{ltb, lit<}
 use lib.ListN.{length, set, length-append}
 use lib.Seq.{sets}
-use borrow.Author.Tests.{lt-ltb, le-ltb, ltb-true, ltb-false}
+use borrow.Author.Tests.{lt-ltb, le-ltb, ltb-false}
 use Rattle.format.specs.Writer.{digit, byDigits, decimalFrom, decimal}
 use Rattle.store.specs.Stored.{digits}
 use Rattle.format.proofs.Stores.{sets-then}
+use Rattle.format.proofs.Writer.{digits-few}
 
 -- a bound that is enough makes no difference
 any-bound : (m k n : ℕ) → n ≤ m → n ≤ k → decimalFrom m n ≡ decimalFrom k n
@@ -45,17 +46,8 @@ length-one n h = ap length (decimal-one n h)
 pub length-more : (n : ℕ) → 10 ≤ n → length (decimal n) ≡ length (decimal (n / 10)) + 1
 length-more n h = ap length (decimal-more n h) ∙ length-append (decimal (n / 10)) (digit (n % 10) ∷ [])
 
--- a number below 10 to the k + 1 has at most k + 1 digits
-digits-few : (k n : ℕ) → n < 10 ^ suc k → length (decimal n) ≤ suc k
-digits-few zero n h = omega (arith, length-one n (omega (arith, pow-suc 10 0)))
-digits-few (suc k) n h = go (ltb n 10) refl (digits-few k (n / 10) (omega (arith, pow-suc 10 (suc k))))
-  where
-    go : (t : Bool) → ltb n 10 ≡ t → length (decimal (n / 10)) ≤ suc k → length (decimal n) ≤ suc (suc k)
-    go true q on = omega (arith, length-one n (ltb-true n 10 q))
-    go false q on = omega (arith, length-more n (ltb-false n 10 q))
-
 pub at-most-20 : (n : ℕ) → n < 18_446_744_073_709_551_616 → length (decimal n) ≤ 20
-at-most-20 n h = digits-few 19 n (omega arith)
+at-most-20 n h = digits-few n 19 (omega arith)
 
 -- ---- the last k digits
 

@@ -1,18 +1,12 @@
 -- Laws of bytes in hex.
 -- Assumes nothing.
 use mathlib.Core.Path.{_≡_, ap}
-use mathlib.Core.List.{List, [], _∷_, _++_}
-use Prim.Native.Nat.{ℕ, _+_, _*_, _≤_, _<_}
+use mathlib.Core.List.{List, [], _++_}
+use Prim.Native.Nat.{ℕ, _+_, _≤_, _<_}
 use native.Mathlib.Numerals.{add-one}
-use native.Mathlib.Omega.{arith}
 use lib.ListN.{length, getD, drop, drop-of-length-le}
 use lib.Seq.{drop-cons}
 use Rattle.format.specs.Writer.{hexOfByte, hexText}
-
-pub hex-length : (s : List ℕ) → length (hexText s) ≡ 2 * length s
-unfolding hexText
-hex-length [] = omega arith
-hex-length (b ∷ s) = omega (arith, hex-length s)
 
 -- the hex of the bytes from i on
 module _ (s : List ℕ) (i : ℕ) where

@@ -1,10 +1,12 @@
 // The writer of attached files. That what it writes is read back is the theorem of crate `roundtrip`.
 ghost use mathlib.Core.Path.{_≡_};
 ghost use mathlib.Core.List.{List};
-ghost use Prim.Native.Nat.{ℕ};
+ghost use Prim.Native.Nat.{ℕ, _/_, _≤_};
+ghost use lib.ListN.{length};
 ghost use Rattle.format.specs.declared.WriteAnswer.{WriteAnswer};
-ghost use Rattle.format.specs.Boundary.{numbersOf, samplesLent};
+ghost use Rattle.format.specs.Boundary.{wordBytes, numbersOf, samplesLent};
 ghost use Rattle.format.specs.Calls.{writeCall};
+ghost use Rattle.room.specs.Room.{Enough, writeRoom};
 ghost use Rattle.writable.specs.Refused.{chosen};
 ghost use Rattle.writer.specs.Stored.{answerOf};
 
@@ -65,7 +67,8 @@ fn write_chosen(
     answer(0, end)
 }
 
-// Writes samples that are numbers as an attached file to the front of `out`; a refused call leaves `out` as it was.
+// Writes samples that are numbers as an attached file to the front of `out`; a refused call leaves `out` as it was. 512 bytes, and 22 for each sample,
+// are enough for any file.
 pub fn write(
     version: u64,
     sizes: &[u64],
@@ -75,7 +78,8 @@ pub fn write(
     samples: &[i64],
     out: &mut [u8],
 ) -> WriteAnswer
-    ensures { λ r. ⌜ _≡_ {A = WriteAnswer × List ℕ} (r, now (out .exit)) (writeCall version (now (sizes .entry)) sampletype encoding endian (now (samples .entry)) (now (out .entry))) ⌝ }
+    ensures call { λ r. ⌜ _≡_ {A = WriteAnswer × List ℕ} (r, now (out .exit)) (writeCall version (now (sizes .entry)) sampletype encoding endian (now (samples .entry)) (now (out .entry))) ⌝ }
+    ensures enough { λ r. ⌜ (writeRoom (length (now (samples .entry))) ≤ length (now (out .entry)) → Enough (r .refusal)) ⌝ }
 {
     let none = [0u8; 1];
     write_chosen(
@@ -101,7 +105,8 @@ pub fn write_bytes(
     samples: &[u8],
     out: &mut [u8],
 ) -> WriteAnswer
-    ensures { λ r. ⌜ _≡_ {A = WriteAnswer × List ℕ} (r, now (out .exit)) (writeCall version (numbersOf 8 (now (sizes .entry))) sampletype encoding endian (samplesLent (now (samples .entry))) (now (out .entry))) ⌝ }
+    ensures call { λ r. ⌜ _≡_ {A = WriteAnswer × List ℕ} (r, now (out .exit)) (writeCall version (numbersOf 8 (now (sizes .entry))) sampletype encoding endian (samplesLent (now (samples .entry))) (now (out .entry))) ⌝ }
+    ensures enough { λ r. ⌜ (writeRoom (length (now (samples .entry)) / wordBytes) ≤ length (now (out .entry)) → Enough (r .refusal)) ⌝ }
 {
     let none = [0i64; 1];
     let mut ns = [0u64; 17];

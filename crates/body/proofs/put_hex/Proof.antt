@@ -13,7 +13,7 @@ use Rattle.body.specs.LowBytes.{lowBytes}
 use Rattle.store.proofs.Runs.{Putting, putting-none, putting-room, putting-more, putting-done, putting-end}
 use Rattle.body.proofs.Parts.{flat-over}
 use Rattle.words.proofs.WidthLaws.{width-le}
-use Rattle.store.proofs.HexLaws.{hex-length}
+use Rattle.format.proofs.Writer.{hex-length}
 use Rattle.body.proofs.Samples.{part-room, part-length, hex-parts, hex-whole}
 use Rattle.store.proofs.Runs.{stored-front}
 use Rattle.body.proofs.put_hex.Statement.{statement}

@@ -8,6 +8,7 @@ use borrow.Author.Needs.{needs}
 use Rattle.format.proofs.Samples.{all-bytes}
 use Rattle.craneholt.proofs.Fronts.{back-within}
 use Rattle.craneholt.proofs.Packed.{entry-few, entry-read}
+use Rattle.craneholt.proofs.Rooms.{read-room}
 use Rattle.craneholt.proofs.craneholt_read.Statement.{statement}
 use Rattle.craneholt.proofs.craneholt_read.Tie as tie
 
@@ -32,7 +33,7 @@ array-share-prefix-local c =
     let r = c .before .before .read in
     let room = c .before .before .before .before .room-of .ensures in
     let few = entry-few (a .table .now) (all-bytes (a .table .now) λ i. c .before .before .before .before .before .slice-known .given i .fits) (a .file .now) _
-    (sym (slice-aggregate-read (c .before .before .before)) ∙ room) (r .result) (r .last .1 .0) (r .ensures) in
+    (sym (slice-aggregate-read (c .before .before .before)) ∙ room) (r .result) (r .last .1 .0) (r .ensures .0) in
     back-within _ (c .before .before .before .before .room-of .result) 1024 (r .last .1 .0) (replicate 1024 0) (c .before .local2 .given) refl (omega arith)
 
 slice-aggregate-put-entries : tie.Need-slice-aggregate-put-entries
@@ -49,9 +50,11 @@ returns c =
     let a = c .before .before .before .before .before .before .before .before .before .before .before .before .args in
     let r = c .before .before .before .before .before .before .before .read in
     let p = c .before .before .put-entries in
+    let e =
     entry-read (a .table .now) (all-bytes (a .table .now) λ i. c .before .before .before .before .before .before .before .before .before .before .slice-known .given i .fits) (a .file .now) _
-    (sym (slice-aggregate-read (c .before .before .before .before .before .before .before .before)) ∙ c .before .before .before .before .before .before .before .before .before .room-of .ensures) (r .result) (r .last .1 .0) (r .ensures)
-    (c .before .before .before .before .before .before .local2 .given) _ (p .last .1 .0) (p .ensures)
+    (sym (slice-aggregate-read (c .before .before .before .before .before .before .before .before)) ∙ c .before .before .before .before .before .before .before .before .before .room-of .ensures) (r .result) (r .last .1 .0) (r .ensures .0)
+    (c .before .before .before .before .before .before .local2 .given) _ (p .last .1 .0) (p .ensures) in
+    (e, read-room (a .file .now) (a .table .now) e)
 
 pub craneholt-read-spec : {M : Type 1} → statement M
 craneholt-read-spec =

@@ -8,6 +8,7 @@ use borrow.Author.Needs.{needs}
 use Rattle.format.proofs.Samples.{all-bytes}
 use Rattle.craneholt.proofs.Fronts.{back-within}
 use Rattle.craneholt.proofs.Packed.{entry-kept, entry-set}
+use Rattle.craneholt.proofs.Rooms.{set-room}
 use Rattle.craneholt.proofs.craneholt_set_key.Statement.{statement}
 use Rattle.craneholt.proofs.craneholt_set_key.Tie as tie
 
@@ -37,9 +38,11 @@ returns c =
     let a = c .before .before .before .before .before .before .before .before .before .before .before .before .before .before .before .before .args in
     let x = c .before .before .before .before .before .before .before .before .before .entries in
     let s = c .before .before .before .before .before .set-key in
+    let e =
     entry-kept (a .table .now) (all-bytes (a .table .now) λ i. c .before .before .before .before .before .before .before .before .before .before .before .before .before .before .slice-known2 .given i .fits)
     (a .buf .now) (a .used) (a .count) (a .key .now) (a .value .now) (x .result) (x .last .1 .0) _ (x .ensures .0) (x .ensures .1)
-    (s .result) (s .last .0) (s .last .1 .1 .0) (s .ensures) (c .if1 .taken)
+    (s .result) (s .last .0) (s .last .1 .1 .0) (s .ensures .0) (c .if1 .taken) in
+    (e, set-room (a .buf .now) (a .used) (a .table .now) (a .count) (a .key .now) (a .value .now) e)
 
 array-share-prefix-local : tie.Need-array-share-prefix-local
 array-share-prefix-local c =
@@ -67,9 +70,11 @@ returns-2 c =
     let p = c .before .before .put-entries in
     let same : length (s .last .1 .1 .0) ≡ x .result =
     c .before .before .before .before .before .before .before .local4 .given ∙ length-take-le _ _ (array-borrow-prefix-local (c .before .before .before .before .before .before .before .before .before .before .before .before)) in
+    let e =
     entry-set (a .table .now) (all-bytes (a .table .now) λ i. c .before .before .before .before .before .before .before .before .before .before .before .before .before .before .before .before .before .before .before .slice-known2 .given i .fits)
     (a .buf .now) (a .used) (a .count) (a .key .now) (a .value .now) (x .result) (x .last .1 .0) _ (x .ensures .0) (x .ensures .1)
-    (s .result) (s .last .0) (s .last .1 .1 .0) _ (p .last .1 .0) (s .ensures) same (p .ensures)
+    (s .result) (s .last .0) (s .last .1 .1 .0) _ (p .last .1 .0) (s .ensures .0) same (p .ensures) in
+    (e, set-room (a .buf .now) (a .used) (a .table .now) (a .count) (a .key .now) (a .value .now) e)
 
 pub craneholt-set-key-spec : {M : Type 1} → statement M
 craneholt-set-key-spec =

@@ -1,5 +1,7 @@
 -- `writer::write` meets its contract. Assumes nothing.
 use borrow.Author.Needs.{needs}
+use denote.Ref.{now}
+use Rattle.room.proofs.Enough.{write-answered}
 use Rattle.writable.specs.Refused.{chosen}
 use Rattle.writer.proofs.write.Statement.{statement}
 use Rattle.writer.proofs.write.Tie as tie
@@ -15,7 +17,10 @@ same-length c = search needs
 
 returns : tie.Need-returns
 unfolding chosen
-returns c = c .before .before .write-chosen .ensures
+returns c =
+    let a = c .before .before .before .before .before .before .before .args in
+    let e = c .before .before .write-chosen .ensures in
+    (e, write-answered (a .version) (now (a .sizes)) (a .sampletype) (a .encoding) (a .endian) (now (a .samples)) (now (a .out)) e)
 
 pub write-spec : {M : Type 1} → statement M
 write-spec =

@@ -7,7 +7,8 @@ use denote.Ref.{now}
 use lib.ListN.{length, take}
 use lib.Seq.{length-take-le}
 use Rattle.format.specs.Boundary.{numbersOf, samplesLent}
-use Rattle.format.proofs.Boundary.{length-numbers}
+use Rattle.format.proofs.Boundary.{length-numbers, length-samples}
+use Rattle.room.proofs.Enough.{write-answered}
 use Rattle.writable.specs.Refused.{chosen}
 use Rattle.writer.proofs.Whole.{put-front, first-sizes}
 use Rattle.writer.proofs.write_bytes.Statement.{statement}
@@ -48,7 +49,8 @@ returns c =
     let f : take (p .result) (p .last .1 .0) ≡ take (p .result) (numbersOf 8 s) = put-front (p .last .1 .0) _ (take (p .result) (numbersOf 8 s)) (p .result) (p .ensures .1) (length-take-le (p .result) (numbersOf 8 s) (omega (arith, e))) in
     let a = c .before .before .before .before .before .before .before .before .before .before .before .before .args in
     let q = rw f at (c .before .before .write-chosen .ensures) in
-    q ∙ first-sizes (a .version) (a .sampletype) (a .encoding) (a .endian) (samplesLent (now (a .samples))) (now (a .out)) (numbersOf 8 s) (p .result) e
+    let w = q ∙ first-sizes (a .version) (a .sampletype) (a .encoding) (a .endian) (samplesLent (now (a .samples))) (now (a .out)) (numbersOf 8 s) (p .result) e in
+    (w, λ h. write-answered (a .version) (numbersOf 8 s) (a .sampletype) (a .encoding) (a .endian) (samplesLent (now (a .samples))) (now (a .out)) w (rw (length-samples (now (a .samples))) h))
 
 pub write-bytes-spec : {M : Type 1} → statement M
 write-bytes-spec =

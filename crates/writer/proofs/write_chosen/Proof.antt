@@ -11,7 +11,8 @@ use Rattle.format.specs.Writer.{allInType}
 use Rattle.roundtrip.specs.RoundTrip.{headerBytes}
 use Rattle.writable.specs.Refused.{chosen}
 use Rattle.words.proofs.WidthLaws.{width-le}
-use Rattle.body.proofs.Samples.{low-data, text-bound}
+use Rattle.room.proofs.Written.{text-bound}
+use Rattle.body.proofs.Samples.{low-data}
 use Rattle.store.proofs.Runs.{stored-front}
 use Rattle.writable.proofs.Refuse.{few-samples}
 use Rattle.writer.proofs.Whole.{early-call, late-call, fits, full-call}

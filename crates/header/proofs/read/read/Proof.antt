@@ -2,6 +2,7 @@
 -- Assumes nothing.
 use borrow.Author.Needs.{needs}
 use mathlib.Core.Path.{_∙_}
+use Rattle.room.proofs.Enough.{read-answered}
 use Rattle.header.proofs.Calls.{call-refused, call-short, call-tabled, call-filled}
 use Rattle.header.proofs.read.read.Statement.{statement}
 use Rattle.header.proofs.read.read.Tie as tie
@@ -13,7 +14,8 @@ returns : tie.Need-returns
 returns c =
     let a = c .before .before .before .before .before .args in
     let r = c .before .before .read-header in
-    call-refused (a .file .now) (a .table .now) (r .result) (r .ensures) (c .if1 .taken)
+    let e = call-refused (a .file .now) (a .table .now) (r .result) (r .ensures) (c .if1 .taken) in
+    (e, read-answered (a .file .now) (a .table .now) e)
 
 cast-count : tie.Need-cast-count
 cast-count c = search needs
@@ -25,7 +27,8 @@ returns-2 : tie.Need-returns-2
 returns-2 c =
     let a = c .before .before .before .before .before .before .before .before .args in
     let r = c .before .before .before .before .before .read-header in
-    (λ i. (c .refuse .ensures i, a .table .now)) ∙ call-short (a .file .now) (a .table .now) (r .result) (r .ensures) (c .before .before .before .if1 .left) (c .before .if2 .taken)
+    let e = (λ i. (c .refuse .ensures i, a .table .now)) ∙ call-short (a .file .now) (a .table .now) (r .result) (r .ensures) (c .before .before .before .if1 .left) (c .before .if2 .taken) in
+    (e, read-answered (a .file .now) (a .table .now) e)
 
 fill-table-requires : tie.Need-fill-table-requires
 fill-table-requires c κs =
@@ -40,7 +43,8 @@ returns-3 : tie.Need-returns-3
 returns-3 c =
     let a = c .before .before .before .before .before .before .before .before .before .before .before .args in
     let r = c .before .before .before .before .before .before .before .before .read-header in
-    call-filled (a .file .now) (a .table .now) (r .result) (r .ensures) (c .before .before .before .before .before .before .if1 .left) (c .before .before .before .before .if2 .left) _ (c .before .before .fill-table .ensures)
+    let e = call-filled (a .file .now) (a .table .now) (r .result) (r .ensures) (c .before .before .before .before .before .before .if1 .left) (c .before .before .before .before .if2 .left) _ (c .before .before .fill-table .ensures) in
+    (e, read-answered (a .file .now) (a .table .now) e)
 
 pub read-spec : {M : Type 1} → statement M
 read-spec =

@@ -4,6 +4,7 @@ use native.Mathlib.Omega.{arith}
 use mathlib.Core.Path.{sym}
 use borrow.Author.Needs.{needs}
 use borrow.Author.Tests.{not-true, not-false}
+use Rattle.room.proofs.Enough.{value-answered}
 use Rattle.lookup.proofs.Values.{Value, value-found, value-absent, value-means, value-short, value-copied}
 use Rattle.lookup.proofs.keys.copy_value.Statement.{statement}
 use Rattle.lookup.proofs.keys.copy_value.Tie as tie
@@ -23,7 +24,8 @@ returns : tie.Need-returns
 returns c =
     let a = c .before .before .before .before .before .before .before .args in
     let f = c .before .before .before .find-key in
-    sym (value-absent (a .file .now) (a .key .now) (f .result) (f .ensures .1) (not-true (f .result .found) (c .if1 .taken)) (a .out .now))
+    let e = sym (value-absent (a .file .now) (a .key .now) (f .result) (f .ensures .1) (not-true (f .result .found) (c .if1 .taken)) (a .out .now)) in
+    (e, value-answered (a .file .now) (a .key .now) (a .out .now) e)
 
 add-value : tie.Need-add-value
 add-value c = omega (arith, told c .place .within)
@@ -46,7 +48,8 @@ returns-2 c =
     let a = b .before .before .before .before .before .before .before .args in
     let w = told b in
     let u = c .before .unescaped-length in
-    value-short w (a .out .now) (u .result) (u .ensures .0 (w .value) (value-means (a .file .now) _ (w .place))) (c .if2 .taken)
+    let e = value-short w (a .out .now) (u .result) (u .ensures .0 (w .value) (value-means (a .file .now) _ (w .place))) (c .if2 .taken) in
+    (e, value-answered (a .file .now) (a .key .now) (a .out .now) e)
 
 unescape-into-requires : tie.Need-unescape-into-requires
 unescape-into-requires c κs = search needs
@@ -61,9 +64,10 @@ returns-3 c =
     let w = told b in
     let u = c .before .before .before .before .before .unescaped-length in
     let m = value-means (a .file .now) _ (w .place) in
-    let e = u .ensures .0 (w .value) m in
+    let n = u .ensures .0 (w .value) m in
     let h = c .before .before .before .before .if2 .left in
-    value-copied w (a .out .now) (u .result) e h _ (c .before .before .unescape-into .ensures (w .value) m (omega arith))
+    let e = value-copied w (a .out .now) (u .result) n h _ (c .before .before .unescape-into .ensures (w .value) m (omega arith)) in
+    (e, value-answered (a .file .now) (a .key .now) (a .out .now) e)
 
 pub copy-value-spec : {M : Type 1} → statement M
 copy-value-spec =

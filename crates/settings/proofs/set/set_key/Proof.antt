@@ -1,5 +1,6 @@
 -- `settings::set::set_key` meets its contract: each return is one law of the answer; the edit and the table are what the plan promises.
 -- Assumes nothing.
+use Rattle.room.proofs.Enough.{set-answered}
 use Rattle.settings.proofs.Answers.{call-short, call-kept, edit-fits, edit-length, table-shiftable, call-done}
 use lib.Seq.{length-take-le}
 use mathlib.Core.Path.{sym, _∙_}
@@ -13,8 +14,10 @@ answer-requires c κs = search needs
 returns : tie.Need-returns
 returns c =
     let a = c .before .before .before .before .before .before .args in
+    let e =
     (λ i. (c .answer .ensures i, (a .buf .now, a .table .now)))
-    ∙ call-short (a .buf .now) (a .used) (a .table .now) (a .count) (a .key .now) (a .value .now) (c .before .if1 .taken)
+    ∙ call-short (a .buf .now) (a .used) (a .table .now) (a .count) (a .key .now) (a .value .now) (c .before .if1 .taken) in
+    (e, set-answered (a .buf .now) (a .used) (a .table .now) (a .count) (a .key .now) (a .value .now) e)
 
 slice-reshare-prefix-prepare : tie.Need-slice-reshare-prefix-prepare
 slice-reshare-prefix-prepare c = search needs
@@ -40,8 +43,10 @@ returns-2 : tie.Need-returns-2
 returns-2 c =
     let a = c .before .before .before .before .before .before .before .before .before .before .before .before .args in
     let p = c .before .before .before .before .prepare in
+    let e =
     (λ i. (c .answer2 .ensures i, (a .buf .now, a .table .now)))
-    ∙ call-kept (a .buf .now) (a .used) (a .table .now) (a .count) (a .key .now) (a .value .now) (c .before .before .before .before .before .before .before .if1 .left) (p .result) (p .ensures) (c .before .if2 .taken)
+    ∙ call-kept (a .buf .now) (a .used) (a .table .now) (a .count) (a .key .now) (a .value .now) (c .before .before .before .before .before .before .before .if1 .left) (p .result) (p .ensures) (c .before .if2 .taken) in
+    (e, set-answered (a .buf .now) (a .used) (a .table .now) (a .count) (a .key .now) (a .value .now) e)
 
 splice-pair-requires : tie.Need-splice-pair-requires
 splice-pair-requires c κs =
@@ -74,8 +79,10 @@ returns-3 c =
     let p = c .before .before .before .before .before .before .before .before .before .before .before .before .prepare in
     let s = c .before .before .before .before .before .before .before .splice-pair in
     let t = c .before .before .before .shift-table in
+    let e =
     (λ i. (c .answer3 .ensures i, (s .last .0, t .last .0)))
-    ∙ call-done (a .buf .now) (a .used) (a .table .now) (a .count) (a .key .now) (a .value .now) (c .before .before .before .before .before .before .before .before .before .before .before .before .before .before .before .if1 .left) (p .result) (p .ensures) (c .before .before .before .before .before .before .before .before .before .if2 .left) (s .last .0) (s .ensures) (t .last .0) (t .ensures)
+    ∙ call-done (a .buf .now) (a .used) (a .table .now) (a .count) (a .key .now) (a .value .now) (c .before .before .before .before .before .before .before .before .before .before .before .before .before .before .before .if1 .left) (p .result) (p .ensures) (c .before .before .before .before .before .before .before .before .before .if2 .left) (s .last .0) (s .ensures) (t .last .0) (t .ensures) in
+    (e, set-answered (a .buf .now) (a .used) (a .table .now) (a .count) (a .key .now) (a .value .now) e)
 
 pub set-key-spec : {M : Type 1} → statement M
 set-key-spec =

@@ -8,7 +8,8 @@ use denote.Ref.{now}
 use lib.ListN.{length, getD, drop, length-set}
 use Rattle.format.specs.Writer.{hexLetter, hexOfByte, hexText}
 use Rattle.store.proofs.Runs.{Putting, putting-none, putting-room, putting-more, putting-done, putting-end, set-then}
-use Rattle.store.proofs.HexLaws.{hex-next, hex-over, hex-length}
+use Rattle.format.proofs.Writer.{hex-length}
+use Rattle.store.proofs.HexLaws.{hex-next, hex-over}
 use Rattle.store.proofs.bytes.put_hex_bytes.Statement.{statement}
 use Rattle.store.proofs.bytes.put_hex_bytes.Tie as tie
 

@@ -1,0 +1,200 @@
+-- The room is enough: each part of the statement.
+-- Assumes nothing.
+use mathlib.Core.Path.{_≡_, refl, sym, ap, _∙_, subst}
+use mathlib.Core.Bool.{Bool, true, false, not, _||_}
+use mathlib.Core.List.{List, [], _∷_, _++_}
+use mathlib.Core.Option.{Option, none, some}
+use Prim.Native.Nat.{ℕ, _+_, _≤_}
+use native.Mathlib.Omega.{arith}
+use lib.Dec.{eqb, ltb}
+use lib.IntN.{ℤ}
+use lib.ListN.{length, take}
+use borrow.Author.Tests.{le-ltb, ltb-false}
+use Rattle.format.specs.declared.ReadAnswer.{ReadAnswer}
+use Rattle.format.specs.declared.FindAnswer.{FindAnswer}
+use Rattle.format.specs.declared.ValueAnswer.{ValueAnswer}
+use Rattle.format.specs.declared.WriteAnswer.{WriteAnswer}
+use Rattle.format.specs.declared.SetAnswer.{SetAnswer}
+use Rattle.format.specs.Bytes.{if_then_else_, bytes, isSome, orElse, same, LF, BACKSLASH, over}
+use Rattle.format.specs.Limits.{maxFile, maxHeader, maxLines}
+use Rattle.format.specs.declared.Refusal.{Refusal}
+use Rattle.format.specs.Refusals.{extentTooLarge, lentTooShort, refusal, fine, headerTooLong, tooManyLines, fileTooLong, notInVersion, badKey, badValue, wrongTable}
+use Rattle.format.specs.Lines.{Line, size, unlines, starts}
+use Rattle.format.specs.Pairs.{escape}
+use Rattle.format.specs.Fields.{pairsSince}
+use Rattle.format.specs.Header.{Item, magic, comment, field, pair, closing, Entry, entry, Outcome, refused, accepted, header, versionOf, valueIn, valueOf, tableOf}
+use Rattle.format.specs.Settings.{lent, SetOutcome, kept, changed, keyFine, valueFine, newLines, refilled, tableFine, store, setRead, setKey}
+use Rattle.format.specs.Writer.{fileBytes, writeRefusal}
+use Rattle.format.specs.Calls.{readAnswer, readHeaderCall, withTable, readCall, noPlace, valuePlace, keyPlace, findKeyIn, findKeyCall, copyValue, copyValueIn, copyValueCall, writeAnswer, writeCall, setAnswer, setKeyCall}
+use Rattle.format.proofs.Header.{header-sound}
+use Rattle.format.proofs.Numbered.{NumberedOutcome, header-numbered}
+use Rattle.room.specs.Room.{Enough, writeRoom, Copied, fileSet, HoldsSet, RoomEnough}
+use Rattle.room.proofs.Written.{room-for-file}
+
+-- ---- the reading, with a table or without
+
+reading-numbers : (file : List ℕ) → readHeaderCall file .refusal .number ≤ extentTooLarge
+reading-numbers file = go (header file) (header-numbered file)
+  where
+    go : (o : Outcome) → NumberedOutcome o → readAnswer o .refusal .number ≤ extentTooLarge
+    go (refused r) n = n .1
+    go (accepted es gs ls) n = omega arith
+
+table-enough : (file table : List ℕ) → maxLines ≤ length table → readCall file table .0 ≡ readHeaderCall file
+unfolding withTable
+table-enough file table h = go (header file) refl
+  where
+    go : (o : Outcome) → header file ≡ o → withTable table o .0 ≡ readAnswer o
+    go (refused r) e = refl
+    go (accepted es gs ls) e = rw (le-ltb (length table) (length es) (omega (arith, header-sound file e .few)))
+
+-- ---- the value of a key
+
+-- a text is not longer than it is escaped
+escape-longer : (v : List ℕ) → length v ≤ length (escape v)
+unfolding escape
+escape-longer [] = omega arith
+escape-longer (b ∷ v) = go (eqb b LF) (eqb b BACKSLASH) (escape-longer v)
+  where
+    go : (x y : Bool) → length v ≤ length (escape v)
+        → length (b ∷ v) ≤ length (if x then bytes "\\n" ++ escape v else if y then bytes "\\\\" ++ escape v else b ∷ escape v)
+    go true y h = omega arith
+    go false true h = omega arith
+    go false false h = omega arith
+
+-- what a place says of the value of a key: nothing is found, or a text at least as long as the value
+abbrev Placed : FindAnswer → Option (List ℕ) → Type 0
+Placed p none = p ≡ noPlace fine
+Placed p (some v) = (p .refusal ≡ fine) × (p .found ≡ true) × (length v ≤ p .length)
+
+module _ (k : List ℕ) where
+  placed-in : (at : ℕ) (i : Item) → Placed (if isSome (valueIn k i) then valuePlace at i else noPlace fine) (valueIn k i)
+  placed-in at (magic n) = refl
+  placed-in at comment = refl
+  placed-in at (field f d) = refl
+  placed-in at (pair j v) = go (same k j)
+    where
+      go : (x : Bool) → Placed (if isSome (if x then some v else none) then valuePlace at (pair j v) else noPlace fine) (if x then some v else none)
+      go true = (refl, refl, escape-longer v)
+      go false = refl
+  placed-in at closing = refl
+
+  placed : (at : ℕ) (es : List Entry) → Placed (keyPlace k at es) (valueOf k es)
+  unfolding keyPlace valueOf
+  placed at [] = refl
+  placed at (entry l i ∷ es) = go (valueOf k es) (placed (at + size l) es)
+    where
+      go : (o : Option (List ℕ)) → Placed (keyPlace k (at + size l) es) o
+          → Placed (if isSome o then keyPlace k (at + size l) es else if isSome (valueIn k i) then valuePlace at i else noPlace fine) (orElse o (valueIn k i))
+      go (some v) p = p
+      go none p = placed-in at i
+
+  module _ (buf : List ℕ) where
+    copied : (p : FindAnswer) (o : Option (List ℕ)) → Placed p o → p .length ≤ length buf → Copied p (copyValue buf o .0)
+    copied p none q l = rw q (record { refusal = refl; found = refl; short = omega arith; enough = λ h. omega arith })
+    copied p (some v) q l =
+        rw (le-ltb (length buf) (length v) (omega (arith, q .2))) (record { refusal = sym (q .0); found = sym (q .1); short = q .2; enough = λ h. omega arith })
+
+    value-enough : (file : List ℕ) → findKeyCall file k .length ≤ length buf → Copied (findKeyCall file k) (copyValueCall file k buf .0)
+    value-enough file l = go (header file) (header-numbered file) l
+      where
+        go : (o : Outcome) → NumberedOutcome o → findKeyIn k o .length ≤ length buf → Copied (findKeyIn k o) (copyValueIn k buf o .0)
+        go (refused r) n l = record { refusal = refl; found = refl; short = omega arith; enough = λ h. omega arith }
+        go (accepted es gs ls) n l = copied (keyPlace k 0 es) (valueOf k es) (placed 0 es) l
+
+-- ---- a written file
+
+write-enough : (version : ℕ) (sizes : List ℕ) (t e endian : ℕ) (zs : List ℤ) (out : List ℕ) → writeRoom (length zs) ≤ length out → Enough (writeCall version sizes t e endian zs out .0 .refusal)
+write-enough version sizes t e endian zs out l =
+    go (writeRefusal version sizes t e endian zs (length out)) (room-for-file version sizes t e endian zs (length out) l)
+  where
+    go : (n : ℕ) → (n ≡ lentTooShort → ⊥) → Enough (writeAnswer n (fileBytes version sizes t e endian zs) out .0 .refusal)
+    go n h = by (eqb n 0) refl
+      where
+        by : (b : Bool) → eqb n 0 ≡ b → Enough (writeAnswer n (fileBytes version sizes t e endian zs) out .0 .refusal)
+        by true q = rw q (λ z. omega arith)
+        by false q = rw q h
+
+-- ---- a setting
+
+-- the outcome is not refused for what is lent
+abbrev Fits : SetOutcome → Type 0
+Fits (kept r) = Enough r
+Fits (changed l) = Unit {0}
+
+fits-unless : (x : Bool) (r : Refusal) (s : SetOutcome) → Enough r → Fits s → Fits (if x then kept r else s)
+fits-unless true r s h f = h
+fits-unless false r s h f = f
+
+module _ (buf : List ℕ) (used : ℕ) (table : List ℕ) (room : maxLines ≤ length table) where
+  store-fits : (ls : List Line) (rest : List ℕ) → length (unlines ls ++ rest) ≤ length buf → Fits (store buf used table ls rest)
+  unfolding store
+  store-fits ls rest h = go (ltb maxHeader (length (unlines ls))) (ltb maxLines (length ls)) refl (ltb maxFile (length (unlines ls ++ rest)))
+    where
+      done : SetOutcome
+      done = changed (lent (refilled buf used (unlines ls ++ rest)) (length (unlines ls ++ rest)) (over (starts 0 ls) table) (length ls))
+
+      go : (a b : Bool) → ltb maxLines (length ls) ≡ b → (c : Bool)
+          → Fits (if a then kept (refusal headerTooLong) else if b then kept (refusal tooManyLines) else if c then kept (refusal fileTooLong)
+          else if ltb (length buf) (length (unlines ls ++ rest)) || ltb (length table) (length ls) then kept (refusal lentTooShort) else done)
+      go true b q c = λ e. omega arith
+      go false true q c = λ e. omega arith
+      go false false q true = λ e. omega arith
+      go false false q false =
+          rw (le-ltb (length buf) (length (unlines ls ++ rest)) h, le-ltb (length table) (length ls) (omega (arith, ltb-false maxLines (length ls) q))) tt
+
+  module _ (count : ℕ) (k v : List ℕ) where
+    read-fits : (o : Outcome) → NumberedOutcome o → length (fileSet k v o) ≤ length buf → Fits (setRead buf used table count k v o)
+    unfolding setRead
+    read-fits (refused r) n h = λ e. omega arith
+    read-fits (accepted es gs ls) n h =
+        fits-unless (ltb (versionOf es) pairsSince) (refusal notInVersion) _ (λ e. omega arith)
+        (fits-unless (not (keyFine k)) (refusal badKey) _ (λ e. omega arith)
+        (fits-unless (not (valueFine v)) (refusal badValue) _ (λ e. omega arith)
+        (fits-unless (not (tableFine table count (tableOf es))) (refusal wrongTable) _ (λ e. omega arith)
+        (store-fits (newLines k v es) (unlines ls) h))))
+
+    set-enough : HoldsSet buf used k v → Enough (setKeyCall buf used table count k v .0 .refusal)
+    unfolding setKey
+    set-enough h =
+        rw (le-ltb (length buf) used (h .0)) (go (setRead buf used table count k v (header (take used buf))) (read-fits (header (take used buf)) (header-numbered (take used buf)) (h .1)))
+      where
+        go : (s : SetOutcome) → Fits s → Enough (setAnswer buf used table count s .0 .refusal)
+        go (kept r) f = f
+        go (changed (lent b u t c)) f = λ e. omega arith
+
+-- ---- the statement, and its parts of an answer that is the call's
+
+pub room-enough : RoomEnough
+room-enough =
+    record {
+      reading-numbers = reading-numbers;
+      table-enough = table-enough;
+      value-enough = λ file k buf. value-enough k buf file;
+      write-enough = write-enough;
+      set-enough = λ buf used table count k v r. set-enough buf used table r count k v;
+    }
+
+-- an answer with this refusal is refused for what is lent only if the other is
+pub same-refusal : {a b : Refusal} → a ≡ b → Enough b → Enough a
+same-refusal e h q = h (sym (ap (λ (r : Refusal). r .number) e) ∙ q)
+
+pub read-answered : (file table : List ℕ) {a : ReadAnswer} {after : List ℕ} → _≡_ {A = ReadAnswer × List ℕ} (a, after) (readCall file table)
+    → maxLines ≤ length table → (a ≡ readHeaderCall file) × Enough (a .refusal)
+read-answered file table {a} e h =
+    let r : a ≡ readHeaderCall file = ap (λ (x : ReadAnswer × List ℕ). x .0) e ∙ table-enough file table h in
+    (r, same-refusal (ap (λ (x : ReadAnswer). x .refusal) r) (λ q. omega (arith, reading-numbers file)))
+
+pub value-answered : (file k buf : List ℕ) {a : ValueAnswer} {after : List ℕ} → _≡_ {A = ValueAnswer × List ℕ} (a, after) (copyValueCall file k buf)
+    → findKeyCall file k .length ≤ length buf → Copied (findKeyCall file k) a
+value-answered file k buf e h = subst (Copied (findKeyCall file k)) (sym (ap (λ (x : ValueAnswer × List ℕ). x .0) e)) (value-enough k buf file h)
+
+pub write-answered : (version : ℕ) (sizes : List ℕ) (t e endian : ℕ) (zs : List ℤ) (out : List ℕ) {a : WriteAnswer} {after : List ℕ}
+    → _≡_ {A = WriteAnswer × List ℕ} (a, after) (writeCall version sizes t e endian zs out) → writeRoom (length zs) ≤ length out → Enough (a .refusal)
+write-answered version sizes t e endian zs out q h =
+    same-refusal (ap (λ (x : WriteAnswer × List ℕ). x .0 .refusal) q) (write-enough version sizes t e endian zs out h)
+
+pub set-answered : (buf : List ℕ) (used : ℕ) (table : List ℕ) (count : ℕ) (k v : List ℕ) {a : SetAnswer} {after : List ℕ × List ℕ}
+    → _≡_ {A = SetAnswer × (List ℕ × List ℕ)} (a, after) (setKeyCall buf used table count k v) → maxLines ≤ length table → HoldsSet buf used k v → Enough (a .refusal)
+set-answered buf used table count k v q r h =
+    same-refusal (ap (λ (x : SetAnswer × (List ℕ × List ℕ)). x .0 .refusal) q) (set-enough buf used table r count k v h)
