@@ -162,7 +162,7 @@ read-refused : (file table : List ℕ) (r : Refusal) → header file ≡ refused
 unfolding withTable
 read-refused file table r e h =
     let q : r .number ≡ 0 = sym (ap (λ (o : Outcome). withTable (numbersOf entryBytes table) o .0 .refusal .number) e) ∙ h in
-    let l : 0 < r .number = subst NumberedOutcome e (header-numbered file) in
+    let l : 0 < r .number = subst NumberedOutcome e (header-numbered file) .0 in
     omega arith
 
 -- ---- what is carried

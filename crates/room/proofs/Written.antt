@@ -104,4 +104,4 @@ module _ (version : ℕ) (ns : List ℕ) (t e n : ℕ) (zs : List ℤ) where
   pub room-for-file : (room : ℕ) → writeRoom (length zs) ≤ room → writeRefusal version ns t e n zs room ≡ lentTooShort → ⊥
   room-for-file room l h =
       let s = short-of room h in
-      omega (arith, s .0, file-bound (accepted-is version ns t e n zs (length file) (s .1)))
+      omega (arith, s .0, file-bound (accepted-is version ns t e n zs (length file) (s .1) .0))
