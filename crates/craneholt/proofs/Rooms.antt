@@ -9,18 +9,17 @@ use borrow.Author.Tests.{le-ltb}
 use Rattle.format.specs.declared.ReadAnswer.{ReadAnswer}
 use Rattle.format.specs.declared.WriteAnswer.{WriteAnswer}
 use Rattle.format.specs.declared.SetAnswer.{SetAnswer}
-use Rattle.format.specs.Limits.{maxLines}
 use Rattle.format.specs.Boundary.{entryBytes, numbersOf}
 use Rattle.format.specs.Calls.{readHeaderCall, readCall, setKeyCall}
 use Rattle.format.specs.EntryPoints.{readEntry, setKeyEntry}
 use Rattle.format.specs.Listing.{listing}
-use Rattle.room.specs.Room.{Enough, tableRoom, HoldsSet}
+use Rattle.room.specs.Room.{Enough, tableEntries, tableRoom, HoldsSet}
 use Rattle.room.proofs.Enough.{same-refusal, read-answered, set-answered}
 use Rattle.words.proofs.Groups.{length-numbers}
 use Rattle.describe.specs.Shown.{maxListing, listingCall}
 
 -- the entries of such a table
-many-entries : (table : List ℕ) → tableRoom ≤ length table → maxLines ≤ length (numbersOf entryBytes table)
+many-entries : (table : List ℕ) → tableRoom ≤ length table → tableEntries ≤ length (numbersOf entryBytes table)
 many-entries table h = omega (arith, length-numbers entryBytes table)
 
 pub read-room : (file table : List ℕ) {a : ReadAnswer} {after : List ℕ} → _≡_ {A = ReadAnswer × List ℕ} (a, after) (readEntry file table)

@@ -24,7 +24,7 @@ ghost use Rattle.format.specs.Found.{FindsField, FindsKey};
 ghost use Rattle.format.specs.EntryPoints.{readEntry, samplesEntry, sampleNumberEntry, writeEntry, setKeyEntry};
 ghost use Rattle.format.specs.Listing.{listingCall};
 ghost use Rattle.describe.specs.Shown.{maxListing};
-ghost use Rattle.room.specs.Room.{Enough, tableRoom, writeRoom, Copied, HoldsSet};
+ghost use Rattle.room.specs.Room.{Enough, tableRoom, writeRoom, valueRoom, Copied, HoldsSet};
 
 // How many entries a table of so many bytes has, at most 1,024: no header has more lines.
 fn room_of(bytes: usize) -> usize
@@ -79,7 +79,7 @@ pub extern "C" fn craneholt_find_key(file: &[u8], key: &[u8]) -> FindAnswer
 #[no_mangle]
 pub extern "C" fn craneholt_copy_value(file: &[u8], key: &[u8], out: &mut [u8]) -> ValueAnswer
     ensures call { λ r. ⌜ _≡_ {A = ValueAnswer × List ℕ} (r, now (out .exit)) (copyValueCall (now (file .entry)) (now (key .entry)) (now (out .entry))) ⌝ }
-    ensures enough { λ r. ⌜ (findKeyCall (now (file .entry)) (now (key .entry)) .length ≤ length (now (out .entry)) → Copied (findKeyCall (now (file .entry)) (now (key .entry))) r) ⌝ }
+    ensures enough { λ r. ⌜ (valueRoom (findKeyCall (now (file .entry)) (now (key .entry))) ≤ length (now (out .entry)) → Copied (findKeyCall (now (file .entry)) (now (key .entry))) r) ⌝ }
 {
     lookup::keys::copy_value(file, key, out)
 }

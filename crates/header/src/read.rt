@@ -7,12 +7,12 @@ ghost use Prim.Native.Nat.{ℕ, _≤_};
 ghost use lib.ListN.{length, drop};
 ghost use Rattle.format.specs.declared.ReadAnswer.{ReadAnswer};
 ghost use Rattle.format.specs.Bytes.{orDefault};
-ghost use Rattle.format.specs.Limits.{maxHeader, maxLines};
+ghost use Rattle.format.specs.Limits.{maxHeader};
 ghost use Rattle.format.specs.Lines.{lines};
 ghost use Rattle.format.specs.Header.{magicVersion, walk};
 ghost use Rattle.format.specs.Calls.{readHeaderCall, readCall};
 ghost use Rattle.fields.specs.States.{answerFrom};
-ghost use Rattle.room.specs.Room.{Enough};
+ghost use Rattle.room.specs.Room.{Enough, tableEntries};
 
 // The version of a magic, 0 for any other text.
 fn magic_version(t: &[u8]) -> u32
@@ -105,7 +105,7 @@ pub fn read_header(file: &[u8]) -> ReadAnswer
 // The reading of a file's header, and where each of its lines starts, at the front of the table. 1,024 entries are enough for any file.
 pub fn read(file: &[u8], table: &mut [u32]) -> ReadAnswer
     ensures call { λ r. ⌜ _≡_ {A = ReadAnswer × List ℕ} (r, now (table .exit)) (readCall (now (file .entry)) (now (table .entry))) ⌝ }
-    ensures enough { λ r. ⌜ (maxLines ≤ length (now (table .entry)) → (r ≡ readHeaderCall (now (file .entry))) × Enough (r .refusal)) ⌝ }
+    ensures enough { λ r. ⌜ (tableEntries ≤ length (now (table .entry)) → (r ≡ readHeaderCall (now (file .entry))) × Enough (r .refusal)) ⌝ }
 {
     let answer = read_header(file);
     if answer.refusal.number != 0 {

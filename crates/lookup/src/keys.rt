@@ -14,7 +14,7 @@ ghost use Rattle.format.specs.Header.{Item, header};
 ghost use Rattle.format.specs.Calls.{noPlace, findKeyCall, copyValueCall};
 ghost use Rattle.format.specs.Found.{FindsKey};
 ghost use Rattle.header.specs.Accepted.{Headed, IsItem};
-ghost use Rattle.room.specs.Room.{Copied};
+ghost use Rattle.room.specs.Room.{valueRoom, Copied};
 ghost use Rattle.lookup.specs.Lookup.{keyThen, latestOf, KeyLeft};
 
 // The place of the key's value in a line, which starts at `at`; `none` where the line has no value for it.
@@ -99,7 +99,7 @@ pub fn find_key(file: &[u8], key: &[u8]) -> FindAnswer
 // Writes the value of a key to the front of `out`, escapes resolved. Where `out` is too short nothing is written; the length that `find_key` tells is enough.
 pub fn copy_value(file: &[u8], key: &[u8], out: &mut [u8]) -> ValueAnswer
     ensures call { λ r. ⌜ _≡_ {A = ValueAnswer × List ℕ} (r, now (out .exit)) (copyValueCall (now (file .entry)) (now (key .entry)) (now (out .entry))) ⌝ }
-    ensures enough { λ r. ⌜ (findKeyCall (now (file .entry)) (now (key .entry)) .length ≤ length (now (out .entry)) → Copied (findKeyCall (now (file .entry)) (now (key .entry))) r) ⌝ }
+    ensures enough { λ r. ⌜ (valueRoom (findKeyCall (now (file .entry)) (now (key .entry))) ≤ length (now (out .entry)) → Copied (findKeyCall (now (file .entry)) (now (key .entry))) r) ⌝ }
 {
     let place = find_key(file, key);
     let refusal = place.refusal;

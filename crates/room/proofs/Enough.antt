@@ -28,7 +28,7 @@ use Rattle.format.specs.Writer.{fileBytes, writeRefusal}
 use Rattle.format.specs.Calls.{readAnswer, readHeaderCall, withTable, readCall, noPlace, valuePlace, keyPlace, findKeyIn, findKeyCall, copyValue, copyValueIn, copyValueCall, writeAnswer, writeCall, setAnswer, setKeyCall}
 use Rattle.format.proofs.Header.{header-sound}
 use Rattle.format.proofs.Numbered.{NumberedOutcome, header-numbered}
-use Rattle.room.specs.Room.{Enough, writeRoom, Copied, fileSet, HoldsSet, RoomEnough}
+use Rattle.room.specs.Room.{Enough, tableEntries, writeRoom, valueRoom, Copied, setRoom, HoldsSet, RoomEnough}
 use Rattle.room.proofs.Written.{room-for-file}
 
 -- ---- the reading, with a table or without
@@ -40,7 +40,7 @@ reading-numbers file = go (header file) (header-numbered file)
     go (refused r) n = n .1
     go (accepted es gs ls) n = omega arith
 
-table-enough : (file table : List ℕ) → maxLines ≤ length table → readCall file table .0 ≡ readHeaderCall file
+table-enough : (file table : List ℕ) → tableEntries ≤ length table → readCall file table .0 ≡ readHeaderCall file
 unfolding withTable
 table-enough file table h = go (header file) refl
   where
@@ -90,15 +90,15 @@ module _ (k : List ℕ) where
       go none p = placed-in at i
 
   module _ (buf : List ℕ) where
-    copied : (p : FindAnswer) (o : Option (List ℕ)) → Placed p o → p .length ≤ length buf → Copied p (copyValue buf o .0)
+    copied : (p : FindAnswer) (o : Option (List ℕ)) → Placed p o → valueRoom p ≤ length buf → Copied p (copyValue buf o .0)
     copied p none q l = rw q (record { refusal = refl; found = refl; short = omega arith; enough = λ h. omega arith })
     copied p (some v) q l =
         rw (le-ltb (length buf) (length v) (omega (arith, q .2))) (record { refusal = sym (q .0); found = sym (q .1); short = q .2; enough = λ h. omega arith })
 
-    value-enough : (file : List ℕ) → findKeyCall file k .length ≤ length buf → Copied (findKeyCall file k) (copyValueCall file k buf .0)
+    value-enough : (file : List ℕ) → valueRoom (findKeyCall file k) ≤ length buf → Copied (findKeyCall file k) (copyValueCall file k buf .0)
     value-enough file l = go (header file) (header-numbered file) l
       where
-        go : (o : Outcome) → NumberedOutcome o → findKeyIn k o .length ≤ length buf → Copied (findKeyIn k o) (copyValueIn k buf o .0)
+        go : (o : Outcome) → NumberedOutcome o → valueRoom (findKeyIn k o) ≤ length buf → Copied (findKeyIn k o) (copyValueIn k buf o .0)
         go (refused r) n l = record { refusal = refl; found = refl; short = omega arith; enough = λ h. omega arith }
         go (accepted es gs ls) n l = copied (keyPlace k 0 es) (valueOf k es) (placed 0 es) l
 
@@ -126,7 +126,7 @@ fits-unless : (x : Bool) (r : Refusal) (s : SetOutcome) → Enough r → Fits s 
 fits-unless true r s h f = h
 fits-unless false r s h f = f
 
-module _ (buf : List ℕ) (used : ℕ) (table : List ℕ) (room : maxLines ≤ length table) where
+module _ (buf : List ℕ) (used : ℕ) (table : List ℕ) (room : tableEntries ≤ length table) where
   store-fits : (ls : List Line) (rest : List ℕ) → length (unlines ls ++ rest) ≤ length buf → Fits (store buf used table ls rest)
   unfolding store
   store-fits ls rest h = go (ltb maxHeader (length (unlines ls))) (ltb maxLines (length ls)) refl (ltb maxFile (length (unlines ls ++ rest)))
@@ -144,7 +144,7 @@ module _ (buf : List ℕ) (used : ℕ) (table : List ℕ) (room : maxLines ≤ l
           rw (le-ltb (length buf) (length (unlines ls ++ rest)) h, le-ltb (length table) (length ls) (omega (arith, ltb-false maxLines (length ls) q))) tt
 
   module _ (count : ℕ) (k v : List ℕ) where
-    read-fits : (o : Outcome) → NumberedOutcome o → length (fileSet k v o) ≤ length buf → Fits (setRead buf used table count k v o)
+    read-fits : (o : Outcome) → NumberedOutcome o → setRoom k v o ≤ length buf → Fits (setRead buf used table count k v o)
     unfolding setRead
     read-fits (refused r) n h = λ e. omega arith
     read-fits (accepted es gs ls) n h =
@@ -152,7 +152,7 @@ module _ (buf : List ℕ) (used : ℕ) (table : List ℕ) (room : maxLines ≤ l
         (fits-unless (not (keyFine k)) (refusal badKey) _ (λ e. omega arith)
         (fits-unless (not (valueFine v)) (refusal badValue) _ (λ e. omega arith)
         (fits-unless (not (tableFine table count (tableOf es))) (refusal wrongTable) _ (λ e. omega arith)
-        (store-fits (newLines k v es) (unlines ls) h))))
+        (store-fits (newLines k v es) (unlines ls) (omega (arith, h))))))
 
     set-enough : HoldsSet buf used k v → Enough (setKeyCall buf used table count k v .0 .refusal)
     unfolding setKey
@@ -180,13 +180,13 @@ pub same-refusal : {a b : Refusal} → a ≡ b → Enough b → Enough a
 same-refusal e h q = h (sym (ap (λ (r : Refusal). r .number) e) ∙ q)
 
 pub read-answered : (file table : List ℕ) {a : ReadAnswer} {after : List ℕ} → _≡_ {A = ReadAnswer × List ℕ} (a, after) (readCall file table)
-    → maxLines ≤ length table → (a ≡ readHeaderCall file) × Enough (a .refusal)
+    → tableEntries ≤ length table → (a ≡ readHeaderCall file) × Enough (a .refusal)
 read-answered file table {a} e h =
     let r : a ≡ readHeaderCall file = ap (λ (x : ReadAnswer × List ℕ). x .0) e ∙ table-enough file table h in
     (r, same-refusal (ap (λ (x : ReadAnswer). x .refusal) r) (λ q. omega (arith, reading-numbers file)))
 
 pub value-answered : (file k buf : List ℕ) {a : ValueAnswer} {after : List ℕ} → _≡_ {A = ValueAnswer × List ℕ} (a, after) (copyValueCall file k buf)
-    → findKeyCall file k .length ≤ length buf → Copied (findKeyCall file k) a
+    → valueRoom (findKeyCall file k) ≤ length buf → Copied (findKeyCall file k) a
 value-answered file k buf e h = subst (Copied (findKeyCall file k)) (sym (ap (λ (x : ValueAnswer × List ℕ). x .0) e)) (value-enough k buf file h)
 
 pub write-answered : (version : ℕ) (sizes : List ℕ) (t e endian : ℕ) (zs : List ℤ) (out : List ℕ) {a : WriteAnswer} {after : List ℕ}
@@ -195,6 +195,6 @@ write-answered version sizes t e endian zs out q h =
     same-refusal (ap (λ (x : WriteAnswer × List ℕ). x .0 .refusal) q) (write-enough version sizes t e endian zs out h)
 
 pub set-answered : (buf : List ℕ) (used : ℕ) (table : List ℕ) (count : ℕ) (k v : List ℕ) {a : SetAnswer} {after : List ℕ × List ℕ}
-    → _≡_ {A = SetAnswer × (List ℕ × List ℕ)} (a, after) (setKeyCall buf used table count k v) → maxLines ≤ length table → HoldsSet buf used k v → Enough (a .refusal)
+    → _≡_ {A = SetAnswer × (List ℕ × List ℕ)} (a, after) (setKeyCall buf used table count k v) → tableEntries ≤ length table → HoldsSet buf used k v → Enough (a .refusal)
 set-answered buf used table count k v q r h =
     same-refusal (ap (λ (x : SetAnswer × (List ℕ × List ℕ)). x .0 .refusal) q) (set-enough buf used table r count k v h)

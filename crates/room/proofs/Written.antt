@@ -31,30 +31,31 @@ module _ (w : ℕ) (narrow : w ≤ 8) where
   small : 256 ^ w ≤ 256 ^ 8
   small = pow-le-pow-right {n = 256} (lit< tt) narrow
 
-  -- a sample of a type has at most 21 bytes
-  few-bytes : (k : NumberKind) (z : ℤ) → inType k w z ≡ true → length (signedDecimal z) ≤ 21
+  -- a sample of a type is written with at most a sign and 19 digits
+  few-bytes : (k : NumberKind) (z : ℤ) → inType k w z ≡ true → length (signedDecimal z) ≤ 20
   unfolding inType
-  few-bytes k (pos n) e = omega (arith, digits-few n 19 (under k (leb-true n (highest k w) e)))
+  few-bytes k (pos n) e = omega (arith, digits-few n 18 (under k (leb-true n (highest k w) e)))
     where
-      under : (k : NumberKind) → n ≤ highest k w → n < 10 ^ 20
+      under : (k : NumberKind) → n ≤ highest k w → n < 10 ^ 19
       under signed h = omega (arith, small)
       under unsigned h = omega arith
       under floating h = omega arith
-  few-bytes k (negsuc n) e = omega (arith, digits-few (suc n) 19 (under k (ltb-true n (lowest k w) e)))
+  few-bytes k (negsuc n) e = omega (arith, digits-few (suc n) 18 (under k (ltb-true n (lowest k w) e)))
     where
-      under : (k : NumberKind) → n < lowest k w → suc n < 10 ^ 20
+      under : (k : NumberKind) → n < lowest k w → suc n < 10 ^ 19
       under signed h = omega (arith, small)
       under unsigned h = absurd (omega arith)
       under floating h = absurd (omega arith)
 
-  pub text-bound : (k : NumberKind) (zs : List ℤ) → allInType k w zs ≡ true → length (textData zs) ≤ 22 * length zs
+  -- and a line of text takes one byte more
+  pub text-bound : (k : NumberKind) (zs : List ℤ) → allInType k w zs ≡ true → length (textData zs) ≤ 21 * length zs
   unfolding textData allInType
   text-bound k [] e = omega arith
   text-bound k (z ∷ zs) e =
       omega (arith, length-append (signedDecimal z) (LF ∷ textData zs), few-bytes k z (and-left (inType k w z) (allInType k w zs) e), text-bound k zs (and-right (inType k w z) (allInType k w zs) e))
 
   -- in every encoding
-  data-bound : (encoding : ℕ) (k : NumberKind) (endian : ℕ) (zs : List ℤ) → allInType k w zs ≡ true → length (dataBytes encoding w endian zs) ≤ 1 + 22 * length zs
+  data-bound : (encoding : ℕ) (k : NumberKind) (endian : ℕ) (zs : List ℤ) → allInType k w zs ≡ true → length (dataBytes encoding w endian zs) ≤ 1 + 21 * length zs
   unfolding dataBytes
   data-bound encoding k endian zs e =
       let r = raw-length w endian zs in
@@ -62,7 +63,7 @@ module _ (w : ℕ) (narrow : w ≤ 8) where
       go (eqb encoding raw) (eqb encoding asText) r m
     where
       go : (a b : Bool) → length (rawData w endian zs) ≡ length zs * w → length zs * w ≤ length zs * 8
-          → length (if a then rawData w endian zs else if b then textData zs else hexText (rawData w endian zs) ++ LF ∷ []) ≤ 1 + 22 * length zs
+          → length (if a then rawData w endian zs else if b then textData zs else hexText (rawData w endian zs) ++ LF ∷ []) ≤ 1 + 21 * length zs
       go true b r m = omega arith
       go false true r m = omega (arith, text-bound k zs e)
       go false false r m = simp length-append (omega (arith, hex-length (rawData w endian zs)))

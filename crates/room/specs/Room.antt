@@ -2,7 +2,7 @@
 -- refusal 22 only where what is lent is too short ("Numbers of refusal"). Each call's contract says its own part of it.
 use Prim.Native.Nat.{ℕ, _+_, _*_, _≤_}
 use mathlib.Core.Path.{_≡_}
-use mathlib.Core.List.{List, [], _++_}
+use mathlib.Core.List.{List, _++_}
 use lib.IntN.{ℤ}
 use lib.ListN.{length, take}
 use Rattle.format.specs.declared.Refusal.{Refusal}
@@ -22,9 +22,13 @@ Enough r = r .number ≡ lentTooShort → ⊥
 
 -- ---- a table
 
--- the bytes of a table for C with an entry for each line that a header can have
+-- entries for the lines of a header: there are never more
+abbrev pub tableEntries : ℕ
+tableEntries = maxLines
+
+-- the bytes that such a table has in C
 abbrev pub tableRoom : ℕ
-tableRoom = maxLines * entryBytes
+tableRoom = tableEntries * entryBytes
 
 -- ---- a written file
 
@@ -32,7 +36,7 @@ tableRoom = maxLines * entryBytes
 abbrev pub headerRoom : ℕ
 headerRoom = 512
 
--- bytes for a sample: text is the longest, with a sign, the digits and LF
+-- bytes for a sample: the longest, in text, are 21, a sign, 19 digits and LF
 abbrev pub sampleRoom : ℕ
 sampleRoom = 22
 
@@ -42,7 +46,11 @@ writeRoom n = headerRoom + sampleRoom * n
 
 -- ---- a value
 
--- the value of a key whose text has the place p is copied: it is found as its text is, and is not longer
+-- bytes for the value of a key, where p is the place of its text that `find_key` tells: as many as the text has
+abbrev pub valueRoom : FindAnswer → ℕ
+valueRoom p = p .length
+
+-- the value of that key is copied: it is found as its text is, and is not longer
 pub record Copied (p : FindAnswer) (a : ValueAnswer) : Type 0 where
   pub refusal : a .refusal ≡ p .refusal
   pub found : a .found ≡ p .found
@@ -51,25 +59,25 @@ pub record Copied (p : FindAnswer) (a : ValueAnswer) : Type 0 where
 
 -- ---- a setting
 
--- the file with this reading once its key k has the value v
-abbrev pub fileSet : List ℕ → List ℕ → Outcome → List ℕ
-fileSet k v (refused r) = []
-fileSet k v (accepted es gs ls) = unlines (newLines k v es) ++ unlines ls
+-- bytes for the file with this reading once its key k has the value v
+abbrev pub setRoom : List ℕ → List ℕ → Outcome → ℕ
+setRoom k v (refused r) = 0
+setRoom k v (accepted es gs ls) = length (unlines (newLines k v es) ++ unlines ls)
 
 -- the buffer has room for the file in its first `used` bytes, and for that file once k has the value v
 abbrev pub HoldsSet : List ℕ → ℕ → List ℕ → List ℕ → Type 0
-HoldsSet buf used k v = (used ≤ length buf) × (length (fileSet k v (header (take used buf))) ≤ length buf)
+HoldsSet buf used k v = (used ≤ length buf) × (setRoom k v (header (take used buf)) ≤ length buf)
 
 -- ---- THE STATEMENT
 
 pub record RoomEnough : Type 0 where
   -- a reading's refusals end at 15, so that 22 is never one of them
   pub reading-numbers : (file : List ℕ) → readHeaderCall file .refusal .number ≤ extentTooLarge
-  -- with an entry for each line that a header can have, the reading with the table answers as the one without it
-  pub table-enough : (file table : List ℕ) → maxLines ≤ length table → readCall file table .0 ≡ readHeaderCall file
+  -- with so many entries the reading with the table answers as the one without it
+  pub table-enough : (file table : List ℕ) → tableEntries ≤ length table → readCall file table .0 ≡ readHeaderCall file
   -- the length that `find_key` tells is enough for the value
-  pub value-enough : (file k buf : List ℕ) → findKeyCall file k .length ≤ length buf → Copied (findKeyCall file k) (copyValueCall file k buf .0)
+  pub value-enough : (file k buf : List ℕ) → valueRoom (findKeyCall file k) ≤ length buf → Copied (findKeyCall file k) (copyValueCall file k buf .0)
   -- a file of these samples
   pub write-enough : (version : ℕ) (sizes : List ℕ) (t e endian : ℕ) (zs : List ℤ) (out : List ℕ) → writeRoom (length zs) ≤ length out → Enough (writeCall version sizes t e endian zs out .0 .refusal)
   -- no setting is refused for such a table
-  pub set-enough : (buf : List ℕ) (used : ℕ) (table : List ℕ) (count : ℕ) (k v : List ℕ) → maxLines ≤ length table → HoldsSet buf used k v → Enough (setKeyCall buf used table count k v .0 .refusal)
+  pub set-enough : (buf : List ℕ) (used : ℕ) (table : List ℕ) (count : ℕ) (k v : List ℕ) → tableEntries ≤ length table → HoldsSet buf used k v → Enough (setKeyCall buf used table count k v .0 .refusal)

@@ -6,9 +6,8 @@ ghost use mathlib.Core.List.{List};
 ghost use Prim.Native.Nat.{ℕ, _≤_};
 ghost use lib.ListN.{length};
 ghost use Rattle.format.specs.declared.SetAnswer.{SetAnswer};
-ghost use Rattle.format.specs.Limits.{maxLines};
 ghost use Rattle.format.specs.Calls.{setKeyCall};
-ghost use Rattle.room.specs.Room.{Enough, HoldsSet};
+ghost use Rattle.room.specs.Room.{Enough, tableEntries, HoldsSet};
 
 // The answer of a file of so many bytes and header lines.
 fn answer(refusal: Refusal, length: usize, count: usize) -> SetAnswer
@@ -32,7 +31,7 @@ pub fn set_key(
     value: &[u8],
 ) -> SetAnswer
     ensures call { λ r. ⌜ _≡_ {A = SetAnswer × (List ℕ × List ℕ)} (r, (now (buf .exit), now (table .exit))) (setKeyCall (now (buf .entry)) used (now (table .entry)) count (now (key .entry)) (now (value .entry))) ⌝ }
-    ensures enough { λ r. ⌜ (maxLines ≤ length (now (table .entry)) → HoldsSet (now (buf .entry)) used (now (key .entry)) (now (value .entry)) → Enough (r .refusal)) ⌝ }
+    ensures enough { λ r. ⌜ (tableEntries ≤ length (now (table .entry)) → HoldsSet (now (buf .entry)) used (now (key .entry)) (now (value .entry)) → Enough (r .refusal)) ⌝ }
 {
     let room = buf.len();
     if room < used {

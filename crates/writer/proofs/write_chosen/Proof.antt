@@ -51,7 +51,7 @@ file-refusal-requires c κs =
     let w = c .width-of in
     let r = e .ensures .1 z in
     let t : allInType (numberKind (a .sampletype)) (w .result) zs ≡ true = rw (w .ensures .0) (r .in-type) in
-    ((h .ensures .1, few-samples (a .version) (now (a .sizes)) (a .sampletype) (a .encoding) (a .endian) zs r, omega (arith, r .extent-small, ap (λ (k : ℕ). length zs * k) (w .ensures .0))), text-bound (w .result) (width-le (w .result) (w .ensures .1)) (numberKind (a .sampletype)) zs t)
+    ((h .ensures .1, few-samples (a .version) (now (a .sizes)) (a .sampletype) (a .encoding) (a .endian) zs r, omega (arith, r .extent-small, ap (λ (k : ℕ). length zs * k) (w .ensures .0))), omega (arith, text-bound (w .result) (width-le (w .result) (w .ensures .1)) (numberKind (a .sampletype)) zs t))
 
 answer-requires-2 : tie.Need-answer-requires-2
 answer-requires-2 c κs = search needs
