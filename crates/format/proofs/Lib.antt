@@ -13,9 +13,6 @@ pub mod Boundary
 pub mod Writer
 pub mod Descriptors
 pub mod Found
-pub mod Starred
-pub mod Listed
-pub mod FindTrials
-pub mod Acceptance
+pub mod Trials
 pub mod AtLimits
 pub mod Believable

@@ -6,7 +6,7 @@ use Rattle.format.specs.declared.FindAnswer.{FindAnswer}
 use Rattle.format.specs.Bytes.{bytes, LF}
 use Rattle.format.specs.Refusals.{atLine, fine}
 use Rattle.format.specs.Calls.{noPlace, foundAt, findFieldCall, findKeyCall}
-use Rattle.format.specs.Trials.{Trial, trial, Hold, texts, fileS, mostOfS}
+use Rattle.format.specs.Trials.{Trial, trial, Hold, texts, wholeS, fileS}
 
 -- ---- files
 
@@ -41,7 +41,7 @@ crlfFile =
 
 -- S as version 1: its first pair, line 8, is refused
 abbrev pub refusedFile : List ℕ
-refusedFile = mostOfS "NRRD0001" "utc offset:=37"
+refusedFile = wholeS "NRRD0001" "utc offset:=37"
 
 abbrev pub refusedThere : FindAnswer
 refusedThere = record { refusal = atLine 8 8; found = false; start = 0; length = 0 }

@@ -15,9 +15,10 @@ pub mod Calls
 pub mod Listing
 pub mod Found
 pub mod Trials
-pub mod ListingTrials
-pub mod FindTrials
 pub mod AcceptanceTrials
+pub mod FindTrials
+pub mod ListingTrials
+pub mod FurtherTrials
 pub mod Boundary
 pub mod EntryPoints
 pub mod Rules

@@ -1,11 +1,9 @@
 // The NRRD format: its limits and numbers by name, and the values that answers are made of.
 // What is right is said in specs/; the laws that make it believable are in proofs/.
 ghost use mathlib.Core.Path.{_≡_};
-ghost use Rattle.format.specs.FindTrials.{FindTrials};
-ghost use Rattle.format.specs.AcceptanceTrials.{AcceptanceTrials};
+ghost use Rattle.format.specs.FurtherTrials.{FurtherTrials};
 ghost use Rattle.format.specs.Laws.{Laws};
 ghost use Rattle.format.specs.Limits.{limits};
-ghost use Rattle.format.specs.ListingTrials.{ListingTrials};
 ghost use Rattle.format.specs.Refusals.{refusalNumbers};
 ghost use Rattle.format.specs.Trials.{StarredTrials};
 
@@ -277,23 +275,9 @@ pub fn starred_trials() -> u64
     0
 }
 
-// What the listing prints for S and for files like it.
-pub fn listing_trials() -> u64
-    ensures { λ r. ⌜ ListingTrials ⌝ }
-{
-    0
-}
-
-// The trials of the look-ups hold of the definitions.
-pub fn find_trials() -> u64
-    ensures { λ r. ⌜ FindTrials ⌝ }
-{
-    0
-}
-
-// Further trials of the reader hold of the definitions.
-pub fn acceptance_trials() -> u64
-    ensures { λ r. ⌜ AcceptanceTrials ⌝ }
+// So do further ones: which headers are accepted, what the look-ups find, what the listing prints.
+pub fn further_trials() -> u64
+    ensures { λ r. ⌜ FurtherTrials ⌝ }
 {
     0
 }
