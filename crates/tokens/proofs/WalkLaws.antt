@@ -1,4 +1,4 @@
--- Laws of several tokens: a walk over n of them, the first of them alone, and a list that is filled with their values.
+-- Laws of several tokens: a walk over n of them, and a list or lent bytes that are filled with their values.
 -- Assumes nothing.
 use Prim.Native.Nat.{ℕ, zero, suc, _+_, _*_, _-_, _/_, _≤_, _<_}
 use native.Mathlib.Nat.{zero-add, suc-add, zero-mul, mul-zero, suc-mul}

@@ -5,7 +5,7 @@ use native.Mathlib.Omega.{arith}
 use denote.Ref.{now}
 use mathlib.Core.Path.{refl}
 use mir.Syntax.{w64}
-use mir.Val.{toZ}
+use mir.Val.{toZ, ofZ}
 use Rattle.format.specs.Boundary.{samplesLent}
 use Rattle.words.proofs.PackedLaws.{Packed, packed-none, packed-done}
 use Rattle.tokens.proofs.WalkLaws.{Filling, filling-none, turn, filling-stop, filling-more, filling-done, packed-put}
@@ -60,7 +60,8 @@ loop-again c =
     let h = i .before .before .before .before .before in
     let l = h .before in
     let o = l .before .before .before .before in
-    packed-put (now (o .args .dst)) (l .loop .inv) (l .loop .k) _ (c .before .before .put .ensures)
+    let z = toZ w64 (ofZ w64 (i .before .token .last .1 .1 .1 .1 .1 .0)) in
+    packed-put (now (o .args .dst)) (l .loop .inv) (l .loop .k) z (c .before .before .put .ensures)
     (filling-more _ _ _ _ _ _ (l .loop .inv .held) (h .loop-test .taken) (i .before .token .ensures) (i .if1 .left) refl)
 
 same-length-2 : tie.Need-same-length-2 Inv-loop μ-loop
