@@ -20,9 +20,9 @@ use Rattle.format.specs.Descriptors.{NumberKind, signed, unsigned}
 use Rattle.format.specs.Limits.{maxSample}
 use Rattle.format.specs.Samples.{Decoded, rawSamples, thenSamples, withSample, stopped, sampleValue, valueOfBits, inType, fromBytes, toBytes, ordered, toSigned}
 use Rattle.format.proofs.Samples.{AllBytes, all-bytes, length-to-bytes, to-from-bytes, from-bytes-below, ordered-bytes, length-ordered}
-pub use Rattle.words.proofs.Halves.{from-append, from-one, sample-is}
+pub use Rattle.words.proofs.Halves.{from-append, load-one, sample-is}
 pub use Rattle.words.proofs.Stores.{sets-over}
-use Rattle.words.proofs.Halves.{to-bytes-halves, length-part}
+use Rattle.words.proofs.Halves.{to-bytes-halves, length-part, halves-less}
 use Rattle.format.proofs.Boundary.{bytes-take, bytes-drop}
 use Rattle.words.proofs.WidthLaws.{by-width}
 use Rattle.raw.specs.Bits.{Bits, turned, folded, bitsAt, sampleAt}
@@ -46,7 +46,7 @@ unfolding turned fromBytes toBytes
 turned-1 w x e h = let l : x < 256 ^ 1 = rw e at h in rw e (record { is = omega arith; less = l })
 
 -- 2 * w bytes by two halves
-pub turned-halves : (w x : ℕ) → turned (w + w) x ≡ turned w (x / 256 ^ w) + 256 ^ w * turned w (x % 256 ^ w)
+turned-halves : (w x : ℕ) → turned (w + w) x ≡ turned w (x / 256 ^ w) + 256 ^ w * turned w (x % 256 ^ w)
 unfolding turned
 turned-halves w x =
     let p = 256 ^ w in
@@ -55,6 +55,9 @@ turned-halves w x =
     let l : length (reverse q) ≡ w = length-reverse q ∙ length-to-bytes w (x / p) in
     ap (λ (s : List ℕ). fromBytes (reverse s)) (to-bytes-halves w x) ∙ ap fromBytes (reverse-append r q) ∙ from-append (reverse q) (reverse r)
     ∙ ap (λ (n : ℕ). fromBytes (reverse q) + 256 ^ n * fromBytes (reverse r)) l
+
+pub turn-halves : (w x : ℕ) {a b : ℕ} → Bits w (turned w (x / 256 ^ w)) a → Bits w (turned w (x % 256 ^ w)) b → Bits (w + w) (turned (w + w) x) (a + 256 ^ w * b)
+turn-halves w x f g = record { is = rw (f .is, g .is) (sym (turned-halves w x)); less = halves-less w (f .less) (g .less) }
 
 -- ---- the number at a place
 

@@ -3,7 +3,7 @@
 use native.Mathlib.Omega.{arith}
 use Prim.Native.Nat.{_+_}
 use denote.Ref.{now}
-use Rattle.words.proofs.Halves.{from-one, from-halves}
+use Rattle.words.proofs.Halves.{load-one, load-halves}
 use borrow.Author.Needs.{needs}
 use Rattle.words.proofs.load2.Statement.{statement}
 use Rattle.words.proofs.load2.Tie as tie
@@ -31,12 +31,12 @@ add-result c = search needs
 
 returns : tie.Need-returns
 returns c =
-    let a = c .before .before .before .before .before .args in
-    let s = now (a .s) in
-    record {
-      is = omega (arith, c .wide2 .ensures, c .before .before .wide .ensures, from-halves s (a .at) 1 (c .before .before .before .before .before .pre), from-one s (a .at) (omega arith), from-one s (a .at + 1) (omega arith));
-      less = omega arith;
-    }
+    let low = c .before .before .wide .ensures in
+    let high = c .wide2 .ensures in
+    let f = c .before .before .before .before .before in
+    let s = now (f .args .s) in
+    let at = f .args .at in
+    load-halves s at 1 (f .pre) (load-one s at (omega arith) (low .0) (low .1)) (load-one s (at + 1) (omega arith) (high .0) (high .1))
 
 pub load2-spec : {M : Type 1} → statement M
 load2-spec =

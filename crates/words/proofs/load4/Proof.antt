@@ -1,8 +1,7 @@
 -- `load4` meets its contract by two halves.
 -- Assumes nothing.
-use native.Mathlib.Omega.{arith}
 use denote.Ref.{now}
-use Rattle.words.proofs.Halves.{from-halves}
+use Rattle.words.proofs.Halves.{load-halves}
 use borrow.Author.Needs.{needs}
 use Rattle.words.proofs.load4.Statement.{statement}
 use Rattle.words.proofs.load4.Tie as tie
@@ -24,11 +23,8 @@ add-result c = search needs
 
 returns : tie.Need-returns
 returns c =
-    let a = c .before .before .before .args in
-    record {
-      is = omega (arith, c .load22 .ensures .is, c .before .load2 .ensures .is, from-halves (now (a .s)) (a .at) 2 (c .before .before .before .pre));
-      less = omega arith;
-    }
+    let f = c .before .before .before in
+    load-halves (now (f .args .s)) (f .args .at) 2 (f .pre) (c .before .load2 .ensures) (c .load22 .ensures)
 
 pub load4-spec : {M : Type 1} → statement M
 load4-spec =

@@ -1,8 +1,7 @@
 -- `load8` meets its contract by two halves.
 -- Assumes nothing.
-use native.Mathlib.Omega.{arith}
 use denote.Ref.{now}
-use Rattle.words.proofs.Halves.{from-halves}
+use Rattle.words.proofs.Halves.{load-halves}
 use borrow.Author.Needs.{needs}
 use Rattle.words.proofs.load8.Statement.{statement}
 use Rattle.words.proofs.load8.Tie as tie
@@ -24,11 +23,8 @@ add-result c = search needs
 
 returns : tie.Need-returns
 returns c =
-    let a = c .before .before .before .args in
-    record {
-      is = omega (arith, c .load42 .ensures .is, c .before .load4 .ensures .is, from-halves (now (a .s)) (a .at) 4 (c .before .before .before .pre));
-      less = omega arith;
-    }
+    let f = c .before .before .before in
+    load-halves (now (f .args .s)) (f .args .at) 4 (f .pre) (c .before .load4 .ensures) (c .load42 .ensures)
 
 pub load8-spec : {M : Type 1} → statement M
 load8-spec =

@@ -2,9 +2,8 @@
 -- Assumes nothing.
 use native.Mathlib.Omega.{arith}
 use denote.Ref.{now}
-use mathlib.Core.Path.{_∙_, sym}
 use Rattle.words.proofs.WidthLaws.{width-1}
-use Rattle.raw.proofs.RawLaws.{from-one}
+use Rattle.raw.proofs.RawLaws.{load-one}
 use borrow.Author.Needs.{needs}
 use Rattle.raw.proofs.number.load.Statement.{statement}
 use Rattle.raw.proofs.number.load.Tie as tie
@@ -39,7 +38,7 @@ returns-4 : tie.Need-returns-4
 returns-4 c =
     let e = width-1 _ (c .before .before .before .before .before .before .pre .0) (c .before .before .before .before .if1 .left) (c .before .before .before .if2 .left) (c .before .before .if3 .left) in
     let a = c .before .before .before .before .before .before .args in
-    rw e (record { is = c .wide .ensures .0 ∙ sym (from-one (now (a .s)) (a .at) (omega (arith, e))); less = c .wide .ensures .1 })
+    rw e (load-one (now (a .s)) (a .at) (omega (arith, e)) (c .wide .ensures .0) (c .wide .ensures .1))
 
 pub load-spec : {M : Type 1} → statement M
 load-spec =

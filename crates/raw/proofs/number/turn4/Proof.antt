@@ -1,7 +1,6 @@
 -- `turn4` meets its contract by two halves.
 -- Assumes nothing.
-use native.Mathlib.Omega.{arith}
-use Rattle.raw.proofs.RawLaws.{turned-halves}
+use Rattle.raw.proofs.RawLaws.{turn-halves}
 use borrow.Author.Needs.{needs}
 use Rattle.raw.proofs.number.turn4.Statement.{statement}
 use Rattle.raw.proofs.number.turn4.Tie as tie
@@ -19,7 +18,7 @@ add-result : tie.Need-add-result
 add-result c = search needs
 
 returns : tie.Need-returns
-returns c = record { is = omega (arith, c .turn22 .ensures .is, c .before .turn2 .ensures .is, turned-halves 2 (c .before .before .args .x)); less = omega arith }
+returns c = turn-halves 2 (c .before .before .args .x) (c .before .turn2 .ensures) (c .turn22 .ensures)
 
 pub turn4-spec : {M : Type 1} → statement M
 turn4-spec = tie.close (tie.spec turn2-requires turn2-requires-2 mul-result add-result returns)

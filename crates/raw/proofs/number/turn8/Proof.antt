@@ -1,7 +1,6 @@
 -- `turn8` meets its contract by two halves.
 -- Assumes nothing.
-use native.Mathlib.Omega.{arith}
-use Rattle.raw.proofs.RawLaws.{turned-halves}
+use Rattle.raw.proofs.RawLaws.{turn-halves}
 use borrow.Author.Needs.{needs}
 use Rattle.raw.proofs.number.turn8.Statement.{statement}
 use Rattle.raw.proofs.number.turn8.Tie as tie
@@ -19,7 +18,7 @@ add-result : tie.Need-add-result
 add-result c = search needs
 
 returns : tie.Need-returns
-returns c = record { is = omega (arith, c .turn42 .ensures .is, c .before .turn4 .ensures .is, turned-halves 4 (c .before .before .args .x)); less = omega arith }
+returns c = turn-halves 4 (c .before .before .args .x) (c .before .turn4 .ensures) (c .turn42 .ensures)
 
 pub turn8-spec : {M : Type 1} → statement M
 turn8-spec = tie.close (tie.spec turn4-requires turn4-requires-2 mul-result add-result returns)
