@@ -1,20 +1,19 @@
 -- Laws of what an escaped text means, byte by byte.
 -- Assumes nothing.
-use Prim.Native.Nat.{ℕ, _+_, _-_, _≤_, _<_}
+use Prim.Native.Nat.{ℕ, zero, suc, _+_, _-_, _≤_, _<_}
 use native.Mathlib.Nat.{zero-add}
 use native.Mathlib.Omega.{arith}
 use mathlib.Core.Path.{_≡_, refl, sym, ap, _∙_}
 use mathlib.Core.Bool.{Bool, true, false}
-use mathlib.Core.List.{List, [], _∷_, _++_, append-nil}
+use mathlib.Core.List.{List, [], _∷_}
 use mathlib.Core.Option.{Option, none, some}
 use lib.Dec.{eqb}
-use lib.ListN.{length, drop, getD, set, drop-of-length-le, length-append}
-use lib.Seq.{sets, sets-eq, append-snoc}
+use lib.ListN.{length, drop, getD, set, drop-of-length-le}
+use lib.Seq.{sets, sets-eq}
 use borrow.Author.Tests.{eqb-true, eqb-false, eq-eqb, ne-eqb}
-use Rattle.format.specs.Bytes.{same, isSome, onto, LF, BACKSLASH}
+use Rattle.format.specs.Bytes.{if_then_else_, same, isSome, onto, over, LF, BACKSLASH}
 use Rattle.format.specs.Pairs.{unescapeFrom, unescape}
-use Rattle.format.proofs.Stores.{sets-then}
-use Rattle.text.specs.Meanings.{meansKey, First}
+use Rattle.text.specs.Meanings.{meansKey, meantFrom, meant, First}
 use Rattle.text.proofs.Places.{drop-next}
 
 -- ---- the first byte that a text means from a place on
@@ -22,20 +21,24 @@ use Rattle.text.proofs.Places.{drop-next}
 module _ (s : List ℕ) (at : ℕ) (h : at < length s) where
   -- a byte that is no backslash means itself
   pub first-plain : (getD s at 0 ≡ BACKSLASH → ⊥) → First s at (getD s at 0) 1
-  unfolding unescapeFrom
+  unfolding unescapeFrom meantFrom
   first-plain n = record {
     within = omega arith;
     bad = λ e. absurd (omega arith);
+    ends = λ e. absurd (omega arith);
     good = λ e. rw (drop-next s at h, ne-eqb (getD s at 0) BACKSLASH n);
+    next = λ e. rw (drop-next s at h, ne-eqb (getD s at 0) BACKSLASH n);
   }
 
   -- a backslash at the end means nothing
   pub first-last : getD s at 0 ≡ BACKSLASH → length s - at < 2 → First s at 0 0
-  unfolding unescapeFrom
+  unfolding unescapeFrom meantFrom
   first-last e l = record {
     within = omega arith;
     bad = λ _. rw (drop-next s at h, drop-of-length-le s {i = at + 1} (omega arith), e);
+    ends = λ _. rw (drop-next s at h, drop-of-length-le s {i = at + 1} (omega arith), e);
     good = λ n. absurd (n refl);
+    next = λ n. absurd (n refl);
   }
 
   module _ (e : getD s at 0 ≡ BACKSLASH) (more : 2 ≤ length s - at) where
@@ -45,28 +48,34 @@ module _ (s : List ℕ) (at : ℕ) (h : at < length s) where
         drop-next s at h ∙ rw (drop-next s (at + 1) (omega arith), e, n)
 
     pub first-newline : getD s (at + 1) 0 ≡ 110 → First s at LF 2
-    unfolding unescapeFrom
+    unfolding unescapeFrom meantFrom
     first-newline f = record {
       within = omega arith;
       bad = λ n. absurd (omega arith);
+      ends = λ n. absurd (omega arith);
       good = λ n. rw (two, f);
+      next = λ n. rw (two, f);
     }
 
     pub first-backslash : getD s (at + 1) 0 ≡ BACKSLASH → First s at BACKSLASH 2
-    unfolding unescapeFrom
+    unfolding unescapeFrom meantFrom
     first-backslash f = record {
       within = omega arith;
       bad = λ n. absurd (omega arith);
+      ends = λ n. absurd (omega arith);
       good = λ n. rw (two, f);
+      next = λ n. rw (two, f);
     }
 
     -- before any other byte a backslash means nothing
     pub first-other : (getD s (at + 1) 0 ≡ 110 → ⊥) → (getD s (at + 1) 0 ≡ BACKSLASH → ⊥) → First s at 0 0
-    unfolding unescapeFrom
+    unfolding unescapeFrom meantFrom
     first-other f g = record {
       within = omega arith;
       bad = λ n. rw (two, ne-eqb (getD s (at + 1) 0) 110 f, ne-eqb (getD s (at + 1) 0) BACKSLASH g);
+      ends = λ n. rw (two, ne-eqb (getD s (at + 1) 0) 110 f, ne-eqb (getD s (at + 1) 0) BACKSLASH g);
       good = λ n. absurd (n refl);
+      next = λ n. absurd (n refl);
     }
 
 -- nothing is left past the end, and it means nothing more
@@ -124,57 +133,51 @@ means-end key k h = go (eqb k (length key)) refl
     go true e = rw (drop-of-length-le key {i = k} (omega (arith, eqb-true)))
     go false e = rw (drop-next key k (omega (arith, eqb-false k (length key) e)))
 
--- ---- what a text means, of which the bytes in front are passed
+-- ---- what a text means, byte after byte
 
-abbrev pub ahead : List ℕ → Option (List ℕ) → Option (List ℕ)
-ahead d none = none
-ahead d (some u) = some (d ++ u)
+pub meant-end : (s : List ℕ) (i : ℕ) → length s ≤ i → meant (drop i s) ≡ []
+unfolding meantFrom
+meant-end s i h = rw (drop-of-length-le s h)
 
--- one byte more is passed
-pub ahead-onto : (d : List ℕ) (b : ℕ) (o : Option (List ℕ)) → ahead d (onto b o) ≡ ahead (d ++ (b ∷ [])) o
-ahead-onto d b none = refl
-ahead-onto d b (some u) = ap some (sym (append-snoc d b u))
+onto-meant : (c : ℕ) (o : Option (List ℕ)) (m t : List ℕ) → ((u : List ℕ) → o ≡ some u → m ≡ u) → onto c o ≡ some t → c ∷ m ≡ t
+onto-meant c none m t f e = cc
+onto-meant c (some u) m t f e = let q : c ∷ u ≡ t = cc in ap (λ (r : List ℕ). c ∷ r) (f u refl) ∙ q
 
--- nothing is left where they are as long as all that the text means
-ahead-whole : (d t : List ℕ) (o : Option (List ℕ)) → ahead d o ≡ some t → length t ≤ length d → t ≡ d
-ahead-whole d t none e h = cc
-ahead-whole d t (some []) e h = let f : t ≡ d ++ [] = cc in f ∙ append-nil d
-ahead-whole d t (some (b ∷ u)) e h = let f : t ≡ d ++ (b ∷ u) = cc in absurd (omega (arith, ap length f, length-append d (b ∷ u)))
-
--- what the text means, of which i bytes are passed, which mean d
-abbrev pub Passed : List ℕ → ℕ → List ℕ → Type 0
-Passed s i d = unescape s ≡ ahead d (unescape (drop i s))
-
-pub passed-none : (s : List ℕ) → Passed s 0 []
-passed-none s = go (unescape s)
+-- where every backslash is allowed it is the meaning of the whole
+meant-from : (f : Bool) (s t : List ℕ) → unescapeFrom f s ≡ some t → meantFrom f s ≡ t
+unfolding unescapeFrom meantFrom
+meant-from false [] t e = cc
+meant-from true [] t e = cc
+meant-from false (b ∷ s) t e = go (eqb b BACKSLASH) (λ q. meant-from true s t q) (λ u q. meant-from false s u q) e
   where
-    go : (o : Option (List ℕ)) → o ≡ ahead [] o
-    go none = refl
-    go (some t) = refl
+    go : (x : Bool) → (unescapeFrom true s ≡ some t → meantFrom true s ≡ t) → ((u : List ℕ) → unescapeFrom false s ≡ some u → meantFrom false s ≡ u)
+        → (if x then unescapeFrom true s else onto b (unescapeFrom false s)) ≡ some t → (if x then meantFrom true s else b ∷ meantFrom false s) ≡ t
+    go true f g q = f q
+    go false f g q = onto-meant b (unescapeFrom false s) (meantFrom false s) t g q
+meant-from true (b ∷ s) t e = go (eqb b 110) (eqb b BACKSLASH) (λ u q. meant-from false s u q) e
+  where
+    go : (x y : Bool) → ((u : List ℕ) → unescapeFrom false s ≡ some u → meantFrom false s ≡ u)
+        → (if x then onto LF (unescapeFrom false s) else if y then onto BACKSLASH (unescapeFrom false s) else none) ≡ some t
+        → (if x then LF ∷ meantFrom false s else if y then BACKSLASH ∷ meantFrom false s else []) ≡ t
+    go true y g q = onto-meant LF (unescapeFrom false s) (meantFrom false s) t g q
+    go false true g q = onto-meant BACKSLASH (unescapeFrom false s) (meantFrom false s) t g q
+    go false false g q = cc
 
-module _ (s d : List ℕ) (i : ℕ) (p : Passed s i d) where
-  -- one byte more is passed
-  pub passed-next : (b w : ℕ) → First s i b w → (w ≡ 0 → ⊥) → Passed s (i + w) (d ++ (b ∷ []))
-  passed-next b w f n = p ∙ ap (ahead d) (f .good n) ∙ ahead-onto d b (unescape (drop (i + w) s))
+pub meant-is : (s t : List ℕ) → unescape s ≡ some t → meant s ≡ t
+meant-is s t e = meant-from false s t e
 
-  -- a backslash before another byte: the whole text means nothing
-  pub passed-bad : unescape (drop i s) ≡ none → unescape s ≡ none
-  passed-bad e = p ∙ ap (ahead d) e
+-- ---- bytes stored from a place on
 
-  -- they mean as much as the whole text
-  pub passed-whole : (t : List ℕ) → unescape s ≡ some t → length t ≤ length d → t ≡ d
-  passed-whole t e h = ahead-whole d t (unescape (drop i s)) (sym p ∙ e) h
+-- past the end nothing is stored
+set-full : (l : List ℕ) (i x : ℕ) → length l ≤ i → set l i x ≡ l
+set-full [] i x h = refl
+set-full (a ∷ l) zero x h = absurd (omega arith)
+set-full (a ∷ l) (suc i) x h = ap (λ (r : List ℕ). a ∷ r) (set-full l i x (omega arith))
 
-  -- all of it is passed
-  pub passed-all : length s ≤ i → unescape s ≡ some d
-  passed-all h = p ∙ ap (ahead d) (nothing-left s i h) ∙ ap some (append-nil d)
+pub sets-full : (l v : List ℕ) (i : ℕ) → length l ≤ i → sets l i v ≡ l
+sets-full l [] i h = refl
+sets-full l (x ∷ v) i h = ap (λ (r : List ℕ). sets r (suc i) v) (set-full l i x h) ∙ sets-full l v (suc i) (omega arith)
 
--- ---- bytes stored at the front of a list
-
--- one byte more is stored after them
-pub sets-next : (l o d : List ℕ) (n b : ℕ) → o ≡ sets l 0 d → length d ≡ n → set o n b ≡ sets l 0 (d ++ (b ∷ []))
-sets-next l o d n b e h = ap (λ (r : List ℕ). set r n b) e ∙ sets-then l d (b ∷ []) 0 n (omega arith)
-
--- where they fit, they stand before what is left of the list
-pub sets-front : (l o d t : List ℕ) → o ≡ sets l 0 d → t ≡ d → length t ≤ length l → o ≡ t ++ drop (length t) l
-sets-front l o d t e f h = rw (e, ← f) (rw zero-add at (sets-eq t l 0 (omega arith)))
+-- what a text means, stored where it has room
+pub meant-stored : (s t l o : List ℕ) → o ≡ sets l 0 (meant s) → unescape s ≡ some t → length t ≤ length l → o ≡ over t l
+meant-stored s t l o e m h = e ∙ ap (sets l 0) (meant-is s t m) ∙ rw zero-add at (sets-eq t l 0 (omega arith))

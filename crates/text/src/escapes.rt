@@ -1,12 +1,11 @@
 // Escapes of keys and values.
 ghost use mathlib.Core.Path.{_≡_};
-ghost use mathlib.Core.List.{List, _++_};
-ghost use mathlib.Core.Option.{some};
-ghost use Prim.Native.Nat.{ℕ, _≤_, _<_};
-ghost use lib.ListN.{length, drop};
+ghost use Prim.Native.Nat.{_≤_, _<_};
+ghost use lib.ListN.{length};
+ghost use lib.Seq.{sets};
 ghost use Rattle.format.specs.Bytes.{isSome};
 ghost use Rattle.format.specs.Pairs.{unescape};
-ghost use Rattle.text.specs.Meanings.{meansKey, First};
+ghost use Rattle.text.specs.Meanings.{meansKey, meant, First};
 
 // What the front of a text means: the byte, and how many bytes of the text write it, 0 where they write none.
 struct Meant {
@@ -80,9 +79,9 @@ pub fn means(s: &[u8], key: &[u8]) -> bool
     k == key.len()
 }
 
-// How long what s means is, where every backslash is allowed; else how long it is up to the first that is not.
+// How long what s means is, up to the first backslash that is not allowed.
 pub fn unescaped_length(s: &[u8]) -> usize
-    ensures length { λ r. ⌜ ((t : List ℕ) → unescape (now (s .entry)) ≡ some t → r ≡ length t) ⌝ }
+    ensures length { λ r. ⌜ r ≡ length (meant (now (s .entry))) ⌝ }
     ensures within { λ r. ⌜ r ≤ length (now (s .entry)) ⌝ }
 {
     let mut n: usize = 0;
@@ -98,9 +97,9 @@ pub fn unescaped_length(s: &[u8]) -> usize
     n
 }
 
-// Writes what s means to the front of `out`. It stops where out is full, and at a backslash that is not allowed.
+// Writes what s means, up to the first backslash that is not allowed, to the front of `out`, and of that as much as has room: `sets` changes nothing past the end.
 pub fn unescape_into(s: &[u8], out: &mut [u8])
-    ensures { λ _. ⌜ ((t : List ℕ) → unescape (now (s .entry)) ≡ some t → length t ≤ length (now (out .entry)) → now (out .exit) ≡ t ++ drop (length t) (now (out .entry))) ⌝ }
+    ensures { λ _. ⌜ now (out .exit) ≡ sets (now (out .entry)) 0 (meant (now (s .entry))) ⌝ }
 {
     let mut n: usize = 0;
     let mut i: usize = 0;

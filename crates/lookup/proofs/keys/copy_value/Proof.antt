@@ -1,9 +1,11 @@
 -- `lookup::keys::copy_value` meets its contract: the bytes at the place that `find_key` answers mean the key's value.
 -- Assumes nothing.
 use native.Mathlib.Omega.{arith}
-use mathlib.Core.Path.{sym}
+use mathlib.Core.Path.{sym, ap, _∙_}
+use lib.ListN.{length}
 use borrow.Author.Needs.{needs}
 use borrow.Author.Tests.{not-true, not-false}
+use Rattle.text.proofs.Meanings.{meant-is, meant-stored}
 use Rattle.room.proofs.Enough.{value-answered}
 use Rattle.lookup.proofs.Values.{Value, value-found, value-absent, value-means, value-short, value-copied}
 use Rattle.lookup.proofs.keys.copy_value.Statement.{statement}
@@ -48,7 +50,8 @@ returns-2 c =
     let a = b .before .before .before .before .before .before .before .args in
     let w = told b in
     let u = c .before .unescaped-length in
-    let e = value-short w (a .out .now) (u .result) (u .ensures .0 (w .value) (value-means (a .file .now) _ (w .place))) (c .if2 .taken) in
+    let n = u .ensures .0 ∙ ap length (meant-is _ (w .value) (value-means (a .file .now) _ (w .place))) in
+    let e = value-short w (a .out .now) (u .result) n (c .if2 .taken) in
     (e, value-answered (a .file .now) (a .key .now) (a .out .now) e)
 
 unescape-into-requires : tie.Need-unescape-into-requires
@@ -64,9 +67,9 @@ returns-3 c =
     let w = told b in
     let u = c .before .before .before .before .before .unescaped-length in
     let m = value-means (a .file .now) _ (w .place) in
-    let n = u .ensures .0 (w .value) m in
+    let n = u .ensures .0 ∙ ap length (meant-is _ (w .value) m) in
     let h = c .before .before .before .before .if2 .left in
-    let e = value-copied w (a .out .now) (u .result) n h _ (c .before .before .unescape-into .ensures (w .value) m (omega arith)) in
+    let e = value-copied w (a .out .now) (u .result) n h _ (meant-stored _ (w .value) (a .out .now) _ (c .before .before .unescape-into .ensures) m (omega arith)) in
     (e, value-answered (a .file .now) (a .key .now) (a .out .now) e)
 
 pub copy-value-spec : {M : Type 1} → statement M
