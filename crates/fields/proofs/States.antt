@@ -209,14 +209,6 @@ module _ (n : ℕ) (ws : List (List ℕ)) (r : Sizes) (e : r ≡ sizesAnswer n w
       go true e = sym (ap (λ (y : Sizes). y .fine) e) ∙ f
       go false e = refl
 
--- ---- names
-
--- within a list its default does not matter
-pub getD-any : (l : List ℕ) (n d e : ℕ) → n < length l → getD l n d ≡ getD l n e
-getD-any [] n d e h = absurd (omega arith)
-getD-any (x ∷ l) zero d e h = refl
-getD-any (x ∷ l) (suc n) d e h = getD-any l n d e (omega arith)
-
 -- ---- products, or 2 to the 32 for all that are above it
 
 -- a product is at least one factor where the other one is not 0

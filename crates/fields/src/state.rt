@@ -3,13 +3,14 @@ use format::ReadAnswer;
 use format::Reading;
 use format::Refusal;
 use format::field;
+use format::types;
 ghost use mathlib.Core.Path.{_≡_};
 ghost use mathlib.Core.Bool.{true};
 ghost use mathlib.Core.List.{List, []};
 ghost use Prim.Native.Nat.{_*_};
 ghost use Rattle.format.specs.Refusals.{atLine};
 ghost use Rattle.format.specs.Fields.{Given, isGiven, sizes};
-ghost use Rattle.format.specs.Descriptors.{sampleBytes, endianNeeded, hasNeeded, product, extentOf};
+ghost use Rattle.format.specs.Descriptors.{endianNeeded, hasNeeded, product, extentOf};
 ghost use Rattle.format.specs.Header.{refused};
 ghost use Rattle.format.specs.Calls.{readAnswer};
 ghost use Rattle.fields.specs.States.{stateOf, Holds, capped, finished};
@@ -33,9 +34,6 @@ pub struct Step {
     pub closes: bool,
     pub state: State,
 }
-
-// The bytes of a sample of each type.
-const SAMPLE_BYTES: [u64; 10] = [1, 1, 2, 2, 4, 4, 8, 8, 4, 8];
 
 // No field is given.
 pub fn start(version: u32) -> State
@@ -80,18 +78,11 @@ pub fn refuse(number: u32, line: u32) -> ReadAnswer
     }
 }
 
-// The bytes of a sample of type t.
-fn sample_bytes(t: u32) -> u64
-    ensures { λ r. ⌜ r ≡ sampleBytes t ⌝ }
-{
-    if t < 10 { SAMPLE_BYTES[t as usize] } else { 1 }
-}
-
 // Whether the order of a sample's bytes matters: raw or hex samples of several bytes.
 fn endian_needed(t: u32, e: u32) -> bool
     ensures { λ r. ⌜ r ≡ endianNeeded t e ⌝ }
 {
-    (1 < sample_bytes(t)) & ((e == format::RAW) | (e == format::HEX))
+    (1 < types::sample_bytes(t as u64)) & ((e == format::RAW) | (e == format::HEX))
 }
 
 // Whether the fields that are needed are given.
@@ -147,7 +138,10 @@ fn extent(state: State) -> u64
     if 16 < n {
         return 0;
     }
-    times(sample_bytes(state.sampletype), product_of(&sizes[..n]))
+    times(
+        types::sample_bytes(state.sampletype as u64),
+        product_of(&sizes[..n]),
+    )
 }
 
 // The answer at the end of a header of so many bytes and lines.

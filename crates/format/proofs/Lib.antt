@@ -10,6 +10,7 @@ pub mod Places
 pub mod Rules
 pub mod Samples
 pub mod Boundary
+pub mod TypeLaws
 pub mod Writer
 pub mod Descriptors
 pub mod Found

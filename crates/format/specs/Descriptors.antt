@@ -160,6 +160,11 @@ isFloating signed = false
 isFloating unsigned = false
 isFloating floating = true
 
+abbrev pub isSigned : NumberKind → Bool
+isSigned signed = true
+isSigned unsigned = false
+isSigned floating = false
+
 abbrev pub typeNamed : List ℕ → Option ℕ
 typeNamed w = rowOf w (map typeNames types)
 

@@ -5,6 +5,7 @@ pub mod Lines
 pub mod Pairs
 pub mod Fields
 pub mod Descriptors
+pub mod Widths
 pub mod Header
 pub mod Data
 pub mod Samples

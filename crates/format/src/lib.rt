@@ -8,6 +8,7 @@ ghost use Rattle.format.specs.Refusals.{refusalNumbers};
 ghost use Rattle.format.specs.Trials.{StarredTrials};
 
 pub mod field;
+pub mod types;
 
 // The limits of document 01.
 pub const MAX_FILE: usize = 4294967295;
@@ -85,17 +86,7 @@ pub const WRONG_TABLE: u32 = 26;
 
 pub const WRONG_COUNT: u32 = 27;
 
-// Types, encodings and endians are numbered from 0 as document 01 lists them: those that the code asks for.
-pub const INT16: u32 = 2;
-
-pub const INT32: u32 = 4;
-
-pub const INT64: u32 = 6;
-
-pub const FLOAT: u32 = 8;
-
-pub const DOUBLE: u32 = 9;
-
+// Encodings and endians are numbered from 0 as document 01 lists them: those that the code asks for. The types are in `types`.
 pub const RAW: u32 = 0;
 
 pub const TEXT: u32 = 1;

@@ -1,18 +1,17 @@
--- Laws of the sample calls: the types by their numbers, the order of the bytes, and the place of the samples.
+-- Laws of the sample calls: the order of the bytes, and the place of the samples.
 -- Assumes nothing.
-use Prim.Native.Nat.{ℕ, zero, suc, _+_, _*_, _^_, _-_, _/_, _%_, _≤_, _<_}
+use Prim.Native.Nat.{ℕ, zero, suc, _+_, _*_, _^_, _-_, _/_, _≤_, _<_}
 use native.Mathlib.Nat.{le-refl, mul-div-cancel}
 use native.Mathlib.Omega.{arith}
 use mathlib.Core.Path.{_≡_, refl, sym, ap, _∙_}
-use mathlib.Core.Logic.{inl, inr}
-use mathlib.Core.Bool.{Bool, true, false, _&&_, false≢true}
-use mathlib.Core.List.{List, [], reverse}
+use mathlib.Core.Bool.{Bool, true, false, _&&_}
+use mathlib.Core.List.{List, reverse}
 use mathlib.Core.Option.{Option, none, some}
 use lib.Dec.{eqb, ltb, leb}
 use lib.IntN.{ℤ}
-use lib.ListN.{length, take, drop, length-drop, List·getD-eq-default}
+use lib.ListN.{length, take, drop, length-drop}
 use lib.Seq.{length-take-le}
-use borrow.Author.Tests.{eqb-true, eqb-false, eq-eqb, ne-eqb, ltb-true, ltb-false}
+use borrow.Author.Tests.{eqb-true, eqb-false, eq-eqb, ne-eqb, ltb-false}
 use Rattle.format.specs.declared.Reading.{Reading}
 use Rattle.format.specs.declared.ReadAnswer.{ReadAnswer}
 use Rattle.format.specs.declared.DataAnswer.{DataAnswer}
@@ -21,7 +20,8 @@ use Rattle.format.specs.Bytes.{if_then_else_, over}
 use Rattle.format.specs.Limits.{maxFile}
 use Rattle.format.specs.Refusals.{fileTooLong, placeTooLarge, dataTooShort, floatSamples, lentTooShort, refusal, fine}
 use Rattle.format.specs.Fields.{Given}
-use Rattle.format.specs.Descriptors.{sampleType, types, bytesOfType, numberKindType, NumberKind, signed, numberKind, isFloating, sampleBytes, typeAt, typeOf, encodingOf, extentOf, isDetached, raw, big}
+use Rattle.format.specs.Descriptors.{NumberKind, numberKind, isFloating, isSigned, sampleBytes, typeOf, encodingOf, extentOf, isDetached, raw, big}
+use Rattle.format.proofs.TypeLaws.{type-width, type-bytes, kind-by}
 use Rattle.format.specs.Header.{Entry, Outcome, refused, accepted, header, headerLength}
 use Rattle.format.specs.Data.{afterSkips, Place, nowhere, part, placeFrom, placeOf, partOf}
 use Rattle.format.specs.Samples.{Decoded, sampleValue, ordered, rawSamples, textSamples, HexRun, noHex, hexRun, hexBytes, hexSample, hexSamples, withoutBlanks, samplesOf}
@@ -29,84 +29,8 @@ use Rattle.format.specs.Calls.{readingOf, readAnswer, readHeaderCall, dataAnswe
 use Rattle.format.proofs.Numbered.{NumberedOutcome, header-numbered}
 use Rattle.words.specs.Widths.{Width, kindBy, endianBy}
 use Rattle.volume.specs.Places.{IsReading}
-use Rattle.samples.specs.Parts.{WidthOf, decodedBy, Decodable, partBy, Held, Placed}
+use Rattle.samples.specs.Parts.{decodedBy, Decodable, partBy, Held, Placed}
 use Rattle.volume.proofs.Located.{place-lies}
-
--- ---- the types by their numbers
-
--- what holds of m and of m + 1 holds of each number from m on below m + 2
-two : (P : ℕ → Type 0) (m : ℕ) → P m → P (m + 1) → (t : ℕ) → m ≤ t → t < m + 2 → P t
-two P m a b t h k = go (eqb t m) refl
-  where
-    go : (x : Bool) → eqb t m ≡ x → P t
-    go true e = rw (eqb-true t m e) a
-    go false e = let n = eqb-false t m e in let q : t ≡ m + 1 = omega arith in rw q b
-
-module _ (t : ℕ) where
-  pub width-1 : t < 2 → WidthOf t 1
-  unfolding typeAt
-  width-1 k =
-      two (λ t. WidthOf t 1) 0 (record { width = inl refl; is = λ i. refl }) (record { width = inl refl; is = λ i. refl }) t (omega arith) k
-
-  pub width-2 : 2 ≤ t → t < 4 → WidthOf t 2
-  unfolding typeAt
-  width-2 h k =
-      two (λ t. WidthOf t 2) 2 (record { width = inr (inl refl); is = λ i. refl }) (record { width = inr (inl refl); is = λ i. refl }) t h k
-
-  pub width-4 : 4 ≤ t → t < 6 → WidthOf t 4
-  unfolding typeAt
-  width-4 h k =
-      two (λ t. WidthOf t 4) 4 (record { width = inr (inr (inl refl)); is = λ i. refl })
-      (record { width = inr (inr (inl refl)); is = λ i. refl }) t h k
-
-  pub width-8 : 6 ≤ t → t < 8 → WidthOf t 8
-  unfolding typeAt
-  width-8 h k =
-      two (λ t. WidthOf t 8) 6 (record { width = inr (inr (inr refl)); is = λ i. refl })
-      (record { width = inr (inr (inr refl)); is = λ i. refl }) t h k
-
-  -- an integer type past number 7 is the stand-in
-  past : 8 ≤ t → isFloating (numberKind t) ≡ false → typeAt t ≡ sampleType "int8" 1 signed []
-  unfolding typeAt
-  past h i = go (ltb t 10) refl i
-    where
-      go : (x : Bool) → ltb t 10 ≡ x → isFloating (numberKind t) ≡ false → typeAt t ≡ sampleType "int8" 1 signed []
-      go true e =
-          two (λ t. (isFloating (numberKind t) ≡ false → typeAt t ≡ sampleType "int8" 1 signed [])) 8 (λ i. absurd (false≢true (sym i)))
-          (λ i. absurd (false≢true (sym i))) t h (ltb-true t 10 e)
-      go false e = λ i. List·getD-eq-default types (sampleType "int8" 1 signed []) (ltb-false t 10 e)
-
-  pub width-past : 8 ≤ t → WidthOf t 1
-  width-past h = record { width = inl refl; is = λ i. sym (ap bytesOfType (past h i)) }
-
-  pub sign-past : 8 ≤ t → isFloating (numberKind t) ≡ false → signed ≡ numberKind t
-  sign-past h i = sym (ap numberKindType (past h i))
-
--- the even ones are signed
-pub sign-at : (t : ℕ) → t < 8 → kindBy (eqb (t % 2) 0) ≡ numberKind t
-unfolding typeAt
-sign-at zero h = refl
-sign-at (suc zero) h = refl
-sign-at (suc (suc zero)) h = refl
-sign-at (suc (suc (suc zero))) h = refl
-sign-at (suc (suc (suc (suc zero)))) h = refl
-sign-at (suc (suc (suc (suc (suc zero))))) h = refl
-sign-at (suc (suc (suc (suc (suc (suc zero)))))) h = refl
-sign-at (suc (suc (suc (suc (suc (suc (suc zero))))))) h = refl
-sign-at (suc (suc (suc (suc (suc (suc (suc (suc t)))))))) h = absurd (let f : ⊥ = omega arith in f)
-
-pub width-pos : (w : ℕ) → Width w → 0 < w
-width-pos w (inl e) = omega arith
-width-pos w (inr (inl e)) = omega arith
-width-pos w (inr (inr (inl e))) = omega arith
-width-pos w (inr (inr (inr e))) = omega arith
-
--- the extent is so many times the bytes of a sample
-pub count-is : (x : Reading) (w n : ℕ) → WidthOf (x .sampletype) w → isFloating (numberKind (x .sampletype)) ≡ false
-    → x .extent ≡ n * sampleBytes (x .sampletype) → x .extent / w ≡ n
-count-is x w n h i e =
-    let q : x .extent ≡ n * w = e ∙ ap (λ (m : ℕ). n * m) (sym (h .is i)) in
-    rw q (mul-div-cancel n (width-pos w (h .width)))
 
 -- ---- the order of a sample's bytes: only big turns it round
 
@@ -150,14 +74,12 @@ pub record PartIs (x : Reading) (n : ℕ) (s : List ℕ) (w : ℕ) (g : Bool) : 
   pub as-hex : (x .encoding ≡ 0 → ⊥) → (x .encoding ≡ 1 → ⊥)
       → hexSamples (kindBy g) w (endianBy (eqb (x .endian) 1)) n (withoutBlanks s) ≡ decodedBy x n s
 
-pub part-is : (x : Reading) (n : ℕ) (s : List ℕ) (w : ℕ) (g : Bool) → Decodable x n s → WidthOf (x .sampletype) w
-    → (isFloating (numberKind (x .sampletype)) ≡ false → kindBy g ≡ numberKind (x .sampletype)) → PartIs x n s w g
+pub part-is : (x : Reading) (n : ℕ) (s : List ℕ) (w : ℕ) (g : Bool) → Decodable x n s → w ≡ sampleBytes (x .sampletype) → g ≡ isSigned (numberKind (x .sampletype)) → PartIs x n s w g
 unfolding samplesOf
-part-is x n s w g h ws ks =
-    let k = ks (h .integer) in
-    let l = ws .is (h .integer) in
+part-is x n s w g h l es =
+    let k : kindBy g ≡ numberKind (x .sampletype) = ap kindBy es ∙ kind-by (numberKind (x .sampletype)) (h .integer) in
     record {
-      width = ws .width;
+      width = rw l (type-width (x .sampletype));
       enough = λ e. rw l (h .enough e);
       as-raw = λ e. rw (e, l, k) (raw-by (numberKind (x .sampletype)) (x .endian) (sampleBytes (x .sampletype)) n s);
       as-text = λ e. rw (e, l, k);
@@ -295,11 +217,11 @@ module _ (file second : List ℕ) where
         go (part s a b) l e k = ready-at (p .reading) s a b l e k
 
     -- n is the number of samples that the extent is for
-    pub count-ready : d .refusal .number ≡ 0 → (n : ℕ)
-        → ((m : ℕ) → isFloating (numberKind (x .sampletype)) ≡ false → x .extent ≡ m * sampleBytes (x .sampletype) → n ≡ m) → Ready x d n
-    count-ready z n f =
-        let r = place-ready z in
-        rw (f (countOf (p .fields)) (r .held .decodable .integer) (extent-is (p .reading))) r
+    pub count-ready : d .refusal .number ≡ 0 → (n : ℕ) → n ≡ x .extent / sampleBytes (x .sampletype) → Ready x d n
+    count-ready z n e =
+        let m = countOf (p .fields) in
+        let q : x .extent / sampleBytes (x .sampletype) ≡ m = rw (extent-is (p .reading)) (mul-div-cancel m (type-bytes (x .sampletype))) in
+        rw (e ∙ q) (place-ready z)
 
     -- what is known where the check refuses nothing
     pub record Full (room : ℕ) (a : CountAnswer) : Type 0 where

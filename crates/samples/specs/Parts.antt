@@ -13,13 +13,7 @@ use Rattle.format.specs.Header.{Entry, headerLength}
 use Rattle.format.specs.Data.{placeOf}
 use Rattle.format.specs.Samples.{Decoded, samplesOf}
 use Rattle.format.specs.Calls.{dataAnswer}
-use Rattle.words.specs.Widths.{Width}
 use Rattle.volume.specs.Places.{IsReading}
-
--- w is the bytes of a sample, where the type of this number is an integer
-pub record WidthOf (t w : ℕ) : Type 0 where
-  pub width : Width w
-  pub is : isFloating (numberKind t) ≡ false → w ≡ sampleBytes t
 
 -- n samples of the bytes s, by the numbers of a reading
 abbrev pub decodedBy : Reading → ℕ → List ℕ → Decoded

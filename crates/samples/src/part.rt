@@ -1,50 +1,20 @@
 // The samples of a part of a file, by the numbers of its reading.
 use format::DataAnswer;
 use format::Reading;
+use format::types;
 ghost use mathlib.Core.Path.{_≡_};
-ghost use mathlib.Core.Bool.{false};
-ghost use Prim.Native.Nat.{ℕ, _*_, _/_, _≤_};
+ghost use Prim.Native.Nat.{_/_, _≤_};
 ghost use lib.ListN.{length};
 ghost use Rattle.format.specs.Bytes.{over};
-ghost use Rattle.format.specs.Descriptors.{numberKind, isFloating, sampleBytes};
+ghost use Rattle.format.specs.Descriptors.{sampleBytes};
 ghost use Rattle.words.specs.Packed.{samplesOver};
-ghost use Rattle.words.specs.Widths.{kindBy};
-ghost use Rattle.samples.specs.Parts.{WidthOf, decodedBy, Decodable, partBy, Held};
-
-// The bytes of a sample of an integer type.
-fn width_of(t: u32) -> usize
-    ensures { λ r. ⌜ WidthOf t r ⌝ }
-{
-    if t < format::INT16 {
-        return 1;
-    }
-    if t < format::INT32 {
-        return 2;
-    }
-    if t < format::INT64 {
-        return 4;
-    }
-    if t < format::FLOAT {
-        return 8;
-    }
-    1
-}
-
-// Whether an integer type is signed.
-fn is_signed(t: u32) -> bool
-    ensures { λ r. ⌜ (isFloating (numberKind t) ≡ false → kindBy r ≡ numberKind t) ⌝ }
-{
-    if t < format::FLOAT {
-        return t % 2 == 0;
-    }
-    true
-}
+ghost use Rattle.samples.specs.Parts.{decodedBy, Decodable, partBy, Held};
 
 // How many samples the sizes ask for: the extent is so many times the bytes of a sample.
 pub(crate) fn count_of(reading: Reading) -> u64
-    ensures { λ r. ⌜ ((n : ℕ) → isFloating (numberKind (reading .sampletype)) ≡ false → reading .extent ≡ n * sampleBytes (reading .sampletype) → r ≡ n) ⌝ }
+    ensures { λ r. ⌜ r ≡ reading .extent / sampleBytes (reading .sampletype) ⌝ }
 {
-    reading.extent / (width_of(reading.sampletype) as u64)
+    reading.extent / types::sample_bytes(reading.sampletype as u64)
 }
 
 // The refusal that n samples of the data come to, or 0.
@@ -52,8 +22,8 @@ fn check_part(s: &[u8], reading: Reading, n: usize) -> u32
     requires { ⌜ Decodable reading n (now s) ⌝ }
     ensures { λ r. ⌜ r ≡ decodedBy reading n (now (s .entry)) .number ⌝ }
 {
-    let w = width_of(reading.sampletype);
-    let signed = is_signed(reading.sampletype);
+    let w = types::sample_bytes(reading.sampletype as u64) as usize;
+    let signed = types::is_signed(reading.sampletype as u64);
     let big = reading.endian == format::BIG;
     if reading.encoding == format::RAW {
         return raw::list::check(s, n, w, signed, big);
@@ -71,8 +41,8 @@ fn fill_part(s: &[u8], reading: Reading, n: usize, list: &mut [i64])
     requires { ⌜ n ≤ length (now list) ⌝ }
     ensures { λ _. ⌜ now (list .exit) ≡ over (decodedBy reading n (now (s .entry)) .seen) (now (list .entry)) ⌝ }
 {
-    let w = width_of(reading.sampletype);
-    let signed = is_signed(reading.sampletype);
+    let w = types::sample_bytes(reading.sampletype as u64) as usize;
+    let signed = types::is_signed(reading.sampletype as u64);
     let big = reading.endian == format::BIG;
     if reading.encoding == format::RAW {
         return raw::list::fill(s, n, w, signed, big, list);
@@ -90,8 +60,8 @@ fn pack_part(s: &[u8], reading: Reading, n: usize, list: &mut [u8])
     requires { ⌜ n ≤ length (now list) / 8 ⌝ }
     ensures { λ _. ⌜ now (list .exit) ≡ samplesOver (decodedBy reading n (now (s .entry)) .seen) (now (list .entry)) ⌝ }
 {
-    let w = width_of(reading.sampletype);
-    let signed = is_signed(reading.sampletype);
+    let w = types::sample_bytes(reading.sampletype as u64) as usize;
+    let signed = types::is_signed(reading.sampletype as u64);
     let big = reading.endian == format::BIG;
     if reading.encoding == format::RAW {
         return raw::packed::fill(s, n, w, signed, big, list);

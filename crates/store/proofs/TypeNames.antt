@@ -7,7 +7,7 @@ use lib.Dec.{lit≤}
 use lib.ListN.{length, getD, take, drop}
 use Rattle.format.specs.Bytes.{bytes}
 use Rattle.format.specs.Descriptors.{typeAt, typeName}
-use Rattle.words.proofs.TypeLaws.{below-10}
+use Rattle.format.proofs.TypeLaws.{below-10}
 
 abbrev names : List ℕ
 names = bytes "int8  uint8 int16 uint16int32 uint32int64 uint64float double"

@@ -74,22 +74,12 @@ fn lies(second: bool, start: usize, length: u64) -> DataAnswer
     }
 }
 
-// Whether a type is float or double.
-fn is_floating(t: u32) -> bool
-    ensures { λ r. ⌜ r ≡ isFloating (numberKind t) ⌝ }
-{
-    if t == format::FLOAT {
-        return true;
-    }
-    t == format::DOUBLE
-}
-
 // Whether samples are wanted of a type that is float or double.
 fn is_unfit(wanted: bool, t: u32) -> bool
     ensures { λ r. ⌜ r ≡ (wanted && isFloating (numberKind t)) ⌝ }
 {
     if wanted {
-        return is_floating(t);
+        return format::types::is_floating(t as u64);
     }
     false
 }

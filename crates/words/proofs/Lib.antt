@@ -3,4 +3,3 @@ pub mod Signs
 pub mod Stores
 pub mod PackedLaws
 pub mod WidthLaws
-pub mod TypeLaws

@@ -1,23 +1,2 @@
--- The width, kind and endian of samples as the code carries them.
-use Prim.Native.Nat.{ℕ}
-use mathlib.Core.Path.{_≡_}
-use mathlib.Core.Logic.{_⊎_}
-use mathlib.Core.Bool.{Bool, true, false, _||_}
-use lib.Dec.{eqb}
-use Rattle.format.specs.Descriptors.{NumberKind, signed, unsigned, little, big}
-
--- the bytes of a sample
-abbrev pub Width : ℕ → Type 0
-Width w = (w ≡ 1) ⊎ ((w ≡ 2) ⊎ ((w ≡ 4) ⊎ (w ≡ 8)))
-
-abbrev pub isWidth : ℕ → Bool
-isWidth w = eqb w 1 || (eqb w 2 || (eqb w 4 || eqb w 8))
-
--- the kind of an integer type
-abbrev pub kindBy : Bool → NumberKind
-kindBy true = signed
-kindBy false = unsigned
-
-abbrev pub endianBy : Bool → ℕ
-endianBy true = big
-endianBy false = little
+-- The widths, kinds and endians of `format`, passed on to the crates that read and write numbers.
+pub use Rattle.format.specs.Widths.{Width, isWidth, kindBy, endianBy}

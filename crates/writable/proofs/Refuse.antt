@@ -1,24 +1,25 @@
 -- Laws of the refusals: the tests of the numbers, the capped product, and the samples in range.
 -- Assumes nothing.
 use mathlib.Core.Path.{_≡_, refl, sym, ap, _∙_}
-use mathlib.Core.Bool.{Bool, true, false, _&&_, _||_, not, and-assoc}
+use mathlib.Core.Bool.{Bool, true, false, _&&_, _||_, not, and-assoc, and-true}
 use mathlib.Core.List.{List, [], _∷_}
 use Prim.Native.Nat.{ℕ, zero, suc, _+_, _*_, _≤_, _<_, min}
 use native.Mathlib.Nat.{mul-le-mul, mul-assoc, mul-comm, zero-mul, mul-zero, le-mul-of-pos-right}
 use native.Mathlib.Numerals.{add-one}
 use native.Mathlib.Omega.{arith}
-use lib.Dec.{eqb, ltb, leb, lit≤}
+use lib.Dec.{eqb, ltb, leb}
 use lib.IntN.{ℤ, pos, negsuc}
 use lib.ListN.{length, getD, drop, drop-of-length-le}
 use lib.Seq.{drop-cons}
 use borrow.Author.Tests.{ltb-true, ltb-false, lt-ltb, le-ltb, le-leb, lt-leb, eq-eqb, ne-eqb}
 use Rattle.format.specs.Bytes.{if_then_else_, isIn}
 use Rattle.format.specs.Limits.{maxExtent}
-use Rattle.format.specs.Descriptors.{NumberKind, typeAt, sampleBytes, numberKind, isFloating, product, extent}
+use Rattle.format.specs.Descriptors.{NumberKind, typeAt, sampleBytes, numberKind, isFloating, isSigned, product, extent}
 use Rattle.format.specs.Samples.{inType, lowest, highest}
+use Rattle.format.specs.Widths.{kindBy, widthBy}
 use Rattle.format.specs.Writer.{allInType, writable}
 use Rattle.writable.specs.Refused.{inRange, allInRange, WholeRange, earlyRefusal, Numbers, Ready}
-use Rattle.words.proofs.TypeLaws.{below-10}
+use Rattle.format.proofs.TypeLaws.{below-10, type-width, type-bytes, floating-is, kind-by, width-by, lowest-most, highest-most}
 
 -- ---- a 0 among the numbers
 
@@ -117,15 +118,26 @@ all-in-range k w (z ∷ zs) = rw (range-is k w z, all-in-range k w zs)
 
 -- ---- the types
 
--- a sample has a byte or more
-sample-bytes : (t : ℕ) → t < 10 → 1 ≤ sampleBytes t
-unfolding typeAt
-sample-bytes = below-10 (λ t. 1 ≤ sampleBytes t) (lit≤ tt) (lit≤ tt) (lit≤ tt) (lit≤ tt) (lit≤ tt) (lit≤ tt) (lit≤ tt) (lit≤ tt) (lit≤ tt) (lit≤ tt)
-
 -- the types from 8 on are the floating ones
-floating-is : (t : ℕ) → t < 10 → isFloating (numberKind t) ≡ leb 8 t
-unfolding typeAt
-floating-is = below-10 (λ t. isFloating (numberKind t) ≡ leb 8 t) refl refl refl refl refl refl refl refl refl refl
+floating-at : (t : ℕ) → t < 10 → isFloating (numberKind t) ≡ leb 8 t
+floating-at t h = sym (floating-is t) ∙ rw (lt-ltb t 10 h) (and-true (leb 8 t))
+
+pub integer-type : (t : ℕ) → t < 8 → isFloating (numberKind t) ≡ false
+integer-type t h = floating-at t (omega arith) ∙ lt-leb 8 t h
+
+-- the bounds of an integer type
+module _ (t : ℕ) {s : Bool} {w : ℕ} (i : isFloating (numberKind t) ≡ false) (es : s ≡ isSigned (numberKind t)) (ew : w ≡ sampleBytes t) where
+  bound-by : (f : NumberKind → ℕ → ℕ) → f (kindBy s) (widthBy w) ≡ f (numberKind t) (sampleBytes t)
+  bound-by f =
+      let k : kindBy s ≡ numberKind t = ap kindBy es ∙ kind-by (numberKind t) i in
+      let v : widthBy w ≡ sampleBytes t = ap widthBy ew ∙ width-by (sampleBytes t) (type-width t) in
+      rw (k, v)
+
+  pub lowest-type : {r : ℕ} → r ≡ lowest (kindBy s) (widthBy w) → (r ≡ lowest (numberKind t) (sampleBytes t)) × (r ≤ 9223372036854775808)
+  lowest-type e = (e ∙ bound-by lowest, rw e (lowest-most s w))
+
+  pub highest-type : {r : ℕ} → r ≡ highest (kindBy s) (widthBy w) → (r ≡ highest (numberKind t) (sampleBytes t)) × (r < 9223372036854775808)
+  highest-type e = (e ∙ bound-by highest, rw e (highest-most s w))
 
 -- the range of every type
 pub type-range : (t : ℕ) → t < 10 → {low high : ℕ} → low ≡ lowest (numberKind t) (sampleBytes t) → high ≡ highest (numberKind t) (sampleBytes t) → WholeRange low high
@@ -160,16 +172,16 @@ module _ {version : ℕ} {sizes : List ℕ} {t e endian : ℕ} (zs : List ℤ) w
 
       pub early-19 : 8 ≤ t → 19 ≡ earlyRefusal version sizes t e endian zs
       unfolding earlyRefusal
-      early-19 h = rw (ok, le-ltb maxExtent (extent sizes t) within, floating-is t (known .type-in), le-leb 8 t h)
+      early-19 h = rw (ok, le-ltb maxExtent (extent sizes t) within, floating-at t (known .type-in), le-leb 8 t h)
 
       module _ (integer : t < 8) where
         exact : n ≡ product sizes
-        exact = omega (arith, en, within, le-mul-of-pos-right (product sizes) (sample-bytes t (known .type-in)))
+        exact = omega (arith, en, within, le-mul-of-pos-right (product sizes) (type-bytes t))
 
         pub early-27 : (m ≡ n → ⊥) → 27 ≡ earlyRefusal version sizes t e endian zs
         unfolding earlyRefusal
         early-27 h =
-            rw (ok, le-ltb maxExtent (extent sizes t) within, floating-is t (known .type-in), lt-leb 8 t integer, ne-eqb (length zs) (product sizes) (λ q. h (em ∙ q ∙ sym exact)))
+            rw (ok, le-ltb maxExtent (extent sizes t) within, floating-at t (known .type-in), lt-leb 8 t integer, ne-eqb (length zs) (product sizes) (λ q. h (em ∙ q ∙ sym exact)))
 
         module _ (count : m ≡ n) {low high : ℕ} (el : low ≡ lowest (numberKind t) (sampleBytes t)) (eh : high ≡ highest (numberKind t) (sampleBytes t))
             {fine : Bool} (ef : fine ≡ allInRange low high zs) where
@@ -179,7 +191,7 @@ module _ {version : ℕ} {sizes : List ℕ} {t e endian : ℕ} (zs : List ℤ) w
           tests : earlyRefusal version sizes t e endian zs ≡ (if not fine then 20 else 0)
           unfolding earlyRefusal
           tests =
-              rw (ok, le-ltb maxExtent (extent sizes t) within, floating-is t (known .type-in), lt-leb 8 t integer, eq-eqb (length zs) (product sizes) (sym em ∙ count ∙ exact), all-is)
+              rw (ok, le-ltb maxExtent (extent sizes t) within, floating-at t (known .type-in), lt-leb 8 t integer, eq-eqb (length zs) (product sizes) (sym em ∙ count ∙ exact), all-is)
 
           pub early-20 : fine ≡ false → 20 ≡ earlyRefusal version sizes t e endian zs
           early-20 h = sym (tests ∙ ap (λ (b : Bool). if not b then 20 else 0) h)
@@ -198,4 +210,4 @@ module _ {version : ℕ} {sizes : List ℕ} {t e endian : ℕ} (zs : List ℤ) w
 
 -- the samples are few
 pub few-samples : (version : ℕ) (sizes : List ℕ) (t e endian : ℕ) (zs : List ℤ) → Ready version sizes t e endian zs → length zs ≤ maxExtent
-few-samples version sizes t e endian zs r = omega (arith, r .extent-small, le-mul-of-pos-right (length zs) (sample-bytes t (r .numbers .type-in)))
+few-samples version sizes t e endian zs r = omega (arith, r .extent-small, le-mul-of-pos-right (length zs) (type-bytes t))

@@ -1,15 +1,15 @@
 // What the writer refuses.
 ghost use mathlib.Core.Path.{_≡_};
-ghost use mathlib.Core.Bool.{true};
+ghost use mathlib.Core.Bool.{true, false};
 ghost use Prim.Native.Nat.{ℕ, _+_, _*_, _≤_, _<_, min};
 ghost use lib.Dec.{leb};
 ghost use Rattle.format.specs.Bytes.{isIn};
-ghost use Rattle.format.specs.Descriptors.{product, sampleBytes, numberKind};
+ghost use Rattle.format.specs.Descriptors.{product, sampleBytes, numberKind, isFloating};
 ghost use Rattle.format.specs.Samples.{lowest, highest, toSigned};
 ghost use Rattle.format.specs.Writer.{writable};
 ghost use Rattle.writable.specs.Refused.{chosen, inRange, allInRange, WholeRange, earlyRefusal, lateRefusal, Numbers, Ready};
-ghost use Rattle.words.specs.Widths.{Width};
 use crate::source;
+use format::types;
 
 // Whether one of the numbers is 0.
 fn has_zero(ns: &[u64]) -> bool
@@ -36,7 +36,7 @@ fn is_writable(version: u64, sizes: &[u64], sampletype: u64, encoding: u64, endi
     if format::MAX_VERSION < version {
         return false;
     }
-    if 10 <= sampletype {
+    if types::COUNT <= sampletype {
         return false;
     }
     if 3 <= encoding {
@@ -112,57 +112,19 @@ fn all_in_range(samples: &[i64], lent: &[u8], packed: bool, low: u64, high: u64)
     all <= low + high
 }
 
-// The bytes of a sample of each type.
-const WIDTHS: [u64; 10] = [1, 1, 2, 2, 4, 4, 8, 8, 4, 8];
-
-// The least value of each type, without its sign.
-const LOWEST: [u64; 10] = [
-    128,
-    0,
-    32768,
-    0,
-    2147483648,
-    0,
-    9223372036854775808,
-    0,
-    0,
-    0,
-];
-
-// The greatest value of each type.
-const HIGHEST: [u64; 10] = [
-    127,
-    255,
-    32767,
-    65535,
-    2147483647,
-    4294967295,
-    9223372036854775807,
-    9223372036854775807,
-    0,
-    0,
-];
-
-// The bytes of a sample.
-pub fn width_of(t: u64) -> u64
-    requires { ⌜ t < 10 ⌝ }
-    ensures { λ r. ⌜ (r ≡ sampleBytes t) × Width r ⌝ }
-{
-    WIDTHS[t as usize]
-}
-
+// The bounds of an integer type: its least value without its sign, and its greatest.
 fn lowest_of(t: u64) -> u64
-    requires { ⌜ t < 10 ⌝ }
+    requires { ⌜ isFloating (numberKind t) ≡ false ⌝ }
     ensures { λ r. ⌜ (r ≡ lowest (numberKind t) (sampleBytes t)) × (r ≤ 9223372036854775808) ⌝ }
 {
-    LOWEST[t as usize]
+    types::lowest(types::is_signed(t), types::sample_bytes(t))
 }
 
 fn highest_of(t: u64) -> u64
-    requires { ⌜ t < 10 ⌝ }
+    requires { ⌜ isFloating (numberKind t) ≡ false ⌝ }
     ensures { λ r. ⌜ (r ≡ highest (numberKind t) (sampleBytes t)) × (r < 9223372036854775808) ⌝ }
 {
-    HIGHEST[t as usize]
+    types::highest(types::is_signed(t), types::sample_bytes(t))
 }
 
 // The first refusal that the samples and their numbers meet, before the file's length is known; 0 where there is none.
@@ -184,10 +146,10 @@ pub fn early_refusal(
     }
     let n = product(sizes);
     let count = source::count(samples, lent, packed) as u64;
-    if format::MAX_EXTENT < times(n, width_of(sampletype)) {
+    if format::MAX_EXTENT < times(n, types::sample_bytes(sampletype)) {
         return format::EXTENT_TOO_LARGE;
     }
-    if 8 <= sampletype {
+    if types::FLOAT <= sampletype {
         return format::FLOAT_SAMPLES;
     }
     if count != n {

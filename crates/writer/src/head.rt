@@ -81,7 +81,7 @@ fn needs_endian(sampletype: u64, encoding: u64) -> bool
     if encoding == 1 {
         return false;
     }
-    1 < writable::check::width_of(sampletype)
+    1 < format::types::sample_bytes(sampletype)
 }
 
 // The line of the endian, where it is needed.

@@ -57,7 +57,7 @@ fn write_chosen(
     }
     let mut head = [0u8; 512];
     let start = head::put_header(&mut head, version, sizes, sampletype, encoding, endian);
-    let w = writable::check::width_of(sampletype) as usize;
+    let w = format::types::sample_bytes(sampletype) as usize;
     let late = body::file_refusal(start, samples, lent, packed, encoding, w, out.len());
     if late != 0 {
         return answer(late, 0);

@@ -10,6 +10,7 @@ use Rattle.format.specs.Descriptors.{numberKind}
 use Rattle.format.specs.Writer.{allInType}
 use Rattle.roundtrip.specs.RoundTrip.{headerBytes}
 use Rattle.writable.specs.Refused.{chosen}
+use Rattle.format.proofs.TypeLaws.{type-width}
 use Rattle.words.proofs.WidthLaws.{width-le}
 use Rattle.room.proofs.Written.{text-bound}
 use Rattle.body.proofs.Samples.{low-data}
@@ -38,8 +39,8 @@ slice-aggregate-put-header c = search needs
 put-header-requires : tie.Need-put-header-requires
 put-header-requires c κs = (c .before .before .early-refusal .ensures .1 (c .before .if1 .left) .numbers, omega arith)
 
-width-of-requires : tie.Need-width-of-requires
-width-of-requires c κs = c .before .before .before .before .early-refusal .ensures .1 (c .before .before .before .if1 .left) .numbers .type-in
+sample-bytes-requires : tie.Need-sample-bytes-requires
+sample-bytes-requires c κs = search needs
 
 file-refusal-requires : tie.Need-file-refusal-requires
 file-refusal-requires c κs =
@@ -48,10 +49,10 @@ file-refusal-requires c κs =
     let e = c .before .before .before .before .before .early-refusal in
     let z = c .before .before .before .before .if1 .left in
     let h = c .before .before .put-header in
-    let w = c .width-of in
+    let w = c .sample-bytes in
     let r = e .ensures .1 z in
-    let t : allInType (numberKind (a .sampletype)) (w .result) zs ≡ true = rw (w .ensures .0) (r .in-type) in
-    ((h .ensures .1, few-samples (a .version) (now (a .sizes)) (a .sampletype) (a .encoding) (a .endian) zs r, omega (arith, r .extent-small, ap (λ (k : ℕ). length zs * k) (w .ensures .0))), omega (arith, text-bound (w .result) (width-le (w .result) (w .ensures .1)) (numberKind (a .sampletype)) zs t))
+    let t : allInType (numberKind (a .sampletype)) (w .result) zs ≡ true = rw (w .ensures) (r .in-type) in
+    ((h .ensures .1, few-samples (a .version) (now (a .sizes)) (a .sampletype) (a .encoding) (a .endian) zs r, omega (arith, r .extent-small, ap (λ (k : ℕ). length zs * k) (w .ensures))), omega (arith, text-bound (w .result) (width-le (w .result) (rw (w .ensures) (type-width (a .sampletype)))) (numberKind (a .sampletype)) zs t))
 
 answer-requires-2 : tie.Need-answer-requires-2
 answer-requires-2 c κs = search needs
@@ -63,9 +64,9 @@ returns-2 c =
     let e = c .before .before .before .before .before .before .before .before .early-refusal in
     let z = c .before .before .before .before .before .before .before .if1 .left in
     let h = c .before .before .before .before .before .put-header in
-    let w = c .before .before .before .width-of in
+    let w = c .before .before .before .sample-bytes in
     let r = c .before .before .file-refusal in
-    (λ i. (c .answer2 .ensures i, now (a .out))) ∙ sym (late-call (a .version) (now (a .sizes)) (a .sampletype) (a .encoding) (a .endian) zs (now (a .out)) (e .result) (e .ensures .0) z (h .result) (w .result) (h .ensures .0 .0) (w .ensures .0) (r .result) (r .ensures (a .endian)) (c .before .if2 .taken))
+    (λ i. (c .answer2 .ensures i, now (a .out))) ∙ sym (late-call (a .version) (now (a .sizes)) (a .sampletype) (a .encoding) (a .endian) zs (now (a .out)) (e .result) (e .ensures .0) z (h .result) (w .result) (h .ensures .0 .0) (w .ensures) (r .result) (r .ensures (a .endian)) (c .before .if2 .taken))
 
 array-share-prefix-head : tie.Need-array-share-prefix-head
 array-share-prefix-head c = search needs
@@ -84,10 +85,10 @@ put-bytes-requires c κs =
     let e = c .before .before .before .before .before .before .before .before .before .early-refusal in
     let z = c .before .before .before .before .before .before .before .before .if1 .left in
     let h = c .before .before .before .before .before .before .put-header in
-    let w = c .before .before .before .before .width-of in
+    let w = c .before .before .before .before .sample-bytes in
     let f : take (h .result) (h .last .0) ≡ headerBytes (a .version) (now (a .sizes)) (a .sampletype) (a .encoding) (a .endian) = stored-front (h .last .0) _ (headerBytes (a .version) (now (a .sizes)) (a .sampletype) (a .encoding) (a .endian)) (h .result) (h .ensures .0 .1) (h .ensures .0 .0) (omega (arith, h .ensures .1)) in
     let r = c .before .before .before .file-refusal in
-    let k = fits (a .version) (now (a .sizes)) (a .sampletype) (a .encoding) (a .endian) zs (now (a .out)) (e .result) (e .ensures .0) z (h .result) (w .result) (h .ensures .0 .0) (w .ensures .0) (r .result) (r .ensures (a .endian)) (c .before .before .if2 .left) in
+    let k = fits (a .version) (now (a .sizes)) (a .sampletype) (a .encoding) (a .endian) zs (now (a .out)) (e .result) (e .ensures .0) z (h .result) (w .result) (h .ensures .0 .0) (w .ensures) (r .result) (r .ensures (a .endian)) (c .before .before .if2 .left) in
     rw f (omega (arith, h .ensures .0 .0, k))
 
 put-data-requires : tie.Need-put-data-requires
@@ -97,12 +98,12 @@ put-data-requires c κs =
     let e = c .before .before .before .before .before .before .before .before .before .before .before .before .before .early-refusal in
     let z = c .before .before .before .before .before .before .before .before .before .before .before .before .if1 .left in
     let h = c .before .before .before .before .before .before .before .before .before .before .put-header in
-    let w = c .before .before .before .before .before .before .before .before .width-of in
+    let w = c .before .before .before .before .before .before .before .before .sample-bytes in
     let r = c .before .before .before .before .before .before .before .file-refusal in
-    let k = fits (a .version) (now (a .sizes)) (a .sampletype) (a .encoding) (a .endian) zs (now (a .out)) (e .result) (e .ensures .0) z (h .result) (w .result) (h .ensures .0 .0) (w .ensures .0) (r .result) (r .ensures (a .endian)) (c .before .before .before .before .before .before .if2 .left) in
+    let k = fits (a .version) (now (a .sizes)) (a .sampletype) (a .encoding) (a .endian) zs (now (a .out)) (e .result) (e .ensures .0) z (h .result) (w .result) (h .ensures .0 .0) (w .ensures) (r .result) (r .ensures (a .endian)) (c .before .before .before .before .before .before .if2 .left) in
     let y = e .ensures .1 z in
-    let t : allInType (numberKind (a .sampletype)) (w .result) zs ≡ true = rw (w .ensures .0) (y .in-type) in
-    ((w .ensures .1, y .numbers .endian-in, low-data (w .result) (width-le (w .result) (w .ensures .1)) (numberKind (a .sampletype)) (a .endian) zs t), omega (arith, k, c .before .before .before .put-bytes .kept .0))
+    let t : allInType (numberKind (a .sampletype)) (w .result) zs ≡ true = rw (w .ensures) (y .in-type) in
+    ((rw (w .ensures) (type-width (a .sampletype)), y .numbers .endian-in, low-data (w .result) (width-le (w .result) (rw (w .ensures) (type-width (a .sampletype)))) (numberKind (a .sampletype)) (a .endian) zs t), omega (arith, k, c .before .before .before .put-bytes .kept .0))
 
 answer-requires-3 : tie.Need-answer-requires-3
 answer-requires-3 c κs = search needs
@@ -117,13 +118,13 @@ returns-3 c =
     let e = c .before .before .before .before .before .before .before .before .before .before .before .before .before .before .before .before .before .early-refusal in
     let z = c .before .before .before .before .before .before .before .before .before .before .before .before .before .before .before .before .if1 .left in
     let h = c .before .before .before .before .before .before .before .before .before .before .before .before .before .before .put-header in
-    let w = c .before .before .before .before .before .before .before .before .before .before .before .before .width-of in
+    let w = c .before .before .before .before .before .before .before .before .before .before .before .before .sample-bytes in
     let f : take (h .result) (h .last .0) ≡ headerBytes (a .version) (now (a .sizes)) (a .sampletype) (a .encoding) (a .endian) = stored-front (h .last .0) _ (headerBytes (a .version) (now (a .sizes)) (a .sampletype) (a .encoding) (a .endian)) (h .result) (h .ensures .0 .1) (h .ensures .0 .0) (omega (arith, h .ensures .1)) in
     let r = c .before .before .before .before .before .before .before .before .before .before .before .file-refusal in
     let b = c .before .before .before .before .before .before .before .put-bytes in
     let p = c .before .before .before .put-data in
     (λ i. (c .answer3 .ensures i, p .last .0))
-    ∙ full-call (a .version) (now (a .sizes)) (a .sampletype) (a .encoding) (a .endian) zs (now (a .out)) (e .result) (e .ensures .0) z (h .result) (w .result) (h .ensures .0 .0) (w .ensures .0) (r .result) (r .ensures (a .endian)) (c .before .before .before .before .before .before .before .before .before .before .if2 .left)
+    ∙ full-call (a .version) (now (a .sizes)) (a .sampletype) (a .encoding) (a .endian) zs (now (a .out)) (e .result) (e .ensures .0) z (h .result) (w .result) (h .ensures .0 .0) (w .ensures) (r .result) (r .ensures (a .endian)) (c .before .before .before .before .before .before .before .before .before .before .if2 .left)
     (take (h .result) (h .last .0)) (b .last .0) (p .last .0) (p .result) f (b .ensures .1) (p .ensures .1) (p .ensures .0)
 
 pub write-chosen-spec : {M : Type 1} → statement M
@@ -135,7 +136,7 @@ write-chosen-spec =
     returns
     slice-aggregate-put-header
     put-header-requires
-    width-of-requires
+    sample-bytes-requires
     file-refusal-requires
     answer-requires-2
     returns-2

@@ -21,17 +21,20 @@ returns c gs h e =
     let n : c .before .before .before .args .state .dimension ≡ dimensionOf gs = ap (λ (s : State). s .dimension) (h .is) in
     absurd (omega (arith, h .kept .axes))
 
+cast-sample-bytes : tie.Need-cast-sample-bytes
+cast-sample-bytes c = search needs
+
 sample-bytes-requires : tie.Need-sample-bytes-requires
 sample-bytes-requires c κs = search needs
 
 array-share-prefix-sizes : tie.Need-array-share-prefix-sizes
 array-share-prefix-sizes c =
-    let k : 15 < length (c .before .before .before .before .args .state .sizes) = search needs in
+    let k : 15 < length (c .before .before .before .before .before .args .state .sizes) = search needs in
     omega arith
 
 slice-aggregate-product-of : tie.Need-slice-aggregate-product-of
 slice-aggregate-product-of c =
-    let s = c .before .before .before .before .before .args .state in
+    let s = c .before .before .before .before .before .before .args .state in
     let k : 15 < length (s .sizes) = search needs in
     let l : s .dimension ≤ length (s .sizes) = omega arith in
     sym (length-take-le (s .dimension) (s .sizes) l)
@@ -52,6 +55,7 @@ extent-spec =
     (tie.spec
     cast-n
     returns
+    cast-sample-bytes
     sample-bytes-requires
     array-share-prefix-sizes
     slice-aggregate-product-of

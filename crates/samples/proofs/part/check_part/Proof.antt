@@ -7,14 +7,20 @@ use Rattle.samples.proofs.part.check_part.Tie as tie
 
 -- what the part is, by the type
 is : (c : tie.After-is-signed)
-    → let a = c .before .before .before .args in PartIs (a .reading) (a .n) (a .s .now) (c .before .width-of .result) (c .is-signed .result)
+    → let a = c .before .before .before .before .before .args in PartIs (a .reading) (a .n) (a .s .now) (c .before .before .sample-bytes .result) (c .is-signed .result)
 is c =
-    let a = c .before .before .before .args in
-    part-is (a .reading) (a .n) (a .s .now) (c .before .width-of .result) (c .is-signed .result) (c .before .before .before .pre) (c .before .width-of .ensures)
+    let a = c .before .before .before .before .before .args in
+    part-is (a .reading) (a .n) (a .s .now) (c .before .before .sample-bytes .result) (c .is-signed .result) (c .before .before .before .before .before .pre) (c .before .before .sample-bytes .ensures)
     (c .is-signed .ensures)
 
-width-of-requires : tie.Need-width-of-requires
-width-of-requires c κs = search needs
+cast-sample-bytes : tie.Need-cast-sample-bytes
+cast-sample-bytes c = search needs
+
+sample-bytes-requires : tie.Need-sample-bytes-requires
+sample-bytes-requires c κs = search needs
+
+cast-is-signed : tie.Need-cast-is-signed
+cast-is-signed c = search needs
 
 is-signed-requires : tie.Need-is-signed-requires
 is-signed-requires c κs = search needs
@@ -48,7 +54,9 @@ pub check-part-spec : {M : Type 1} → statement M
 check-part-spec =
     tie.close
     (tie.spec
-    width-of-requires
+    cast-sample-bytes
+    sample-bytes-requires
+    cast-is-signed
     is-signed-requires
     check-requires
     returns

@@ -1,18 +1,21 @@
--- `samples::part::count_of` meets its contract: the quotient is exact.
+-- `samples::part::count_of` meets its contract.
 -- Assumes nothing.
 use borrow.Author.Needs.{needs}
-use Rattle.samples.proofs.Parts.{width-pos, count-is}
+use Rattle.format.proofs.TypeLaws.{type-bytes}
 use Rattle.samples.proofs.part.count_of.Statement.{statement}
 use Rattle.samples.proofs.part.count_of.Tie as tie
 
-width-of-requires : tie.Need-width-of-requires
-width-of-requires c κs = search needs
+cast-sample-bytes : tie.Need-cast-sample-bytes
+cast-sample-bytes c = search needs
+
+sample-bytes-requires : tie.Need-sample-bytes-requires
+sample-bytes-requires c κs = search needs
 
 div-result : tie.Need-div-result
-div-result c = width-pos _ (c .before .width-of .ensures .width)
+div-result c = rw (c .before .sample-bytes .ensures) (type-bytes (c .before .before .before .args .reading .sampletype))
 
 returns : tie.Need-returns
-returns c = λ n. count-is (c .before .before .args .reading) (c .before .width-of .result) n (c .before .width-of .ensures)
+returns c = rw (c .before .sample-bytes .ensures)
 
 pub count-of-spec : {M : Type 1} → statement M
-count-of-spec = tie.close (tie.spec width-of-requires div-result returns)
+count-of-spec = tie.close (tie.spec cast-sample-bytes sample-bytes-requires div-result returns)

@@ -15,14 +15,20 @@ use Rattle.samples.proofs.part.pack_part.Tie as tie
 
 -- what the part is, by the type
 is : (c : tie.After-is-signed)
-    → let a = c .before .before .before .before .args in PartIs (a .reading) (a .n) (a .s .now) (c .before .width-of .result) (c .is-signed .result)
+    → let a = c .before .before .before .before .before .before .args in PartIs (a .reading) (a .n) (a .s .now) (c .before .before .sample-bytes .result) (c .is-signed .result)
 is c =
-    let f = c .before .before .before .before in
+    let f = c .before .before .before .before .before .before in
     let a = f .args in
-    part-is (a .reading) (a .n) (a .s .now) (c .before .width-of .result) (c .is-signed .result) (f .pre .0) (c .before .width-of .ensures) (c .is-signed .ensures)
+    part-is (a .reading) (a .n) (a .s .now) (c .before .before .sample-bytes .result) (c .is-signed .result) (f .pre .0) (c .before .before .sample-bytes .ensures) (c .is-signed .ensures)
 
-width-of-requires : tie.Need-width-of-requires
-width-of-requires c κs = search needs
+cast-sample-bytes : tie.Need-cast-sample-bytes
+cast-sample-bytes c = search needs
+
+sample-bytes-requires : tie.Need-sample-bytes-requires
+sample-bytes-requires c κs = search needs
+
+cast-is-signed : tie.Need-cast-is-signed
+cast-is-signed c = search needs
 
 is-signed-requires : tie.Need-is-signed-requires
 is-signed-requires c κs = search needs
@@ -36,7 +42,7 @@ same-length c = search needs
 returns : tie.Need-returns
 returns c =
     let p = is (c .before .before .before .before .before .before .before) in
-    let r = c .before .before .before .before .before .before .before .before .before .before .before .pre in
+    let r = c .before .before .before .before .before .before .before .before .before .before .before .before .before .pre in
     let t = c .before .before .before .before .if1 .taken in
     let l = p .as-raw t in
     rw (← l) (c .before .before .fill .ensures (p .width) (p .enough t) (r .1 .1) (ap (λ (d : Decoded). d .number) l ∙ r .1 .0))
@@ -50,7 +56,7 @@ same-length-2 c = search needs
 returns-2 : tie.Need-returns-2
 returns-2 c =
     let p = is (c .before .before .before .before .before .before .before .before .before) in
-    let o = c .before .before .before .before .before .before .before .before .before .before .before .before .before in
+    let o = c .before .before .before .before .before .before .before .before .before .before .before .before .before .before .before in
     let l = p .as-text (c .before .before .before .before .if2 .taken) in
     let d₀ = now (o .args .list) in
     rw (← l)
@@ -66,7 +72,7 @@ same-length-3 c = search needs
 returns-3 : tie.Need-returns-3
 returns-3 c =
     let p = is (c .before .before .before .before .before .before .before .before .before) in
-    let r = c .before .before .before .before .before .before .before .before .before .before .before .before .before .pre in
+    let r = c .before .before .before .before .before .before .before .before .before .before .before .before .before .before .before .pre in
     let l = p .as-hex (c .before .before .before .before .before .before .if1 .left) (c .before .before .before .before .if2 .left) in
     rw (← l) (c .before .before .fill3 .ensures (p .width) (r .1 .1) (ap (λ (d : Decoded). d .number) l ∙ r .1 .0))
 
@@ -74,7 +80,9 @@ pub pack-part-spec : {M : Type 1} → statement M
 pack-part-spec =
     tie.close
     (tie.spec
-    width-of-requires
+    cast-sample-bytes
+    sample-bytes-requires
+    cast-is-signed
     is-signed-requires
     fill-requires
     same-length

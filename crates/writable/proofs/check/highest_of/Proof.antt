@@ -1,28 +1,22 @@
 -- `writable::check::highest_of` meets its contract. Assumes nothing.
 use borrow.Author.Needs.{needs}
-use Prim.Native.Nat.{ℕ, _<_}
-use mathlib.Core.Path.{_≡_, refl}
-use mathlib.Core.List.{List, [], _∷_}
-use lib.Dec.{lit<}
-use lib.ListN.{getD}
-use Rattle.format.specs.Descriptors.{typeAt, numberKind, sampleBytes}
-use Rattle.format.specs.Samples.{highest}
-use Rattle.words.proofs.TypeLaws.{below-10}
+use Rattle.writable.proofs.Refuse.{highest-type}
 use Rattle.writable.proofs.check.highest_of.Statement.{statement}
 use Rattle.writable.proofs.check.highest_of.Tie as tie
 
-abbrev table : List ℕ
-table = 127 ∷ 255 ∷ 32767 ∷ 65535 ∷ 2147483647 ∷ 4294967295 ∷ 9223372036854775807 ∷ 9223372036854775807 ∷ 0 ∷ 0 ∷ []
+is-signed-requires : tie.Need-is-signed-requires
+is-signed-requires c κs = search needs
 
-mul-result : tie.Need-mul-result
-mul-result c = search needs
+sample-bytes-requires : tie.Need-sample-bytes-requires
+sample-bytes-requires c κs = search needs
 
-array-read-result : tie.Need-array-read-result
-array-read-result c = search needs
+highest-requires : tie.Need-highest-requires
+highest-requires c κs = search needs
 
 returns : tie.Need-returns
-unfolding typeAt
-returns c = below-10 (λ t. (getD table t 0 ≡ highest (numberKind t) (sampleBytes t)) × (getD table t 0 < 9223372036854775808)) (refl, lit< tt) (refl, lit< tt) (refl, lit< tt) (refl, lit< tt) (refl, lit< tt) (refl, lit< tt) (refl, lit< tt) (refl, lit< tt) (refl, lit< tt) (refl, lit< tt) (c .args .t) (c .pre)
+returns c =
+    let f = c .before .before .before in
+    highest-type (f .args .t) (f .pre) (c .before .before .is-signed .ensures) (c .before .sample-bytes .ensures) (c .highest .ensures)
 
 pub highest-of-spec : {M : Type 1} → statement M
-highest-of-spec = tie.close (tie.spec mul-result array-read-result returns)
+highest-of-spec = tie.close (tie.spec is-signed-requires sample-bytes-requires highest-requires returns)

@@ -1,28 +1,22 @@
 -- `writable::check::lowest_of` meets its contract. Assumes nothing.
 use borrow.Author.Needs.{needs}
-use Prim.Native.Nat.{ℕ, _≤_}
-use mathlib.Core.Path.{_≡_, refl}
-use mathlib.Core.List.{List, [], _∷_}
-use lib.Dec.{lit≤}
-use lib.ListN.{getD}
-use Rattle.format.specs.Descriptors.{typeAt, numberKind, sampleBytes}
-use Rattle.format.specs.Samples.{lowest}
-use Rattle.words.proofs.TypeLaws.{below-10}
+use Rattle.writable.proofs.Refuse.{lowest-type}
 use Rattle.writable.proofs.check.lowest_of.Statement.{statement}
 use Rattle.writable.proofs.check.lowest_of.Tie as tie
 
-abbrev table : List ℕ
-table = 128 ∷ 0 ∷ 32768 ∷ 0 ∷ 2147483648 ∷ 0 ∷ 9223372036854775808 ∷ 0 ∷ 0 ∷ 0 ∷ []
+is-signed-requires : tie.Need-is-signed-requires
+is-signed-requires c κs = search needs
 
-mul-result : tie.Need-mul-result
-mul-result c = search needs
+sample-bytes-requires : tie.Need-sample-bytes-requires
+sample-bytes-requires c κs = search needs
 
-array-read-result : tie.Need-array-read-result
-array-read-result c = search needs
+lowest-requires : tie.Need-lowest-requires
+lowest-requires c κs = search needs
 
 returns : tie.Need-returns
-unfolding typeAt
-returns c = below-10 (λ t. (getD table t 0 ≡ lowest (numberKind t) (sampleBytes t)) × (getD table t 0 ≤ 9223372036854775808)) (refl, lit≤ tt) (refl, lit≤ tt) (refl, lit≤ tt) (refl, lit≤ tt) (refl, lit≤ tt) (refl, lit≤ tt) (refl, lit≤ tt) (refl, lit≤ tt) (refl, lit≤ tt) (refl, lit≤ tt) (c .args .t) (c .pre)
+returns c =
+    let f = c .before .before .before in
+    lowest-type (f .args .t) (f .pre) (c .before .before .is-signed .ensures) (c .before .sample-bytes .ensures) (c .lowest .ensures)
 
 pub lowest-of-spec : {M : Type 1} → statement M
-lowest-of-spec = tie.close (tie.spec mul-result array-read-result returns)
+lowest-of-spec = tie.close (tie.spec is-signed-requires sample-bytes-requires lowest-requires returns)

@@ -11,13 +11,13 @@ use Rattle.writer.proofs.head.needs_endian.Tie as tie
 returns : tie.Need-returns
 returns c = rw (c .if1 .taken) (sym (and-false (ltb 1 (sampleBytes (c .before .args .sampletype)))))
 
-width-of-requires : tie.Need-width-of-requires
-width-of-requires c κs = search needs
+sample-bytes-requires : tie.Need-sample-bytes-requires
+sample-bytes-requires c κs = search needs
 
 returns-2 : tie.Need-returns-2
 returns-2 c =
     let a = c .before .before .args in
-    rw (raw-or-hex (a .encoding) (c .before .before .pre .1) (c .before .if1 .left)) (ap (ltb 1) (c .width-of .ensures .0) ∙ sym (and-true (ltb 1 (sampleBytes (a .sampletype)))))
+    rw (raw-or-hex (a .encoding) (c .before .before .pre .1) (c .before .if1 .left)) (ap (ltb 1) (c .sample-bytes .ensures) ∙ sym (and-true (ltb 1 (sampleBytes (a .sampletype)))))
 
 pub needs-endian-spec : {M : Type 1} → statement M
-needs-endian-spec = tie.close (tie.spec returns width-of-requires returns-2)
+needs-endian-spec = tie.close (tie.spec returns sample-bytes-requires returns-2)
