@@ -199,30 +199,12 @@ fn blanks(s: &&[u8], at: &mut usize, n: usize, low: u64, high: u64, v: &mut i64)
 pub(crate) fn lowest_of(signed: bool, w: usize) -> u64
     ensures { λ r. ⌜ (r ≤ 2 ^ 63) × (Width w → r ≡ lowest (kindBy signed) w) ⌝ }
 {
-    if !signed {
-        0
-    } else if w == 1 {
-        128
-    } else if w == 2 {
-        32768
-    } else if w == 4 {
-        2147483648
-    } else {
-        9223372036854775808
-    }
+    format::types::lowest(signed, w as u64)
 }
 
 // The greatest value of a type.
 pub(crate) fn highest_of(signed: bool, w: usize) -> u64
     ensures { λ r. ⌜ (r < 2 ^ 63) × (Width w → r ≡ highest (kindBy signed) w) ⌝ }
 {
-    if w == 1 {
-        if signed { 127 } else { 255 }
-    } else if w == 2 {
-        if signed { 32767 } else { 65535 }
-    } else if w == 4 {
-        if signed { 2147483647 } else { 4294967295 }
-    } else {
-        9223372036854775807
-    }
+    format::types::highest(signed, w as u64)
 }

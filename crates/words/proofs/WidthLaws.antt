@@ -7,8 +7,7 @@ use mathlib.Core.Bool.{Bool, true, false, _||_, false≢true}
 use mathlib.Core.Logic.{inl, inr, ⊎-elim}
 use lib.Dec.{eqb}
 use borrow.Author.Tests.{eqb-true, ne-eqb}
-use Rattle.format.specs.Samples.{highest}
-use Rattle.words.specs.Widths.{Width, isWidth, kindBy}
+use Rattle.words.specs.Widths.{Width, isWidth}
 
 module _ {ℓ} {A : Type ℓ} (w : ℕ) (d : Width w) where
   pub by-width : (w ≡ 1 → A) → (w ≡ 2 → A) → (w ≡ 4 → A) → (w ≡ 8 → A) → A
@@ -46,8 +45,3 @@ not-width w d e = false≢true (sym e ∙ width-is w d)
 pub width-eight : (w : ℕ) → (w ≡ 1 → ⊥) → (w ≡ 2 → ⊥) → (w ≡ 4 → ⊥) → Width w → w ≡ 8
 width-eight w a b c x =
     ⊎-elim (λ e. absurd (a e)) (λ y. ⊎-elim (λ e. absurd (b e)) (λ z. ⊎-elim (λ e. absurd (c e)) (λ e. e) z) y) x
-
--- the greatest value of 8 bytes is the same for both kinds
-pub highest-eight : (b : Bool) → 9223372036854775807 ≡ highest (kindBy b) 8
-highest-eight true = refl
-highest-eight false = refl

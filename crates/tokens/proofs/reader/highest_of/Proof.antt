@@ -1,35 +1,21 @@
--- `reader::highest_of` meets its contract: each width by its own number.
+-- `reader::highest_of` meets its contract: the bound of the width.
 -- Assumes nothing.
-use mathlib.Core.Path.{refl}
+use mathlib.Core.Path.{ap, _∙_}
 use borrow.Author.Needs.{needs}
-use Rattle.words.proofs.WidthLaws.{width-eight, highest-eight}
+use Rattle.format.specs.Samples.{highest}
+use Rattle.format.proofs.TypeLaws.{width-by, highest-most}
+use Rattle.words.specs.Widths.{kindBy}
 use Rattle.tokens.proofs.reader.highest_of.Statement.{statement}
 use Rattle.tokens.proofs.reader.highest_of.Tie as tie
 
+highest-requires : tie.Need-highest-requires
+highest-requires c κs = search needs
+
 returns : tie.Need-returns
-returns c = (search needs, λ x. rw (c .before .if1 .taken, c .if2 .taken) refl)
-
-returns-2 : tie.Need-returns-2
-returns-2 c = (search needs, λ x. rw (c .before .if1 .taken, c .if2 .left) refl)
-
-returns-3 : tie.Need-returns-3
-returns-3 c = (search needs, λ x. rw (c .before .if3 .taken, c .if4 .taken) refl)
-
-returns-4 : tie.Need-returns-4
-returns-4 c = (search needs, λ x. rw (c .before .if3 .taken, c .if4 .left) refl)
-
-returns-5 : tie.Need-returns-5
-returns-5 c = (search needs, λ x. rw (c .before .if5 .taken, c .if6 .taken) refl)
-
-returns-6 : tie.Need-returns-6
-returns-6 c = (search needs, λ x. rw (c .before .if5 .taken, c .if6 .left) refl)
-
-returns-7 : tie.Need-returns-7
-returns-7 c =
-    let a = c .before .before .before .args in
-    let eight = width-eight (a .w) (c .before .before .if1 .left) (c .before .if3 .left) (c .if5 .left) in
-    (search needs, λ x. rw (eight x) (highest-eight (a .signed)))
+returns c =
+    let a = c .before .args in
+    let e = c .highest .ensures in
+    (rw e (highest-most (a .signed) (a .w)), λ d. e ∙ ap (highest (kindBy (a .signed))) (width-by (a .w) d))
 
 pub highest-of-spec : {M : Type 1} → statement M
-highest-of-spec =
-    tie.close (tie.spec returns returns-2 returns-3 returns-4 returns-5 returns-6 returns-7)
+highest-of-spec = tie.close (tie.spec highest-requires returns)
