@@ -1,12 +1,14 @@
 // Hex samples into a list, block by block: the bytes that the digits write, and these as raw samples.
 ghost use mathlib.Core.Path.{_≡_};
+ghost use mathlib.Core.Bool.{false, _&&_};
 ghost use Prim.Native.Nat.{_*_, _≤_};
+ghost use lib.Dec.{leb};
 ghost use lib.ListN.{length};
-ghost use Rattle.format.specs.Bytes.{over};
+ghost use Rattle.format.specs.Bytes.{over, if_then_else_};
 ghost use Rattle.format.specs.Descriptors.{unsigned};
 ghost use Rattle.format.specs.Samples.{hexSamples, withoutBlanks};
 ghost use Rattle.hex.specs.Forms.{Enough, Past, samplesAt};
-ghost use Rattle.words.specs.Widths.{Width, kindBy, endianBy};
+ghost use Rattle.words.specs.Widths.{Width, isWidth, kindBy, endianBy};
 use crate::bytes;
 use crate::scan;
 
@@ -48,9 +50,9 @@ fn check_values(s: &[u8], n: usize, big: bool) -> u32
     0
 }
 
-// The refusal that n samples of w bytes come to: 20 or 21, whichever comes first, or 0.
+// The refusal that n samples of w bytes come to: 20 or 21, whichever comes first, or 0. It is 0 too where w is no width.
 pub fn check(s: &[u8], n: usize, w: usize, signed: bool, big: bool) -> u32
-    ensures { λ r. ⌜ (Width w → r ≡ hexSamples (kindBy signed) w (endianBy big) n (withoutBlanks (now (s .entry))) .number) ⌝ }
+    ensures { λ r. ⌜ r ≡ (if isWidth w then hexSamples (kindBy signed) w (endianBy big) n (withoutBlanks (now (s .entry))) .number else 0) ⌝ }
 {
     if !words::is_width(w) {
         return 0;
@@ -108,9 +110,10 @@ fn fill_blocks(s: &[u8], n: usize, w: usize, signed: bool, big: bool, dst: &mut 
     }
 }
 
-// The samples to the front of dst, where none is refused.
+// The samples to the front of dst, where none is refused. dst stays as it was where it is too short or w is no width.
 pub fn fill(s: &[u8], n: usize, w: usize, signed: bool, big: bool, dst: &mut [i64])
-    ensures { λ _. ⌜ (Width w → n ≤ length (now (dst .entry)) → hexSamples (kindBy signed) w (endianBy big) n (withoutBlanks (now (s .entry))) .number ≡ 0 → now (dst .exit) ≡ over (hexSamples (kindBy signed) w (endianBy big) n (withoutBlanks (now (s .entry))) .seen) (now (dst .entry))) ⌝ }
+    ensures kept { λ _. ⌜ ((isWidth w && leb n (length (now (dst .entry)))) ≡ false → now (dst .exit) ≡ now (dst .entry)) ⌝ }
+    ensures fills { λ _. ⌜ (Width w → n ≤ length (now (dst .entry)) → hexSamples (kindBy signed) w (endianBy big) n (withoutBlanks (now (s .entry))) .number ≡ 0 → now (dst .exit) ≡ over (hexSamples (kindBy signed) w (endianBy big) n (withoutBlanks (now (s .entry))) .seen) (now (dst .entry))) ⌝ }
 {
     if !words::is_width(w) {
         return;

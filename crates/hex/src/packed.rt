@@ -1,12 +1,14 @@
 // Hex samples into lent bytes, 8 for each, the low byte first. It goes by blocks, as for a list.
 ghost use mathlib.Core.Path.{_≡_};
+ghost use mathlib.Core.Bool.{false, _&&_};
 ghost use Prim.Native.Nat.{_*_, _/_, _≤_};
+ghost use lib.Dec.{leb};
 ghost use lib.ListN.{length};
 ghost use Rattle.format.specs.Boundary.{wordsOfSamples};
 ghost use Rattle.format.specs.Bytes.{over};
 ghost use Rattle.format.specs.Samples.{hexSamples, withoutBlanks};
 ghost use Rattle.words.specs.Packed.{samplesOver};
-ghost use Rattle.words.specs.Widths.{Width, kindBy, endianBy};
+ghost use Rattle.words.specs.Widths.{Width, isWidth, kindBy, endianBy};
 ghost use Rattle.hex.specs.Forms.{Enough, Past, samplesAt};
 use crate::bytes;
 
@@ -50,9 +52,10 @@ fn fill_blocks(s: &[u8], n: usize, w: usize, signed: bool, big: bool, dst: &mut 
     }
 }
 
-// The samples to the front of dst, where none is refused.
+// The samples to the front of dst, where none is refused. dst stays as it was where it is too short or w is no width.
 pub fn fill(s: &[u8], n: usize, w: usize, signed: bool, big: bool, dst: &mut [u8])
-    ensures { λ _. ⌜ (Width w → n ≤ length (now (dst .entry)) / 8 → hexSamples (kindBy signed) w (endianBy big) n (withoutBlanks (now (s .entry))) .number ≡ 0 → now (dst .exit) ≡ samplesOver (hexSamples (kindBy signed) w (endianBy big) n (withoutBlanks (now (s .entry))) .seen) (now (dst .entry))) ⌝ }
+    ensures kept { λ _. ⌜ ((isWidth w && leb n (length (now (dst .entry)) / 8)) ≡ false → now (dst .exit) ≡ now (dst .entry)) ⌝ }
+    ensures fills { λ _. ⌜ (Width w → n ≤ length (now (dst .entry)) / 8 → hexSamples (kindBy signed) w (endianBy big) n (withoutBlanks (now (s .entry))) .number ≡ 0 → now (dst .exit) ≡ samplesOver (hexSamples (kindBy signed) w (endianBy big) n (withoutBlanks (now (s .entry))) .seen) (now (dst .entry))) ⌝ }
 {
     if !words::is_width(w) {
         return;

@@ -1,6 +1,6 @@
 // Raw samples into a list.
 ghost use mathlib.Core.Path.{_≡_};
-ghost use mathlib.Core.Bool.{true, false};
+ghost use mathlib.Core.Bool.{true, false, _&&_};
 ghost use Prim.Native.Nat.{_+_, _*_, _≤_};
 ghost use lib.ListN.{length};
 ghost use lib.Dec.{leb};
@@ -10,7 +10,7 @@ ghost use Rattle.format.specs.Descriptors.{unsigned};
 ghost use Rattle.format.specs.Limits.{maxSample};
 ghost use Rattle.format.specs.Samples.{rawSamples};
 ghost use Rattle.raw.specs.Bits.{Shifts, lows};
-ghost use Rattle.words.specs.Widths.{Width, kindBy, endianBy};
+ghost use Rattle.words.specs.Widths.{Width, kindBy, endianBy, enough};
 use crate::number;
 
 // 1 for a number above the largest sample, or 0.
@@ -36,9 +36,9 @@ fn check_words(s: &[u8], n: usize, big: bool) -> u32
     if count == 0 { 0 } else { format::BAD_SAMPLE }
 }
 
-// The refusal that n samples of w bytes come to: 20 where one is above the largest sample, or 0.
+// The refusal that n samples of w bytes come to: 20 where one is above the largest sample, or 0. It is 0 too where s does not hold n samples, or w is no width.
 pub fn check(s: &[u8], n: usize, w: usize, signed: bool, big: bool) -> u32
-    ensures { λ r. ⌜ (Width w → n * w ≤ length (now (s .entry)) → r ≡ rawSamples (kindBy signed) w (endianBy big) n (now (s .entry)) .number) ⌝ }
+    ensures { λ r. ⌜ r ≡ (if enough w n (length (now (s .entry))) then rawSamples (kindBy signed) w (endianBy big) n (now (s .entry)) .number else 0) ⌝ }
 {
     if signed {
         return 0;
@@ -200,9 +200,10 @@ fn put_by_endian(s: &[u8], n: usize, w: usize, signed: bool, big: bool, dst: &mu
     put_little(s, n, w, signed, dst)
 }
 
-// The samples to the front of dst, where none is refused.
+// The samples to the front of dst, where none is refused. dst stays as it was where it is too short, s does not hold n samples, or w is no width.
 pub fn fill(s: &[u8], n: usize, w: usize, signed: bool, big: bool, dst: &mut [i64])
-    ensures { λ _. ⌜ (Width w → n * w ≤ length (now (s .entry)) → n ≤ length (now (dst .entry)) → rawSamples (kindBy signed) w (endianBy big) n (now (s .entry)) .number ≡ 0 → now (dst .exit) ≡ over (rawSamples (kindBy signed) w (endianBy big) n (now (s .entry)) .seen) (now (dst .entry))) ⌝ }
+    ensures kept { λ _. ⌜ ((enough w n (length (now (s .entry))) && leb n (length (now (dst .entry)))) ≡ false → now (dst .exit) ≡ now (dst .entry)) ⌝ }
+    ensures fills { λ _. ⌜ (Width w → n * w ≤ length (now (s .entry)) → n ≤ length (now (dst .entry)) → rawSamples (kindBy signed) w (endianBy big) n (now (s .entry)) .number ≡ 0 → now (dst .exit) ≡ over (rawSamples (kindBy signed) w (endianBy big) n (now (s .entry)) .seen) (now (dst .entry))) ⌝ }
 {
     if dst.len() < n {
         return;

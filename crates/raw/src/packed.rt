@@ -1,14 +1,15 @@
 // Raw samples into lent bytes, 8 for each, the low byte first.
 ghost use mathlib.Core.Path.{_≡_};
-ghost use mathlib.Core.Bool.{true, false};
+ghost use mathlib.Core.Bool.{true, false, _&&_};
 ghost use Prim.Native.Nat.{_+_, _*_, _/_, _≤_};
 ghost use lib.ListN.{length};
+ghost use lib.Dec.{leb};
 ghost use lib.Seq.{sets};
 ghost use Rattle.format.specs.Boundary.{wordsOfSamples};
 ghost use Rattle.format.specs.Samples.{rawSamples};
 ghost use Rattle.raw.specs.Bits.{Shifts, lows};
 ghost use Rattle.words.specs.Packed.{samplesOver};
-ghost use Rattle.words.specs.Widths.{Width, kindBy, endianBy};
+ghost use Rattle.words.specs.Widths.{Width, kindBy, endianBy, enough};
 use crate::number;
 
 // Raw samples to the front of dst, with no place tested.
@@ -159,9 +160,10 @@ fn put_by_endian(s: &[u8], n: usize, w: usize, signed: bool, big: bool, dst: &mu
     put_little(s, n, w, signed, dst)
 }
 
-// Raw samples to the front of dst, where none is refused.
+// Raw samples to the front of dst, where none is refused. dst stays as it was where it is too short, s does not hold n samples, or w is no width.
 pub fn fill(s: &[u8], n: usize, w: usize, signed: bool, big: bool, dst: &mut [u8])
-    ensures { λ _. ⌜ (Width w → n * w ≤ length (now (s .entry)) → n ≤ length (now (dst .entry)) / 8 → rawSamples (kindBy signed) w (endianBy big) n (now (s .entry)) .number ≡ 0 → now (dst .exit) ≡ samplesOver (rawSamples (kindBy signed) w (endianBy big) n (now (s .entry)) .seen) (now (dst .entry))) ⌝ }
+    ensures kept { λ _. ⌜ ((enough w n (length (now (s .entry))) && leb n (length (now (dst .entry)) / 8)) ≡ false → now (dst .exit) ≡ now (dst .entry)) ⌝ }
+    ensures fills { λ _. ⌜ (Width w → n * w ≤ length (now (s .entry)) → n ≤ length (now (dst .entry)) / 8 → rawSamples (kindBy signed) w (endianBy big) n (now (s .entry)) .number ≡ 0 → now (dst .exit) ≡ samplesOver (rawSamples (kindBy signed) w (endianBy big) n (now (s .entry)) .seen) (now (dst .entry))) ⌝ }
 {
     if dst.len() / 8 < n {
         return;

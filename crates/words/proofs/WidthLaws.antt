@@ -1,13 +1,15 @@
 -- Laws of the widths.
 -- Assumes nothing.
-use Prim.Native.Nat.{ℕ, _≤_, _<_}
+use Prim.Native.Nat.{ℕ, _*_, _≤_, _<_}
 use native.Mathlib.Omega.{arith}
 use mathlib.Core.Path.{_≡_, refl, sym, _∙_}
-use mathlib.Core.Bool.{Bool, true, false, _||_, false≢true}
+use mathlib.Core.Bool.{Bool, true, false, _&&_, _||_, false≢true}
 use mathlib.Core.Logic.{inl, inr, ⊎-elim}
-use lib.Dec.{eqb}
-use borrow.Author.Tests.{eqb-true, ne-eqb}
-use Rattle.words.specs.Widths.{Width, isWidth}
+use lib.Dec.{eqb, leb}
+use borrow.Author.Tests.{eqb-true, ne-eqb, le-leb, leb-true}
+use Rattle.format.specs.Bytes.{if_then_else_}
+use Rattle.format.proofs.Bytes.{and-left, and-right}
+use Rattle.words.specs.Widths.{Width, isWidth, enough}
 
 module _ {ℓ} {A : Type ℓ} (w : ℕ) (d : Width w) where
   pub by-width : (w ≡ 1 → A) → (w ≡ 2 → A) → (w ≡ 4 → A) → (w ≡ 8 → A) → A
@@ -32,7 +34,7 @@ is-width w e = go (eqb w 1) (eqb w 2) (eqb w 4) refl refl refl e
     go false false true p q r h = inr (inr (inl (eqb-true w 4 r)))
     go false false false p q r h = inr (inr (inr (eqb-true w 8 h)))
 
-width-is : (w : ℕ) → Width w → isWidth w ≡ true
+pub width-is : (w : ℕ) → Width w → isWidth w ≡ true
 width-is w d = by-width w d (λ e. rw e) (λ e. rw e) (λ e. rw e) (λ e. rw e)
 
 pub last-width : (w : ℕ) → (w ≡ 1 → ⊥) → (w ≡ 2 → ⊥) → (w ≡ 4 → ⊥) → eqb w 8 ≡ isWidth w
@@ -45,3 +47,24 @@ not-width w d e = false≢true (sym e ∙ width-is w d)
 pub width-eight : (w : ℕ) → (w ≡ 1 → ⊥) → (w ≡ 2 → ⊥) → (w ≡ 4 → ⊥) → Width w → w ≡ 8
 width-eight w a b c x =
     ⊎-elim (λ e. absurd (a e)) (λ y. ⊎-elim (λ e. absurd (b e)) (λ z. ⊎-elim (λ e. absurd (c e)) (λ e. e) z) y) x
+
+-- ---- as many samples as are asked for
+
+module _ (w n bytes : ℕ) where
+  pub enough-is : Width w → n * w ≤ bytes → enough w n bytes ≡ true
+  enough-is d h = rw (width-is w d, le-leb (n * w) bytes h)
+
+  pub is-enough : enough w n bytes ≡ true → Width w × (n * w ≤ bytes)
+  is-enough e = (is-width w (and-left (isWidth w) (leb (n * w) bytes) e), leb-true (n * w) bytes (and-right (isWidth w) (leb (n * w) bytes) e))
+
+-- a number that is told where a test holds, and 0 where it does not
+pub told-by : (t : Bool) {r x : ℕ} → (t ≡ true → r ≡ x) → (t ≡ false → r ≡ 0) → r ≡ (if t then x else 0)
+told-by true f g = f refl
+told-by false f g = g refl
+
+pub told-is : {t : Bool} {r x : ℕ} → r ≡ (if t then x else 0) → t ≡ true → r ≡ x
+told-is e q = rw q at e
+
+-- both tests hold, so that nothing is left as it was
+pub not-kept : (a b : Bool) → a ≡ true → b ≡ true → (a && b) ≡ false → ⊥
+not-kept a b p q e = false≢true (sym (rw (p, q) at e))

@@ -1,11 +1,12 @@
 -- `check` meets its contract: what the scan comes to, and for unsigned samples of 8 bytes the values.
 -- Assumes nothing.
 use native.Mathlib.Omega.{arith}
-use mathlib.Core.Path.{sym, _∙_}
+use mathlib.Core.Path.{_≡_, sym, _∙_}
+use mathlib.Core.Bool.{true, false}
 use denote.Ref.{now}
 use borrow.Author.Tests.{not-true, not-false}
-use Rattle.words.specs.Widths.{endianBy}
-use Rattle.words.proofs.WidthLaws.{is-width, not-width}
+use Rattle.words.specs.Widths.{isWidth, endianBy}
+use Rattle.words.proofs.WidthLaws.{is-width}
 use Rattle.hex.proofs.SampleLaws.{signed-told, narrow-told, wide-bad, wide-good}
 use borrow.Author.Needs.{needs}
 use Rattle.hex.proofs.list.check.Statement.{statement}
@@ -15,7 +16,9 @@ is-width-requires : tie.Need-is-width-requires
 is-width-requires c κs = search needs
 
 returns : tie.Need-returns
-returns c = λ d. absurd (not-width _ d (sym (c .before .is-width .ensures) ∙ not-true _ (c .if1 .taken)))
+returns c =
+    let e : isWidth (c .before .before .before .args .w) ≡ false = sym (c .before .is-width .ensures) ∙ not-true _ (c .if1 .taken) in
+    rw e
 
 wanted-requires : tie.Need-wanted-requires
 wanted-requires c κs = (is-width _ (sym (c .before .is-width .ensures) ∙ not-false _ (c .if1 .left)), omega (arith, c .before .before .before .good))
@@ -27,13 +30,15 @@ returns-2 : tie.Need-returns-2
 returns-2 c =
     let a = c .before .before .before .before .before .before .args in
     let n = c .before .before .wanted in
-    rw (c .if2 .taken) (λ d. signed-told (a .w) (endianBy (a .big)) (a .n) (now (a .s)) (n .result) (c .before .scan .result) (c .before .scan .ensures) d (n .ensures .0) (n .ensures .1))
+    let w : isWidth (a .w) ≡ true = sym (c .before .before .before .before .is-width .ensures) ∙ not-false _ (c .before .before .before .if1 .left) in
+    rw (c .if2 .taken, w) (signed-told (a .w) (endianBy (a .big)) (a .n) (now (a .s)) (n .result) (c .before .scan .result) (c .before .scan .ensures) (is-width (a .w) w) (n .ensures .0) (n .ensures .1))
 
 returns-3 : tie.Need-returns-3
 returns-3 c =
     let a = c .before .before .before .before .before .before .before .args in
     let n = c .before .before .before .wanted in
-    rw (c .before .if2 .left) (λ d. narrow-told (a .w) (endianBy (a .big)) (a .n) (now (a .s)) (n .result) (c .before .before .scan .result) (c .before .before .scan .ensures) d (n .ensures .0) (n .ensures .1) (c .if3 .taken))
+    let w : isWidth (a .w) ≡ true = sym (c .before .before .before .before .before .is-width .ensures) ∙ not-false _ (c .before .before .before .before .if1 .left) in
+    rw (c .before .if2 .left, w) (narrow-told (a .w) (endianBy (a .big)) (a .n) (now (a .s)) (n .result) (c .before .before .scan .result) (c .before .before .scan .ensures) (is-width (a .w) w) (n .ensures .0) (n .ensures .1) (c .if3 .taken))
 
 check-values-requires : tie.Need-check-values-requires
 check-values-requires c κs = search needs
@@ -44,7 +49,7 @@ returns-4 c =
     let n = c .before .before .before .before .before .before .wanted in
     let x = c .before .before .before .before .before .scan in
     let e = c .before .before .before .if3 .left in
-    rw (c .before .before .before .before .if2 .left, e) (λ d. wide-bad (endianBy (a .big)) (a .n) (now (a .s)) (n .result) (x .result) (x .ensures) (rw e at (n .ensures .0)) (rw e at (n .ensures .1)) _ (c .before .check-values .ensures) (c .if4 .taken))
+    rw (c .before .before .before .before .if2 .left, e) (wide-bad (endianBy (a .big)) (a .n) (now (a .s)) (n .result) (x .result) (x .ensures) (rw e at (n .ensures .0)) (rw e at (n .ensures .1)) _ (c .before .check-values .ensures) (c .if4 .taken))
 
 returns-5 : tie.Need-returns-5
 returns-5 c =
@@ -52,7 +57,7 @@ returns-5 c =
     let n = c .before .before .before .before .before .before .wanted in
     let x = c .before .before .before .before .before .scan in
     let e = c .before .before .before .if3 .left in
-    rw (c .before .before .before .before .if2 .left, e) (λ d. wide-good (endianBy (a .big)) (a .n) (now (a .s)) (n .result) (x .result) (x .ensures) (rw e at (n .ensures .0)) (rw e at (n .ensures .1)) _ (c .before .check-values .ensures) (c .if4 .left))
+    rw (c .before .before .before .before .if2 .left, e) (wide-good (endianBy (a .big)) (a .n) (now (a .s)) (n .result) (x .result) (x .ensures) (rw e at (n .ensures .0)) (rw e at (n .ensures .1)) _ (c .before .check-values .ensures) (c .if4 .left))
 
 pub check-spec : {M : Type 1} → statement M
 check-spec =

@@ -8,6 +8,7 @@ use denote.Ref.{now}
 use Rattle.format.specs.Descriptors.{unsigned}
 use Rattle.format.specs.Samples.{Decoded}
 use Rattle.words.specs.Widths.{endianBy}
+use Rattle.words.proofs.WidthLaws.{enough-is, told-is}
 use Rattle.hex.proofs.LoopLaws.{taken-samples}
 use borrow.Author.Needs.{needs}
 use Rattle.hex.proofs.list.check_block.Statement.{statement}
@@ -32,7 +33,7 @@ returns : tie.Need-returns
 returns c =
     let a = c .before .before .before .before .before .before .args in
     let n = c .before .before .before .next-bytes .ensures in
-    (n .0, λ f. (n .1 f .rest, c .check .ensures (inr (inr (inr refl))) (omega arith) ∙ ap (λ (d : Decoded). d .number) (taken-samples unsigned 8 (endianBy (a .big)) (now (a .s)) (a .m) (a .at) _ _ (omega arith) f (n .1 f))))
+    (n .0, λ f. (n .1 f .rest, told-is (c .check .ensures) (enough-is 8 (a .m) _ (inr (inr (inr refl))) (omega arith)) ∙ ap (λ (d : Decoded). d .number) (taken-samples unsigned 8 (endianBy (a .big)) (now (a .s)) (a .m) (a .at) _ _ (omega arith) f (n .1 f))))
 
 pub check-block-spec : {M : Type 1} → statement M
 check-block-spec =

@@ -1,9 +1,11 @@
 -- `fill` meets its contract: its tests refuse only what the premises rule out.
 -- Assumes nothing.
 use native.Mathlib.Omega.{arith}
-use mathlib.Core.Path.{sym, _∙_}
-use borrow.Author.Tests.{not-true, not-false}
-use Rattle.words.proofs.WidthLaws.{is-width, not-width}
+use mathlib.Core.Path.{_≡_, refl, sym, _∙_}
+use mathlib.Core.Bool.{true}
+use borrow.Author.Tests.{not-true, not-false, le-leb}
+use Rattle.words.specs.Widths.{isWidth}
+use Rattle.words.proofs.WidthLaws.{is-width, not-width, not-kept}
 use borrow.Author.Needs.{needs}
 use Rattle.hex.proofs.list.fill.Statement.{statement}
 use Rattle.hex.proofs.list.fill.Tie as tie
@@ -12,10 +14,10 @@ is-width-requires : tie.Need-is-width-requires
 is-width-requires c κs = search needs
 
 returns : tie.Need-returns
-returns c = λ d h z. absurd (not-width _ d (sym (c .before .is-width .ensures) ∙ not-true _ (c .if1 .taken)))
+returns c = (λ _. refl, λ d h z. absurd (not-width _ d (sym (c .before .is-width .ensures) ∙ not-true _ (c .if1 .taken))))
 
 returns-2 : tie.Need-returns-2
-returns-2 c = λ d h z. absurd (omega arith)
+returns-2 c = (λ _. refl, λ d h z. absurd (omega arith))
 
 fill-blocks-requires : tie.Need-fill-blocks-requires
 fill-blocks-requires c κs = (is-width _ (sym (c .before .before .before .is-width .ensures) ∙ not-false _ (c .before .before .if1 .left)), c .before .if2 .left)
@@ -24,7 +26,10 @@ same-length : tie.Need-same-length
 same-length c = search needs
 
 returns-3 : tie.Need-returns-3
-returns-3 c = λ d h z. c .before .fill-blocks .ensures z
+returns-3 c =
+    let g = c .before .before .before in
+    let e : isWidth (g .before .before .before .before .args .w) ≡ true = sym (g .before .before .is-width .ensures) ∙ not-false _ (g .before .if1 .left) in
+    (λ q. absurd (not-kept _ _ e (le-leb _ _ (g .if2 .left)) q), λ d h z. c .before .fill-blocks .ensures z)
 
 pub fill-spec : {M : Type 1} → statement M
 fill-spec =

@@ -31,7 +31,7 @@ returns c =
     let a = c .before .before .before .before .before .before .before .before .args in
     let p = c .before .before .before .before .before .before .before .before .pre in
     let n = c .before .before .before .before .before .next-bytes .ensures in
-    (n .0, λ f. (n .1 f .rest, rw (taken-samples (kindBy (a .signed)) (a .w) (endianBy (a .big)) (now (a .s)) (a .m) (a .at) _ _ (omega arith) f (n .1 f)) at (c .before .fill .ensures (p .0) (omega arith) (omega arith))))
+    (n .0, λ f. (n .1 f .rest, rw (taken-samples (kindBy (a .signed)) (a .w) (endianBy (a .big)) (now (a .s)) (a .m) (a .at) _ _ (omega arith) f (n .1 f)) at (c .before .fill .ensures .1 (p .0) (omega arith) (omega arith))))
 
 pub fill-block-spec : {M : Type 1} → statement M
 fill-block-spec =

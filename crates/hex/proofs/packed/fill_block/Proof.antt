@@ -33,7 +33,7 @@ returns c =
     let f = k .before .before in
     let a = f .args in
     let n = b .next-bytes .ensures in
-    let filled = c .before .before .fill .ensures (f .pre .0) (omega arith) (f .pre .1 .1 .1) in
+    let filled = c .before .before .fill .ensures .1 (f .pre .0) (omega arith) (f .pre .1 .1 .1) in
     let words = taken-words (kindBy (a .signed)) (a .w) (endianBy (a .big)) (a .m) (now (a .s)) (now (a .dst)) (f .pre .1 .1 .1) (λ i. k .slice-known .given i .fits) in
     (n .0, λ e. (n .1 e .rest, words (a .at) _ _ _ (omega arith) e (n .1 e) filled))
 

@@ -2,27 +2,27 @@
 -- Assumes nothing.
 use native.Mathlib.Omega.{arith}
 use native.Mathlib.Nat.{le-div-iff-mul-le, div-lt-iff-lt-mul}
-use mathlib.Core.Path.{sym, _∙_}
-use borrow.Author.Tests.{not-true, not-false}
-use Rattle.words.proofs.WidthLaws.{is-width, not-width, width-pos}
+use mathlib.Core.Path.{refl, sym, _∙_}
+use borrow.Author.Tests.{not-true, not-false, le-leb}
+use Rattle.words.proofs.WidthLaws.{is-width, not-width, width-pos, enough-is, not-kept}
 use borrow.Author.Needs.{needs}
 use Rattle.raw.proofs.list.fill.Statement.{statement}
 use Rattle.raw.proofs.list.fill.Tie as tie
 
 returns : tie.Need-returns
-returns c = λ d h l z. absurd (omega arith)
+returns c = (λ _. refl, λ d h l z. absurd (omega arith))
 
 is-width-requires : tie.Need-is-width-requires
 is-width-requires c κs = search needs
 
 returns-2 : tie.Need-returns-2
-returns-2 c = λ d h l z. absurd (not-width _ d (sym (c .before .is-width .ensures) ∙ not-true _ (c .if2 .taken)))
+returns-2 c = (λ _. refl, λ d h l z. absurd (not-width _ d (sym (c .before .is-width .ensures) ∙ not-true _ (c .if2 .taken))))
 
 div-if3 : tie.Need-div-if3
 div-if3 c = width-pos _ (is-width _ (sym (c .before .is-width .ensures) ∙ not-false _ (c .if2 .left)))
 
 returns-3 : tie.Need-returns-3
-returns-3 c = λ d h l z. absurd (omega (arith, div-lt-iff-lt-mul (width-pos _ d) .0 (c .if3 .taken)))
+returns-3 c = (λ _. refl, λ d h l z. absurd (omega (arith, div-lt-iff-lt-mul (width-pos _ d) .0 (c .if3 .taken))))
 
 put-by-endian-requires : tie.Need-put-by-endian-requires
 put-by-endian-requires c κs = (let d = is-width _ (sym (c .before .before .before .is-width .ensures) ∙ not-false _ (c .before .before .if2 .left)) in (d, (le-div-iff-mul-le (width-pos _ d) .0 (c .before .if3 .left), c .before .before .before .before .if1 .left)))
@@ -31,7 +31,12 @@ same-length : tie.Need-same-length
 same-length c = search needs
 
 returns-4 : tie.Need-returns-4
-returns-4 c = λ d h l z. c .before .put-by-endian .ensures z
+returns-4 c =
+    let g = c .before .before .before in
+    let a = g .before .before .before .before .before .args in
+    let d = is-width _ (sym (g .before .before .is-width .ensures) ∙ not-false _ (g .before .if2 .left)) in
+    let e = enough-is (a .w) (a .n) _ d (le-div-iff-mul-le (width-pos _ d) .0 (g .if3 .left)) in
+    (λ q. absurd (not-kept _ _ e (le-leb _ _ (g .before .before .before .if1 .left)) q), λ d h l z. c .before .put-by-endian .ensures z)
 
 pub fill-spec : {M : Type 1} → statement M
 fill-spec =

@@ -1,6 +1,7 @@
 -- `samples::part::check_part` meets its contract, by the encoding.
 -- Assumes nothing.
 use borrow.Author.Needs.{needs}
+use Rattle.words.proofs.WidthLaws.{width-is, enough-is, told-is}
 use Rattle.samples.proofs.Parts.{PartIs, part-is}
 use Rattle.samples.proofs.part.check_part.Statement.{statement}
 use Rattle.samples.proofs.part.check_part.Tie as tie
@@ -32,7 +33,7 @@ returns : tie.Need-returns
 returns c =
     let p = is (c .before .before .before .before) in
     let t = c .before .if1 .taken in
-    rw (← p .as-raw t) (c .check .ensures (p .width) (p .enough t))
+    rw (← p .as-raw t) (told-is (c .check .ensures) (enough-is _ _ _ (p .width) (p .enough t)))
 
 check-requires-2 : tie.Need-check-requires-2
 check-requires-2 c κs = search needs
@@ -48,7 +49,7 @@ check-requires-3 c κs = search needs
 returns-3 : tie.Need-returns-3
 returns-3 c =
     let p = is (c .before .before .before .before .before .before) in
-    rw (← p .as-hex (c .before .before .before .if1 .left) (c .before .if2 .left)) (c .check3 .ensures (p .width))
+    rw (← p .as-hex (c .before .before .before .if1 .left) (c .before .if2 .left)) (told-is (c .check3 .ensures) (width-is _ (p .width)))
 
 pub check-part-spec : {M : Type 1} → statement M
 check-part-spec =

@@ -39,7 +39,7 @@ returns c =
     let p = is (c .before .before .before .before .before .before) in
     let r = c .before .before .before .before .before .before .before .before .before .before .before .pre in
     let l = p .as-raw (c .before .before .before .if1 .taken) in
-    rw (← l) (c .before .fill .ensures (p .width) (p .enough (c .before .before .before .if1 .taken)) (r .1 .1) (ap (λ (d : Decoded). d .number) l ∙ r .1 .0))
+    rw (← l) (c .before .fill .ensures .1 (p .width) (p .enough (c .before .before .before .if1 .taken)) (r .1 .1) (ap (λ (d : Decoded). d .number) l ∙ r .1 .0))
 
 fill-requires-2 : tie.Need-fill-requires-2
 fill-requires-2 c κs = search needs
@@ -65,7 +65,7 @@ returns-3 c =
     let p = is (c .before .before .before .before .before .before .before .before) in
     let r = c .before .before .before .before .before .before .before .before .before .before .before .before .before .pre in
     let l = p .as-hex (c .before .before .before .before .before .if1 .left) (c .before .before .before .if2 .left) in
-    rw (← l) (c .before .fill3 .ensures (p .width) (r .1 .1) (ap (λ (d : Decoded). d .number) l ∙ r .1 .0))
+    rw (← l) (c .before .fill3 .ensures .1 (p .width) (r .1 .1) (ap (λ (d : Decoded). d .number) l ∙ r .1 .0))
 
 pub fill-part-spec : {M : Type 1} → statement M
 fill-part-spec =

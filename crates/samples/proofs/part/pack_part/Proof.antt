@@ -45,7 +45,7 @@ returns c =
     let r = c .before .before .before .before .before .before .before .before .before .before .before .before .before .pre in
     let t = c .before .before .before .before .if1 .taken in
     let l = p .as-raw t in
-    rw (← l) (c .before .before .fill .ensures (p .width) (p .enough t) (r .1 .1) (ap (λ (d : Decoded). d .number) l ∙ r .1 .0))
+    rw (← l) (c .before .before .fill .ensures .1 (p .width) (p .enough t) (r .1 .1) (ap (λ (d : Decoded). d .number) l ∙ r .1 .0))
 
 fill-requires-2 : tie.Need-fill-requires-2
 fill-requires-2 c κs = search needs
@@ -74,7 +74,7 @@ returns-3 c =
     let p = is (c .before .before .before .before .before .before .before .before .before) in
     let r = c .before .before .before .before .before .before .before .before .before .before .before .before .before .before .before .pre in
     let l = p .as-hex (c .before .before .before .before .before .before .if1 .left) (c .before .before .before .before .if2 .left) in
-    rw (← l) (c .before .before .fill3 .ensures (p .width) (r .1 .1) (ap (λ (d : Decoded). d .number) l ∙ r .1 .0))
+    rw (← l) (c .before .before .fill3 .ensures .1 (p .width) (r .1 .1) (ap (λ (d : Decoded). d .number) l ∙ r .1 .0))
 
 pub pack-part-spec : {M : Type 1} → statement M
 pack-part-spec =
