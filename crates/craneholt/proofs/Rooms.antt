@@ -12,11 +12,11 @@ use Rattle.format.specs.declared.SetAnswer.{SetAnswer}
 use Rattle.format.specs.Boundary.{entryBytes, numbersOf}
 use Rattle.format.specs.Calls.{readHeaderCall, readCall, setKeyCall}
 use Rattle.format.specs.EntryPoints.{readEntry, setKeyEntry}
-use Rattle.format.specs.Listing.{listing}
+use Rattle.format.specs.Listing.{listing, listingCall}
 use Rattle.room.specs.Room.{Enough, tableEntries, tableRoom, HoldsSet}
 use Rattle.room.proofs.Enough.{same-refusal, read-answered, set-answered}
-use Rattle.words.proofs.Groups.{length-numbers}
-use Rattle.describe.specs.Shown.{maxListing, listingCall}
+use Rattle.format.proofs.Boundary.{length-numbers}
+use Rattle.describe.specs.Shown.{maxListing}
 
 -- the entries of such a table
 many-entries : (table : List ℕ) → tableRoom ≤ length table → tableEntries ≤ length (numbersOf entryBytes table)

@@ -4,7 +4,6 @@ use Prim.Native.Nat.{ℕ, _-_, _≤_}
 use native.Mathlib.Nat.{mul-le-mul-left, mul-one}
 use native.Mathlib.Omega.{arith}
 use mathlib.Core.Path.{_≡_}
-use mathlib.Core.Bool.{Bool, true, false, _&&_}
 use mathlib.Core.List.{List, [], _∷_, _++_}
 use lib.ListN.{length, replicate, take, length-append}
 use lib.Seq.{take-at}
@@ -26,7 +25,6 @@ module _ (version : ℕ) where
   fine-kept (entry l i ∷ es) gs gs′ r f k =
       let n = kept-next version gs (text l) i k (f .0) in
       fine-cases version gs l i es gs′ r (λ es gs′. Kept gs′) f (λ s c q. n) (λ s c g. fine-kept es (afterItem i gs) gs′ r g n)
-
 
 -- ---- an accepted header
 
