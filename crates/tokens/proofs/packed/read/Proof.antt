@@ -1,6 +1,6 @@
 -- `packed::read` meets its contract: the list that the bytes hold is filled as by `list::fill`.
 -- The measure is the samples to come. Assumes nothing.
-use Prim.Native.Nat.{_*_, _-_}
+use Prim.Native.Nat.{_-_}
 use native.Mathlib.Omega.{arith}
 use denote.Ref.{now}
 use mathlib.Core.Path.{refl}
