@@ -382,7 +382,7 @@ static int run_listing_file(const char *folder, int number)
 int main(int arguments, char **argument)
 {
     const char *folder = arguments > 1 ? argument[1] : "tests/vectors";
-    int passed = 0, total = 0;
+    int passed = 0, total = 0, kinds = 0;
     run_calls(folder);
     for (int number = 0; run_listing_file(folder, number); number++)
         continue;
@@ -390,7 +390,9 @@ int main(int arguments, char **argument)
         printf("%s: %d of %d\n", ops[op].name, ops[op].passed, ops[op].total);
         passed += ops[op].passed;
         total += ops[op].total;
+        kinds += ops[op].total > 0;
     }
     printf("%d passed, %d failed\n", passed, total - passed);
-    return passed == total && total > 0 ? 0 : 1;
+    /* a kind of vector of which there is none was not run */
+    return passed == total && kinds == OPS ? 0 : 1;
 }
