@@ -1,14 +1,14 @@
 -- Laws of the reader's state: what one more field makes of it, what the header's end makes of it, and what the walk keeps.
 -- Assumes nothing.
 use Prim.Native.Nat.{ℕ, zero, suc, _+_, _*_, _≤_, _<_, _-_}
-use native.Mathlib.Nat.{zero-mul, one-mul, mul-comm, mul-assoc, mul-le-mul}
+use native.Mathlib.Nat.{mul-comm}
 use native.Mathlib.Omega.{arith}
 use mathlib.Core.Path.{_≡_, refl, sym, ap, _∙_}
 use mathlib.Core.Bool.{Bool, true, false, not, _&&_, _||_, false≢true}
 use mathlib.Core.List.{List, [], _∷_, _++_, map}
 use mathlib.Core.Option.{Option, none, some}
 use lib.Dec.{eqb, leb}
-use lib.ListN.{length, replicate, take, drop, getD, set, length-map, drop-of-length-le}
+use lib.ListN.{length, replicate, take, getD, set, length-map}
 use lib.Seq.{take-at}
 use borrow.Author.Tests.{ltb-true, lt-ltb, le-ltb, le-leb, lt-leb, leb-true, leb-false, eqb-true, eqb-false, eq-eqb, ne-eqb}
 use mir.Val.{boolByte}
@@ -17,21 +17,21 @@ use Rattle.format.specs.Bytes.{isIn, orDefault, if_then_else_}
 use Rattle.format.specs.Limits.{maxAxes, maxSize, maxExtent}
 use Rattle.format.specs.Refusals.{badDescriptor, missingField, extentTooLarge, refusal, fine}
 use Rattle.format.specs.Fields.{Given, given, descriptorOf, isGiven, understood, dimension, type, encoding, endian, sizes, lineSkip, byteSkip, dataFile}
-use Rattle.format.specs.Descriptors.{meaning, noEndian, number, valueOfNumber, within, numbersIn, sizesFine, words, typeNamed, encodingNamed, endianNamed, isDetached, mayDescribe, dimensionOf, typeOf, sizesOf, sampleBytes, endianNeeded, hasNeeded, product, extentOf}
+use Rattle.format.specs.Descriptors.{meaning, noEndian, number, valueOfNumber, within, numbersIn, sizesFine, words, typeNamed, encodingNamed, endianNamed, isDetached, mayDescribe, dimensionOf, typeOf, sizesOf, sampleBytes, endianNeeded, hasNeeded, product, extentOf, capped}
 use Rattle.format.specs.Header.{Item, magic, comment, field, pair, closing, Entry, right, judge, refused, afterItem, versionOf, headerLength}
 use Rattle.format.specs.Rules.{FieldLine, Keeps}
 use Rattle.format.specs.Calls.{readAnswer, readingOf}
 use Rattle.format.proofs.Bytes.{and-left, and-right}
 use Rattle.format.proofs.Judged.{judge-keeps}
 use Rattle.format.proofs.Rules.{needed-of}
-use Rattle.text.proofs.Places.{drop-next}
+use Rattle.format.proofs.ProductLaws.{times-capped}
 use Rattle.text.specs.Numbers.{numberAnswer, noSizes, sizesAnswer}
 use Rattle.text.specs.Rows.{rowAnswer}
 use Rattle.text.specs.declared.numbers.Number.the-variants.{Value, Wrong}
 use Rattle.text.specs.declared.numbers.Sizes.{Sizes}
 use Rattle.text.specs.declared.words.Row.the-variants.{Number, Unknown}
 use Rattle.fields.specs.declared.state.State.{State}
-use Rattle.fields.specs.States.{fieldCount, flags, paddedSizes, stateOf, Kept, Holds, described, stepOf, completeNumber, capped, readingAt, finished}
+use Rattle.fields.specs.States.{fieldCount, flags, paddedSizes, stateOf, Kept, Holds, described, stepOf, completeNumber, readingAt, finished}
 
 -- ---- the flags
 
@@ -208,40 +208,6 @@ module _ (n : ℕ) (ws : List (List ℕ)) (r : Sizes) (e : r ≡ sizesAnswer n w
           → x ≡ false
       go true e = sym (ap (λ (y : Sizes). y .fine) e) ∙ f
       go false e = refl
-
--- ---- products, or 2 to the 32 for all that are above it
-
--- a product is at least one factor where the other one is not 0
-pub times-right : (a b c : ℕ) → 1 ≤ a → c ≤ b → c ≤ a * b
-times-right a b c h k = rw one-mul at (mul-le-mul {n₁ = 1} {m₁ = c} h k)
-
--- a factor may be capped
-pub times-capped : (a b : ℕ) → capped (a * capped b) ≡ capped (a * b)
-times-capped a b = go (leb b 4294967296) refl (eqb a 0) refl
-  where
-    go : (x : Bool) → leb b 4294967296 ≡ x → (y : Bool) → eqb a 0 ≡ y → capped (a * capped b) ≡ capped (a * b)
-    go true e y f = let m : capped b ≡ b = omega (arith, leb-true) in rw m
-    go false e true f = rw (eqb-true a 0 f, zero-mul (capped b), zero-mul b)
-    go false e false f =
-        let l = leb-false b 4294967296 e in
-        let z = eqb-false a 0 f in
-        let m : capped b ≡ 4294967296 = omega arith in
-        let p = times-right a 4294967296 4294967296 (omega arith) (omega arith) in
-        let q = times-right a b 4294967296 (omega arith) (omega arith) in
-        rw m (omega arith)
-
-module _ (s : List ℕ) (i p : ℕ) where
-  -- one size more
-  pub product-next : i < length s
-      → capped (product (drop i s) * p) ≡ capped (product (drop (i + 1) s) * capped (getD s i 0 * p))
-  unfolding product
-  product-next h =
-      rw (drop-next s i h, times-capped, ← mul-assoc, mul-comm (product (drop (i + 1) s)) (getD s i 0))
-
-  -- no size more
-  pub product-end : length s ≤ i → product (drop i s) * p ≡ p
-  unfolding product
-  product-end h = rw (drop-of-length-le s h, one-mul)
 
 -- ---- the end of the header
 

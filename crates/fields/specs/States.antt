@@ -1,5 +1,5 @@
 -- The reader's state and steps, by the fields given so far.
-use Prim.Native.Nat.{ℕ, zero, suc, _+_, _-_, _≤_, min}
+use Prim.Native.Nat.{ℕ, zero, suc, _+_, _-_, _≤_}
 use mathlib.Core.Path.{_≡_}
 use mathlib.Core.Bool.{Bool, true, false, not}
 use mathlib.Core.List.{List, [], _∷_, _++_}
@@ -76,10 +76,6 @@ completeNumber gs =
     if not (hasNeeded gs) then missingField
     else if ltb maxExtent (extentOf gs) then extentTooLarge
     else 0
-
--- a number, or 2 to the 32 for all that are above it
-abbrev pub capped : ℕ → ℕ
-capped n = min n 4_294_967_296
 
 -- the reading of a header of so many bytes and lines
 unfoldable pub readingAt : ℕ → List Given → ℕ → ℕ → Reading

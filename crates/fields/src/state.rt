@@ -3,17 +3,17 @@ use format::ReadAnswer;
 use format::Reading;
 use format::Refusal;
 use format::field;
+use format::products;
 use format::types;
 ghost use mathlib.Core.Path.{_≡_};
 ghost use mathlib.Core.Bool.{true};
 ghost use mathlib.Core.List.{List, []};
-ghost use Prim.Native.Nat.{_*_};
 ghost use Rattle.format.specs.Refusals.{atLine};
 ghost use Rattle.format.specs.Fields.{Given, isGiven, sizes};
-ghost use Rattle.format.specs.Descriptors.{endianNeeded, hasNeeded, product, extentOf};
+ghost use Rattle.format.specs.Descriptors.{endianNeeded, hasNeeded, extentOf, capped};
 ghost use Rattle.format.specs.Header.{refused};
 ghost use Rattle.format.specs.Calls.{readAnswer};
-ghost use Rattle.fields.specs.States.{stateOf, Holds, capped, finished};
+ghost use Rattle.fields.specs.States.{stateOf, Holds, finished};
 
 pub struct State {
     pub version: u32,
@@ -95,39 +95,6 @@ fn has_needed(state: State) -> bool
             & (state.given[field::ENCODING] & (state.given[field::SIZES] & endian)))
 }
 
-// A product, or 2 to the 32 for all that are above it: no factors overflow.
-fn times(a: u64, b: u64) -> u64
-    ensures { λ r. ⌜ r ≡ capped (a * b) ⌝ }
-{
-    if a == 0 {
-        return 0;
-    }
-    if b == 0 {
-        return 0;
-    }
-    if 4294967296 <= a {
-        return 4294967296;
-    }
-    if 4294967296 <= b {
-        return 4294967296;
-    }
-    let p = a * b;
-    if p < 4294967296 { p } else { 4294967296 }
-}
-
-// The product of the sizes, or 2 to the 32 where it is above.
-fn product_of(sizes: &[u64]) -> u64
-    ensures { λ r. ⌜ r ≡ capped (product (now (sizes .entry))) ⌝ }
-{
-    let mut p: u64 = 1;
-    let mut i: usize = 0;
-    while i < sizes.len() {
-        p = times(sizes[i], p);
-        i += 1;
-    }
-    p
-}
-
 // The extent, or 2 to the 32 where it is above.
 fn extent(state: State) -> u64
     ensures { λ r. ⌜ ((gs : List Given) → Holds state gs → isGiven sizes gs ≡ true → r ≡ capped (extentOf gs)) ⌝ }
@@ -138,9 +105,9 @@ fn extent(state: State) -> u64
     if 16 < n {
         return 0;
     }
-    times(
+    products::times(
         types::sample_bytes(state.sampletype as u64),
-        product_of(&sizes[..n]),
+        products::product(&sizes[..n]),
     )
 }
 

@@ -11,6 +11,7 @@ pub mod Rules
 pub mod Samples
 pub mod Boundary
 pub mod TypeLaws
+pub mod ProductLaws
 pub mod Writer
 pub mod Descriptors
 pub mod Found

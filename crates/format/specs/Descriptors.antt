@@ -1,6 +1,6 @@
 -- Descriptors and what they mean (document 01, "Lines and headers", point 5; "Understood fields", "Needed", "Types";
 -- "Data and samples", extent).
-use Prim.Native.Nat.{ℕ, _+_, _-_, _*_}
+use Prim.Native.Nat.{ℕ, _+_, _-_, _*_, min}
 use Prim.Native.String.{String}
 use mathlib.Core.Bool.{Bool, true, false, not, _&&_, _||_}
 use mathlib.Core.List.{List, [], _∷_, map}
@@ -254,3 +254,7 @@ extent ns t = product ns * sampleBytes t
 
 abbrev pub extentOf : List Given → ℕ
 extentOf gs = extent (sizesOf gs) (typeOf gs)
+
+-- a number, or 2 to the 32 for all that are above it: no extent may be as large
+abbrev pub capped : ℕ → ℕ
+capped n = min n 4_294_967_296

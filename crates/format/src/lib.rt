@@ -8,6 +8,7 @@ ghost use Rattle.format.specs.Refusals.{refusalNumbers};
 ghost use Rattle.format.specs.Trials.{StarredTrials};
 
 pub mod field;
+pub mod products;
 pub mod types;
 
 // The limits of document 01.

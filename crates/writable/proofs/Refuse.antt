@@ -3,8 +3,8 @@
 use mathlib.Core.Path.{_≡_, refl, sym, ap, _∙_}
 use mathlib.Core.Bool.{Bool, true, false, _&&_, _||_, not, and-assoc, and-true}
 use mathlib.Core.List.{List, [], _∷_}
-use Prim.Native.Nat.{ℕ, zero, suc, _+_, _*_, _≤_, _<_, min}
-use native.Mathlib.Nat.{mul-le-mul, mul-assoc, mul-comm, zero-mul, mul-zero, le-mul-of-pos-right}
+use Prim.Native.Nat.{ℕ, _+_, _*_, _≤_, _<_, min}
+use native.Mathlib.Nat.{mul-comm, le-mul-of-pos-right}
 use native.Mathlib.Numerals.{add-one}
 use native.Mathlib.Omega.{arith}
 use lib.Dec.{eqb, ltb, leb}
@@ -14,11 +14,12 @@ use lib.Seq.{drop-cons}
 use borrow.Author.Tests.{ltb-true, ltb-false, lt-ltb, le-ltb, le-leb, lt-leb, eq-eqb, ne-eqb}
 use Rattle.format.specs.Bytes.{if_then_else_, isIn}
 use Rattle.format.specs.Limits.{maxExtent}
-use Rattle.format.specs.Descriptors.{NumberKind, typeAt, sampleBytes, numberKind, isFloating, isSigned, product, extent}
+use Rattle.format.specs.Descriptors.{NumberKind, typeAt, sampleBytes, numberKind, isFloating, isSigned, product, extent, capped}
 use Rattle.format.specs.Samples.{inType, lowest, highest}
 use Rattle.format.specs.Widths.{kindBy, widthBy}
 use Rattle.format.specs.Writer.{allInType, writable}
 use Rattle.writable.specs.Refused.{inRange, allInRange, WholeRange, earlyRefusal, Numbers, Ready}
+use Rattle.format.proofs.ProductLaws.{times-capped}
 use Rattle.format.proofs.TypeLaws.{below-10, type-width, type-bytes, floating-is, kind-by, width-by, lowest-most, highest-most}
 
 -- ---- a 0 among the numbers
@@ -38,54 +39,6 @@ module _ (ns : List ℕ) (i : ℕ) where
   pub zero-none : length ns ≤ i → isIn 0 (drop i ns) ≡ false
   unfolding isIn
   zero-none h = ap (isIn 0) (drop-of-length-le ns h)
-
--- ---- products that stop at 2 to the 32
-
-abbrev top : ℕ
-top = 4294967296
-
--- a factor above the top, or a product
-pub times-fits : (x y : ℕ) → x ≤ 4294967296 → y < 4294967296 → x * y < 18446744073709551616
-times-fits x y h l =
-    let k : y ≤ 4294967295 = omega arith in
-    omega (arith, mul-le-mul h k)
-
-pub times-none : (x y : ℕ) → x ≡ 0 → 0 ≡ min (x * y) 4294967296
-times-none x y e = omega (arith, ap (λ (k : ℕ). k * y) e, zero-mul y)
-
-pub times-over : (x y : ℕ) → (x ≡ 0 → ⊥) → 4294967296 ≤ y → 4294967296 ≡ min (x * y) 4294967296
-times-over x y n h =
-    let p : 1 ≤ x = omega arith in
-    omega (arith, le-mul-of-pos-right y p, mul-comm x y)
-
--- to stop early changes nothing
-pub capped : (a b : ℕ) → min (min a 4294967296 * b) 4294967296 ≡ min (a * b) 4294967296
-capped a zero = rw (mul-zero a, mul-zero (min a 4294967296))
-capped a (suc b) = go (ltb a top) refl
-  where
-    go : (t : Bool) → ltb a top ≡ t → min (min a top * suc b) top ≡ min (a * suc b) top
-    go true q =
-        let e : min a top ≡ a = omega (arith, ltb-true a top q) in
-        rw e
-    go false q =
-        let l : top ≤ a = ltb-false a top q in
-        let e : min a top ≡ top = omega arith in
-        let p : 1 ≤ suc b = omega arith in
-        rw e (omega (arith, le-mul-of-pos-right top p, le-mul-of-pos-right a p))
-
-module _ (ns : List ℕ) (i : ℕ) where
-  pub product-next : (x x′ : ℕ) → i < length ns → x′ ≡ min (x * getD ns i 0) 4294967296
-      → min (x′ * product (drop (i + 1) ns)) 4294967296 ≡ min (x * product (drop i ns)) 4294967296
-  unfolding product
-  product-next x x′ h e =
-      let n : ℕ = getD ns i 0 in
-      let r : ℕ = product (drop (i + 1) ns) in
-      let s : product (drop i ns) ≡ n * r = rw (add-one i, drop-cons ns i 0 h) in
-      ap (λ (k : ℕ). min (k * r) 4294967296) e ∙ capped (x * n) r ∙ ap (λ (k : ℕ). min k 4294967296) (mul-assoc x n r ∙ ap (λ (k : ℕ). x * k) (sym s))
-
-  pub product-end : (x : ℕ) → length ns ≤ i → x * product (drop i ns) ≡ x
-  unfolding product
-  product-end x h = ap (λ (l : List ℕ). x * product l) (drop-of-length-le ns h) ∙ omega arith
 
 -- ---- samples in a range
 
@@ -160,7 +113,7 @@ module _ {version : ℕ} {sizes : List ℕ} {t e endian : ℕ} (zs : List ℤ) w
     ok = sym eb ∙ yes
 
     size : x ≡ min (extent sizes t) 4294967296
-    size = ex ∙ ap (λ (k : ℕ). min (k * w) 4294967296) en ∙ ap (λ (k : ℕ). min (min (product sizes) 4294967296 * k) 4294967296) ew ∙ capped (product sizes) (sampleBytes t)
+    size = ex ∙ ap (λ (k : ℕ). min (k * w) 4294967296) en ∙ ap (λ (k : ℕ). min (min (product sizes) 4294967296 * k) 4294967296) ew ∙ ap capped (mul-comm (capped (product sizes)) (sampleBytes t)) ∙ times-capped (sampleBytes t) (product sizes) ∙ ap capped (mul-comm (sampleBytes t) (product sizes))
 
     pub early-15 : maxExtent < x → 15 ≡ earlyRefusal version sizes t e endian zs
     unfolding earlyRefusal

@@ -1,14 +1,15 @@
 // What the writer refuses.
 ghost use mathlib.Core.Path.{_≡_};
 ghost use mathlib.Core.Bool.{true, false};
-ghost use Prim.Native.Nat.{ℕ, _+_, _*_, _≤_, _<_, min};
+ghost use Prim.Native.Nat.{ℕ, _+_, _≤_, _<_};
 ghost use lib.Dec.{leb};
 ghost use Rattle.format.specs.Bytes.{isIn};
-ghost use Rattle.format.specs.Descriptors.{product, sampleBytes, numberKind, isFloating};
+ghost use Rattle.format.specs.Descriptors.{sampleBytes, numberKind, isFloating};
 ghost use Rattle.format.specs.Samples.{lowest, highest, toSigned};
 ghost use Rattle.format.specs.Writer.{writable};
 ghost use Rattle.writable.specs.Refused.{chosen, inRange, allInRange, WholeRange, earlyRefusal, lateRefusal, Numbers, Ready};
 use crate::source;
+use format::products;
 use format::types;
 
 // Whether one of the numbers is 0.
@@ -52,40 +53,6 @@ fn is_writable(version: u64, sizes: &[u64], sampletype: u64, encoding: u64, endi
         return false;
     }
     !has_zero(sizes)
-}
-
-// x, or 2 to the 32 for all that are above it.
-fn cap(x: u64) -> u64
-    ensures { λ r. ⌜ r ≡ min x 4294967296 ⌝ }
-{
-    if x < 4294967296 { x } else { 4294967296 }
-}
-
-// A product, or 2 to the 32 for all that are above it.
-fn times(x: u64, y: u64) -> u64
-    requires { ⌜ x ≤ 4294967296 ⌝ }
-    ensures { λ r. ⌜ r ≡ min (x * y) 4294967296 ⌝ }
-{
-    if y < 4294967296 {
-        return cap(x * y);
-    }
-    if x == 0 {
-        return 0;
-    }
-    4294967296
-}
-
-// The product of the numbers, or 2 to the 32 for all that are above it.
-fn product(ns: &[u64]) -> u64
-    ensures { λ r. ⌜ r ≡ min (product (now (ns .entry))) 4294967296 ⌝ }
-{
-    let mut x: u64 = 1;
-    let mut i: usize = 0;
-    while i < ns.len() {
-        x = times(x, ns[i]);
-        i += 1;
-    }
-    x
 }
 
 // The sample of the bits x, counted from -low on: the samples up to high are the numbers up to low + high.
@@ -144,9 +111,9 @@ pub fn early_refusal(
     if !is_writable(version, sizes, sampletype, encoding, endian) {
         return format::BAD_DESCRIPTOR;
     }
-    let n = product(sizes);
+    let n = products::product(sizes);
     let count = source::count(samples, lent, packed) as u64;
-    if format::MAX_EXTENT < times(n, types::sample_bytes(sampletype)) {
+    if format::MAX_EXTENT < products::times(n, types::sample_bytes(sampletype)) {
         return format::EXTENT_TOO_LARGE;
     }
     if types::FLOAT <= sampletype {

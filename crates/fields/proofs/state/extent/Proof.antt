@@ -32,22 +32,22 @@ array-share-prefix-sizes c =
     let k : 15 < length (c .before .before .before .before .before .args .state .sizes) = search needs in
     omega arith
 
-slice-aggregate-product-of : tie.Need-slice-aggregate-product-of
-slice-aggregate-product-of c =
+slice-aggregate-product : tie.Need-slice-aggregate-product
+slice-aggregate-product c =
     let s = c .before .before .before .before .before .before .args .state in
     let k : 15 < length (s .sizes) = search needs in
     let l : s .dimension ≤ length (s .sizes) = omega arith in
     sym (length-take-le (s .dimension) (s .sizes) l)
 
-product-of-requires : tie.Need-product-of-requires
-product-of-requires c κs = search needs
+product-requires : tie.Need-product-requires
+product-requires c κs = search needs
 
 times-requires : tie.Need-times-requires
 times-requires c κs = search needs
 
 returns-2 : tie.Need-returns-2
 returns-2 c gs h e =
-    rw (c .times .ensures, c .before .before .before .sample-bytes .ensures, c .before .product-of .ensures) (extent-is h e)
+    rw (c .times .ensures, c .before .before .before .sample-bytes .ensures, c .before .product .ensures) (extent-is h e)
 
 pub extent-spec : {M : Type 1} → statement M
 extent-spec =
@@ -58,7 +58,7 @@ extent-spec =
     cast-sample-bytes
     sample-bytes-requires
     array-share-prefix-sizes
-    slice-aggregate-product-of
-    product-of-requires
+    slice-aggregate-product
+    product-requires
     times-requires
     returns-2)

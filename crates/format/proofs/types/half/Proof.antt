@@ -1,17 +1,18 @@
 -- `types::half` meets its contract, by the tests on the way.
 -- Assumes nothing.
+use mathlib.Core.Path.{refl}
 use borrow.Author.Tests.{ne-eqb}
 use Rattle.format.proofs.types.half.Statement.{statement}
 use Rattle.format.proofs.types.half.Tie as tie
 
 returns : tie.Need-returns
-returns c = rw (c .if1 .taken)
+returns c = rw (c .if1 .taken) refl
 
 returns-2 : tie.Need-returns-2
-returns-2 c = rw (c .if2 .taken)
+returns-2 c = rw (c .if2 .taken) refl
 
 returns-3 : tie.Need-returns-3
-returns-3 c = rw (c .if3 .taken)
+returns-3 c = rw (c .if3 .taken) refl
 
 returns-4 : tie.Need-returns-4
 returns-4 c =

@@ -1,11 +1,11 @@
--- `state::times` meets its contract. Assumes nothing.
+-- `products::times` meets its contract. Assumes nothing.
 use Prim.Native.Nat.{_≤_, _*_}
 use native.Mathlib.Nat.{zero-mul, mul-zero, mul-comm, mul-le-mul}
 use native.Mathlib.Omega.{arith}
 use borrow.Author.Needs.{needs}
-use Rattle.fields.proofs.States.{times-right}
-use Rattle.fields.proofs.state.times.Statement.{statement}
-use Rattle.fields.proofs.state.times.Tie as tie
+use Rattle.format.proofs.ProductLaws.{times-right}
+use Rattle.format.proofs.products.times.Statement.{statement}
+use Rattle.format.proofs.products.times.Tie as tie
 
 returns : tie.Need-returns
 returns c = rw (c .if1 .taken, zero-mul)

@@ -1,23 +1,22 @@
--- `state::product_of` meets its contract. The loop's invariant: the product of the sizes to come and of p, capped, is that of all sizes.
+-- `products::product` meets its contract. The loop's invariant: the product of the numbers to come and of p, capped, is that of all.
 -- Assumes nothing.
 use Prim.Native.Nat.{_-_, _*_, _≤_}
 use native.Mathlib.Nat.{mul-one}
 use native.Mathlib.Omega.{arith}
 use mathlib.Core.Path.{_≡_, sym, _∙_}
 use lib.ListN.{length, drop}
-use Rattle.format.specs.Descriptors.{product}
-use Rattle.fields.specs.States.{capped}
-use Rattle.fields.proofs.States.{product-next, product-end}
+use Rattle.format.specs.Descriptors.{product, capped}
+use Rattle.format.proofs.ProductLaws.{product-next, product-end}
 use borrow.Author.Needs.{needs}
-use Rattle.fields.proofs.state.product_of.Statement.{statement}
-use Rattle.fields.proofs.state.product_of.Tie as tie
+use Rattle.format.proofs.products.product.Statement.{statement}
+use Rattle.format.proofs.products.product.Tie as tie
 
 abbrev Inv-loop : tie.InvT-loop
-Inv-loop sizes p₀ i₀ p i =
-    (i ≤ length sizes) × (p ≤ 4294967296) × (capped (product (drop i sizes) * p) ≡ capped (product sizes))
+Inv-loop ns p₀ i₀ p i =
+    (i ≤ length ns) × (p ≤ 4294967296) × (capped (product (drop i ns) * p) ≡ capped (product ns))
 
 abbrev μ-loop : tie.MeasureT-loop
-μ-loop sizes p₀ i₀ p i = length sizes - i
+μ-loop ns p₀ i₀ p i = length ns - i
 
 loop-holds : tie.Need-loop-holds Inv-loop μ-loop
 loop-holds c = (search needs, search needs, rw mul-one)
@@ -39,20 +38,20 @@ loop-less c = search needs
 
 loop-again : tie.Need-loop-again Inv-loop μ-loop
 loop-again c =
-    let s = c .before .before .before .before .before .args .sizes .now in
+    let s = c .before .before .before .before .before .args .ns .now in
     let v = c .before .before .before .loop in
     let e = product-next s (v .i) (v .p) (c .before .before .loop-test .taken) in
     (search needs, omega (arith, c .times .ensures), rw (c .times .ensures) (sym e ∙ v .inv .2))
 
 returns : tie.Need-returns Inv-loop μ-loop
 returns c =
-    let s = c .before .before .before .args .sizes .now in
+    let s = c .before .before .before .args .ns .now in
     let v = c .before .loop in
     let e = product-end s (v .i) (v .p) (c .loop-test .left) in
     omega (arith, rw e at (v .inv .2))
 
-pub product-of-spec : {M : Type 1} → statement M
-product-of-spec =
+pub product-spec : {M : Type 1} → statement M
+product-spec =
     tie.close
     (tie.spec
     Inv-loop
