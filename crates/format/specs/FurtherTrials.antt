@@ -1,8 +1,14 @@
--- Trials beside the starred ones, as one statement: `FurtherTrials`. They show rules of document 01 that its own trials do not: which headers are
--- accepted, what the look-ups find, what the listing prints.
+-- Trials beside the starred ones, as one statement: `FurtherTrials`. They show rules of document 01 that the starred trials do not: which headers are
+-- accepted, what the look-ups find, what is listed, which bytes are written, and the bytes of numbers that callers in C lend.
 use Rattle.format.specs.AcceptanceTrials.{AcceptanceTrials}
 use Rattle.format.specs.FindTrials.{FindTrials}
 use Rattle.format.specs.ListingTrials.{ListingTrials}
+use Rattle.format.specs.WriteTrials.{WriteTrials}
+use Rattle.format.specs.EntryTrials.{EntryTrials}
 
-abbrev pub FurtherTrials : Type 0
-FurtherTrials = AcceptanceTrials × (FindTrials × ListingTrials)
+pub record FurtherTrials : Type 0 where
+  pub accepted : AcceptanceTrials
+  pub found : FindTrials
+  pub listed : ListingTrials
+  pub written : WriteTrials
+  pub crossing : EntryTrials

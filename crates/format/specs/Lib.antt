@@ -18,9 +18,11 @@ pub mod Found
 pub mod Trials
 pub mod AcceptanceTrials
 pub mod FindTrials
-pub mod ListingTrials
-pub mod FurtherTrials
 pub mod Boundary
 pub mod EntryPoints
+pub mod ListingTrials
+pub mod WriteTrials
+pub mod EntryTrials
+pub mod FurtherTrials
 pub mod Rules
 pub mod Laws

@@ -267,7 +267,7 @@ pub fn starred_trials() -> u64
     0
 }
 
-// So do further ones: which headers are accepted, what the look-ups find, what the listing prints.
+// So do further ones: which headers are accepted, what the look-ups find, what is listed, which bytes are written and cross to C.
 pub fn further_trials() -> u64
     ensures { λ r. ⌜ FurtherTrials ⌝ }
 {
