@@ -180,9 +180,9 @@ carried-at first table es gs ls b u (lent buf used t n) done e f s =
     let room : n ≤ length t / 4 = omega (arith, length-table (s .entries), s .count, ap length (s .table), length-take n ns, length-numbers entryBytes t) in
     let few : length (take n ns) ≡ n = length-take-le n ns (omega (arith, length-numbers entryBytes t)) in
     record {
-      entries = es;
-      given = gs;
-      lines = ls;
+      first-entries = es;
+      first-fields = gs;
+      first-rest = ls;
       reading = e;
       settled = s;
       room = omega arith;

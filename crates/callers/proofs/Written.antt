@@ -26,7 +26,7 @@ use Rattle.format.proofs.Boundary.{length-samples, samples-over, words-of-lent}
 use Rattle.roundtrip.specs.RoundTrip.{headerBytes, dataBack, ReadsBack}
 use Rattle.roundtrip.proofs.Accepted.{accepted-is}
 use Rattle.roundtrip.proofs.ReadBack.{round-trips}
-use Rattle.callers.specs.Callers.{wholeSamples, countOfSamples, ReadBack, WritesAreRead}
+use Rattle.callers.specs.Callers.{wholeSamples, countOfSamples, FileReadBack, WritesAreRead}
 
 -- the answer of a write by its refusal's number, and where that is 0
 write-number : (n : ℕ) (file out : List ℕ) → writeAnswer n file out .0 .refusal .number ≡ n
@@ -70,7 +70,7 @@ module _ (version : ℕ) (sizes : List ℕ) (t e endian : ℕ) (samples out : Li
       ap (λ (a : CountAnswer × List ℤ). (a .0, lentSamples (a .1) list)) (rb .samples second (samplesLent list) (omega (arith, length-samples list)))
       ∙ (λ i. (record { refusal = fine; count = length-samples samples i }, q i))
 
-  read-back : writeRefusal version ns t e endian zs (length out) ≡ 0 → ReadBack version sizes t e endian samples out (length file) (over file out)
+  read-back : writeRefusal version ns t e endian zs (length out) ≡ 0 → FileReadBack version sizes t e endian samples out (length file) (over file out)
   read-back h =
       let rb = round-trips version ns t e endian zs (length out) h in
       let place : (second : List ℕ) → dataPlaceCall (take (length file) (over file out)) second ≡ dataBack version ns t e endian zs =
@@ -93,5 +93,5 @@ writes version sizes t e endian samples out p h =
     let n : ℕ = writeRefusal version z t e endian (samplesLent samples) (length out) in
     let f : List ℕ = fileBytes version z t e endian (samplesLent samples) in
     let none : n ≡ 0 = sym (write-number n f out) ∙ h in
-    subst (λ (a : WriteAnswer × List ℕ). ReadBack version sizes t e endian samples out (a .0 .length) (a .1)) (sym (write-done n f out none))
+    subst (λ (a : WriteAnswer × List ℕ). FileReadBack version sizes t e endian samples out (a .0 .length) (a .1)) (sym (write-done n f out none))
     (read-back version sizes t e endian samples out p none)

@@ -1,4 +1,5 @@
--- What callers in C are promised (demands 1 to 3), as one statement: `CallersHold`.
+-- What the demands say of the bytes that callers in C lend, beyond what each entry point's own contract says, as one statement: `CallersHold`.
+-- A refused call leaves them (demand 1), what is written is read back (demand 2), lists of settings (demand 3).
 -- It speaks of what the entry points answer, which their contracts cite (EntryPoints.antt, Calls.antt, Listing.antt), over the bytes that callers lend,
 -- however many. Numbers in lent bytes have their low byte first: 4 bytes an entry of a table, 8 a size or a sample (Boundary.antt).
 use Prim.Native.Nat.{ℕ, _*_, _/_, _≤_}
@@ -65,7 +66,7 @@ abbrev pub countOfSamples : List ℕ → CountAnswer
 countOfSamples s = record { refusal = fine; count = length s / wordBytes }
 
 -- the buffer `out` was lent and came back as `after`, with a file of `written` bytes at its front; whatever second file and list are lent to the readers
-pub record ReadBack (version : ℕ) (sizes : List ℕ) (t e endian : ℕ) (samples out : List ℕ) (written : ℕ) (after : List ℕ) : Type 0 where
+pub record FileReadBack (version : ℕ) (sizes : List ℕ) (t e endian : ℕ) (samples out : List ℕ) (written : ℕ) (after : List ℕ) : Type 0 where
   -- the file fits, and bytes past it are as they were
   pub fits : written ≤ length out
   pub past : drop written after ≡ drop written out
@@ -84,7 +85,7 @@ abbrev pub WritesAreRead : Type 0
 WritesAreRead =
     (version : ℕ) (sizes : List ℕ) (t e endian : ℕ) (samples out : List ℕ) → AllBytes samples
     → let a = writeEntry version sizes t e endian samples out in
-    NotRefused (a .0 .refusal) → ReadBack version sizes t e endian samples out (a .0 .length) (a .1)
+    NotRefused (a .0 .refusal) → FileReadBack version sizes t e endian samples out (a .0 .length) (a .1)
 
 -- ---- demand 3: any list of calls of craneholt_set_key after craneholt_read, each lent what the one before it left (document 01,
 -- "Lists of settings")
@@ -100,11 +101,11 @@ bytesCounted l = entryBytes * countIn l
 -- `first` was read, and `table` was lent to craneholt_read; `after` is what the list left, `done` the settings of it that were accepted
 pub record Carried (first table : List ℕ) (after : Lent) (done : List Setting) : Type 0 where
   -- the first reading, and what lists of settings do (Lists.antt): header lines, data and its place, used length
-  pub entries : List Entry
-  pub given : List Given
-  pub lines : List Line
-  pub reading : header first ≡ accepted entries given lines
-  pub settled : Settled first entries given lines (inNumbers after) done
+  pub first-entries : List Entry
+  pub first-fields : List Given
+  pub first-rest : List Line
+  pub reading : header first ≡ accepted first-entries first-fields first-rest
+  pub settled : Settled first first-entries first-fields first-rest (inNumbers after) done
   -- the table has room for the entries of the count; past them its bytes are as lent to craneholt_read, a rest too short for one too
   pub room : bytesCounted after ≤ length (tableIn after)
   pub long : length (tableIn after) ≡ length table
@@ -117,8 +118,8 @@ pub record Carried (first table : List ℕ) (after : Lent) (done : List Setting)
         record { refusal = fine; reading = resized (headerLength (settled .entries)) (countIn after) (readHeaderCall first .reading) },
         over (take (bytesCounted after) (tableIn after)) own,
       )
-  -- craneholt_copy_value: the value accepted last for the key, or else its first
-  pub value : (key out : List ℕ) → copyValueCall (fileIn after) key out ≡ copyValue out (orElse (lastAccepted key done) (valueOf key entries))
+  -- craneholt_copy_value: the value accepted last for the key, or else the one that it had in the first reading
+  pub value : (key out : List ℕ) → copyValueCall (fileIn after) key out ≡ copyValue out (orElse (lastAccepted key done) (valueOf key first-entries))
   -- craneholt_samples answers and leaves what it did before, with any second file and list
   pub samples : (second list : List ℕ) → samplesEntry (fileIn after) second list ≡ samplesEntry first second list
 

@@ -1,7 +1,7 @@
-// What callers in C are promised: demands 1 to 3, of the definitions that the entry points are proved against.
+// What the demands say of the bytes that callers in C lend, of the definitions that the entry points are proved against.
 ghost use Rattle.callers.specs.Callers.{CallersHold};
 
-// What the entry points answer keeps demands 1 to 3, over the bytes that callers lend.
+// A refused entry point leaves them, what is written is read back, and every list of settings does what demand 3 says.
 pub fn callers_hold() -> u64
     ensures { λ r. ⌜ CallersHold ⌝ }
 {

@@ -4,7 +4,7 @@ use Rattle.format.proofs.Lines.{unlines-of-lines, shape-of-lines, lines
 use Rattle.format.proofs.Pairs.{unescape-of-escape, escape-of-unescape, escape-injective, mark-of-pair, judge-of-pair, pair-key-fine, pair-value-fine}
 use Rattle.format.proofs.Header.{header-ends, data-area}
 use Rattle.format.proofs.Found.{field-found, key-found}
-use Rattle.format.proofs.Rules.{accepted-keeps, keeps-accepted, refused-none, none-refused}
+use Rattle.format.proofs.Rules.{accepted-keeps, keeps-accepted, refused-keeps-none, keeps-none-refused}
 use Rattle.format.proofs.Samples.{value-of-bytes, bytes-of-value}
 use Rattle.format.proofs.Boundary.{numbers-of-lent, lent-of-numbers, samples-of-lent, lent-of-samples, numbers-of-front}
 use Rattle.format.proofs.Writer.{number-of-decimal, value-of-decimal, hex-of-text, data-read-back}
@@ -26,8 +26,8 @@ laws =
       pair-value-fine = pair-value-fine;
       accepted-keeps = accepted-keeps;
       keeps-accepted = keeps-accepted;
-      refused-none = refused-none;
-      none-refused = none-refused;
+      refused-keeps-none = refused-keeps-none;
+      keeps-none-refused = keeps-none-refused;
       header-ends = header-ends;
       data-area = data-area;
       field-found = field-found;

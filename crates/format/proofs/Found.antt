@@ -33,7 +33,7 @@ use Rattle.format.proofs.Header.{Fine, fine-cases, header-sound}
 has-at : (file : List ℕ) (at : ℕ) (a t b : List ℕ) → 0 < length a → drop at file ≡ a ++ (t ++ b) → HasAt file t (foundAt (at + length a) (length t))
 has-at file at a t b n h =
     record {
-      fine = refl;
+      not-refused = refl;
       there = refl;
       long = refl;
       within = omega (arith, ap length h, length-drop at file, length-append a (t ++ b), length-append t b);

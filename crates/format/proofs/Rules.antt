@@ -242,15 +242,15 @@ accepted-keeps file {es} {gs} {r} e =
       extent-bytes = c .small;
     }
 
-pub refused-none : (file : List ℕ) {x : Refusal} → header file ≡ refused x → (es : List Entry) (gs : List Given) (r : List Line) → KeepsRules file es gs r → ⊥
-refused-none file e es gs r k =
+pub refused-keeps-none : (file : List ℕ) {x : Refusal} → header file ≡ refused x → (es : List Entry) (gs : List Given) (r : List Line) → KeepsRules file es gs r → ⊥
+refused-keeps-none file e es gs r k =
     let p = keeps-accepted file k in
     let q : false ≡ true = cc in
     false≢true q
 
-pub none-refused : (file : List ℕ) → ((es : List Entry) (gs : List Given) (r : List Line) → KeepsRules file es gs r → ⊥)
+pub keeps-none-refused : (file : List ℕ) → ((es : List Entry) (gs : List Given) (r : List Line) → KeepsRules file es gs r → ⊥)
     → (x : Refusal) × (header file ≡ refused x)
-none-refused file none-keeps = go (header file) refl
+keeps-none-refused file none-keeps = go (header file) refl
   where
     go : (o : Outcome) → header file ≡ o → (x : Refusal) × (header file ≡ refused x)
     go (refused x) e = (x, e)

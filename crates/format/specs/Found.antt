@@ -15,7 +15,7 @@ use Rattle.format.specs.Calls.{noPlace}
 
 -- the answer is a place within the file, and the bytes there are t
 pub record HasAt (file t : List ℕ) (a : FindAnswer) : Type 0 where
-  pub fine : a .refusal ≡ fine
+  pub not-refused : a .refusal ≡ fine
   pub there : a .found ≡ true
   pub long : a .length ≡ length t
   pub within : a .start + a .length ≤ length file

@@ -80,11 +80,11 @@ pub record Laws : Type 0 where
   pub judge-of-pair : (version : ℕ) (gs : List Given) (k v : List ℕ) → 2 ≤ version → keyFine k ≡ true → valueFine v ≡ true → judge version gs (pairText k v) ≡ right (pair k v)
   pub pair-key-fine : (version : ℕ) (gs : List Given) (t k v : List ℕ) → judge version gs t ≡ right (pair k v) → keyFine k ≡ true
   pub pair-value-fine : (version : ℕ) (gs : List Given) (t k v : List ℕ) → judge version gs t ≡ right (pair k v) → valueFine v ≡ true
-  -- a header is accepted exactly when it keeps the rules, with the lines and fields that it has by them; a file is refused exactly when it has no such header
+  -- a header is accepted exactly when it keeps the rules, and `header` then answers these lines and fields; a file is refused exactly when no lines of it keep them
   pub accepted-keeps : (file : List ℕ) {es : List Entry} {gs : List Given} {r : List Line} → header file ≡ accepted es gs r → KeepsRules file es gs r
   pub keeps-accepted : (file : List ℕ) {es : List Entry} {gs : List Given} {r : List Line} → KeepsRules file es gs r → header file ≡ accepted es gs r
-  pub refused-none : (file : List ℕ) {x : Refusal} → header file ≡ refused x → (es : List Entry) (gs : List Given) (r : List Line) → KeepsRules file es gs r → ⊥
-  pub none-refused : (file : List ℕ) → ((es : List Entry) (gs : List Given) (r : List Line) → KeepsRules file es gs r → ⊥) → (x : Refusal) × (header file ≡ refused x)
+  pub refused-keeps-none : (file : List ℕ) {x : Refusal} → header file ≡ refused x → (es : List Entry) (gs : List Given) (r : List Line) → KeepsRules file es gs r → ⊥
+  pub keeps-none-refused : (file : List ℕ) → ((es : List Entry) (gs : List Given) (r : List Line) → KeepsRules file es gs r → ⊥) → (x : Refusal) × (header file ≡ refused x)
   -- what follows the closing line decides nothing about the header; the data area is what follows it
   pub header-ends : (s : List ℕ) {es : List Entry} {gs : List Given} {r : List Line} → header s ≡ accepted es gs r → closed es ≡ true → (d : List ℕ) → length (unlines (linesOf es) ++ d) ≤ maxFile → header (unlines (linesOf es) ++ d) ≡ accepted es gs (lines d)
   pub data-area : (s : List ℕ) {es : List Entry} {gs : List Given} {r : List Line} → header s ≡ accepted es gs r → drop (headerLength es) s ≡ unlines r
@@ -100,7 +100,7 @@ pub record Laws : Type 0 where
   pub samples-of-lent : (zs : List ℤ) (s : List ℕ) → length zs ≡ length s / wordBytes → allInType signed wordBytes zs ≡ true → samplesLent (lentSamples zs s) ≡ zs
   pub lent-of-samples : (s : List ℕ) → AllBytes s → lentSamples (samplesLent s) s ≡ s
   -- numbers put in at the front only: the others are taken out as they were
-  pub numbers-of-front : (w : ℕ) (ns s : List ℕ) → length ns ≤ length s / w → AllBelow (256 ^ w) ns → numbersOf w (over (numberBytes w ns) s) ≡ over ns (numbersOf w s)
+  pub numbers-of-front : (w : ℕ) (ns s : List ℕ) → length ns ≤ length s / w → AllBelow (256 ^ w) ns → numbersOf w (lentNumbers w ns s) ≡ over ns (numbersOf w s)
   -- decimal and hex text of a value read back as it
   pub number-of-decimal : (n : ℕ) → number (decimal n) ≡ some n
   pub value-of-decimal : (z : ℤ) → tokenValue (signedDecimal z) ≡ some z

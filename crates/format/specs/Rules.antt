@@ -23,7 +23,7 @@ abbrev pub isComment : List ℕ → Bool
 isComment [] = false
 isComment (b ∷ t) = eqb b HASH
 
--- a line that is neither empty nor a comment: each of its bytes is a tab or from 32 to 126 (5)
+-- a line that is neither empty nor a comment: each of its bytes is a tab or from 32 to 126 ("Numbers of refusal"; 5)
 pub record OtherLine (t : List ℕ) : Type 0 where
   pub filled : isEmpty t ≡ false
   pub no-comment : isComment t ≡ false
@@ -45,7 +45,7 @@ pub record FieldLine (version : ℕ) (gs : List Given) (t : List ℕ) (f : ℕ) 
   pub named : fieldNamed name ≡ some f
   -- this version has the field ("Versions"; 8)
   pub since : fieldSince f ≤ version
-  -- no line before gives it, in either spelling (9)
+  -- no line before gives it, in either spelling ("Numbers of refusal"; 9)
   pub new : isGiven f gs ≡ false
   -- a per-axis field comes after dimension, and a field that lies in a space after space or space dimension ("Order"; 10)
   pub after-dimension : isIn f perAxis ≡ true → isGiven dimension gs ≡ true
@@ -59,7 +59,7 @@ pub record PairLine (version : ℕ) (t k v : List ℕ) : Type 0 where
   pub other : OtherLine t
   pub key : List ℕ
   pub value : List ℕ
-  -- its first mark is `:=`, and the text before it is not empty (6)
+  -- its first mark is `:=`, and the text before it is not empty ("Numbers of refusal"; 6)
   pub marked : FirstMark t key (bytes ":=") value
   pub key-filled : isEmpty key ≡ false
   -- this version has key pairs ("Versions"; 8)
@@ -104,7 +104,7 @@ closed [] = false
 closed (e ∷ []) = closes (itemOf e)
 closed (e ∷ f ∷ es) = closed (f ∷ es)
 
--- the needed fields are given, endian only where a sample has more than one byte and the encoding is raw or hex ("Needed"; 14)
+-- the needed fields are given, endian among them where the order of bytes matters ("Needed"; 14)
 pub record Needed (gs : List Given) : Type 0 where
   pub has-dimension : isGiven dimension gs ≡ true
   pub has-type : isGiven type gs ≡ true
@@ -125,7 +125,7 @@ pub record KeepsRules (file : List ℕ) (es : List Entry) (gs : List Given) (r :
   -- each other line is what its item says, after the lines before it
   pub each : (before : List Entry) (l : Line) (i : Item) (after : List Entry) → others ≡ before ++ entry l i ∷ after
       → Keeps version (fieldsOf before) (text l) i
-  -- an empty line with its ending closes the header: none of its lines comes after that one
+  -- a closing line has its ending, and is the header's last line
   pub last : (before : List Entry) (l : Line) (after : List Entry) → others ≡ before ++ entry l closing ∷ after
       → (hasEnding (ending l) ≡ true) × (after ≡ [])
   -- without that line the header closes at the end of the bytes, and has a data file field (13)

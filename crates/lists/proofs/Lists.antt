@@ -196,7 +196,7 @@ module _ (l : Line) (n : ℕ) (gs : List Given) (ls : List Line) where
         lines = lines-after-list done l (magic n) es;
         rest = data-area (fileIn x) (g .reading) ∙ sym (data-area first e);
         place = place-moved first (fileIn x) e (g .reading);
-        past = place-past first e;
+        past-header = place-past first e;
         bytes = same-data first (fileIn x) e (g .reading);
         samples = same-samples first (fileIn x) e (g .reading);
         fits = g .fits;

@@ -120,7 +120,7 @@ pub record Settled (first : List ℕ) (es : List Entry) (gs : List Given) (ls : 
   pub version : versionOf entries ≡ versionOf es
   -- its numbers are the first ones, but for the header's length and the count of its lines, which is the carried one
   pub numbers : readHeaderCall (fileIn after) ≡ record { refusal = fine; reading = resized (headerLength entries) (countIn after) (readHeaderCall first .reading) }
-  -- a key that was set has its latest accepted value, any other key its first
+  -- a key that was set has its latest accepted value, any other key the one that it had in the first reading
   pub values : (k : List ℕ) → valueOf k entries ≡ orElse (lastAccepted k done) (valueOf k es)
   -- the carried count and table are those of the fresh reading
   pub count : countIn after ≡ length entries
@@ -134,7 +134,8 @@ pub record Settled (first : List ℕ) (es : List Entry) (gs : List Given) (ls : 
   pub rest : drop (headerLength entries) (fileIn after) ≡ drop (headerLength es) first
   -- with any second file: the data call refuses as before, or finds the data as far past the header or at the same place of the second file
   pub place : (second : List ℕ) → dataPlaceCall (fileIn after) second ≡ movedPlace (headerLength es) (headerLength entries) (dataPlaceCall first second)
-  pub past : (second : List ℕ) → inFirst (dataPlaceCall first second) ≡ true → headerLength es ≤ dataPlaceCall first second .start
+  -- data in the header's file is never before the header's end
+  pub past-header : (second : List ℕ) → inFirst (dataPlaceCall first second) ≡ true → headerLength es ≤ dataPlaceCall first second .start
   -- the data's bytes and the samples are the same
   pub bytes : (second : List ℕ) → dataCall (fileIn after) second ≡ dataCall first second
   pub samples : (second : List ℕ) (list : List ℤ) → samplesCall (fileIn after) second list ≡ samplesCall first second list

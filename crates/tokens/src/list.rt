@@ -7,7 +7,7 @@ ghost use Rattle.words.specs.Widths.{Width, kindBy};
 use crate::packed;
 use crate::reader;
 
-// The refusal that n samples come to: 20 or 21, whichever comes first in the data, or 0. All are read in one turn, and none is stored.
+// The refusal that n samples come to: of 20 and 21 the one that is met first, or 0. All are read in one turn, and none is stored.
 pub fn check(s: &[u8], n: usize, w: usize, signed: bool) -> u32
     ensures { λ r. ⌜ (Width w → r ≡ textSamples (kindBy signed) w n (now (s .entry)) .number) ⌝ }
 {
