@@ -66,4 +66,4 @@ module _ {file k : List ℕ} {p : FindAnswer} (w : Value file k p) (buf : List �
 
   pub value-copied : n ≤ length buf → (out : List ℕ) → out ≡ over (w .value) buf
       → _≡_ {A = ValueAnswer × List ℕ} (record { refusal = p .refusal; found = true; length = n }, out) (copyValueCall file k buf)
-  value-copied h out q = sym (w .call buf ∙ rw (le-ltb (length buf) (length (w .value)) (omega arith), q, e, w .place .fine))
+  value-copied h out q = sym (w .call buf ∙ rw (le-ltb (length buf) (length (w .value)) (omega arith), q, e, w .place .not-refused))
