@@ -189,7 +189,8 @@ typedef struct craneholt_count_answer {
 } craneholt_count_answer;
 
 /* All samples, axis 0 fastest, to the front of `list`; what is past them stays. Refuses as craneholt_data, with 19 before 16,
- * then 22, then the earlier in the data of 20 and 21. The count is known before: the product of reading.sizes. */
+ * then 22, then the earlier in the data of 20 and 21. The count is known before: the product of the first `reading.dimension`
+ * numbers in `reading.sizes`; a list of so many samples is always enough. */
 craneholt_count_answer craneholt_samples(const uint8_t *file, size_t file_length,
                                          const uint8_t *second, size_t second_length,
                                          void *list, size_t list_length);

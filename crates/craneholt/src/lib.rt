@@ -24,7 +24,7 @@ ghost use Rattle.format.specs.Found.{FindsField, FindsKey};
 ghost use Rattle.format.specs.EntryPoints.{readEntry, samplesEntry, sampleNumberEntry, writeEntry, setKeyEntry};
 ghost use Rattle.format.specs.Listing.{listingCall};
 ghost use Rattle.describe.specs.Shown.{maxListing};
-ghost use Rattle.room.specs.Room.{Enough, tableRoom, writeRoom, valueRoom, Copied, HoldsSet};
+ghost use Rattle.room.specs.Room.{Enough, tableRoom, samplesRoom, writeRoom, valueRoom, Copied, HoldsSet};
 
 // How many entries a table of so many bytes has, at most 1,024: no header has more lines.
 fn room_of(bytes: usize) -> usize
@@ -103,7 +103,8 @@ pub extern "C" fn craneholt_check_samples(file: &[u8], second: &[u8], room: usiz
 // The samples to the front of the list, 8 bytes each; untouched where they are refused.
 #[no_mangle]
 pub extern "C" fn craneholt_samples(file: &[u8], second: &[u8], list: &mut [u8]) -> CountAnswer
-    ensures { λ r. ⌜ _≡_ {A = CountAnswer × List ℕ} (r, now (list .exit)) (samplesEntry (now (file .entry)) (now (second .entry)) (now (list .entry))) ⌝ }
+    ensures call { λ r. ⌜ _≡_ {A = CountAnswer × List ℕ} (r, now (list .exit)) (samplesEntry (now (file .entry)) (now (second .entry)) (now (list .entry))) ⌝ }
+    ensures enough { λ r. ⌜ (samplesRoom (header (now (file .entry))) ≤ length (now (list .entry)) / wordBytes → Enough (r .refusal)) ⌝ }
 {
     samples::samples_to_bytes(file, second, list)
 }

@@ -13,6 +13,7 @@ use borrow.Author.Tests.{le-ltb, ltb-false}
 use Rattle.format.specs.declared.ReadAnswer.{ReadAnswer}
 use Rattle.format.specs.declared.FindAnswer.{FindAnswer}
 use Rattle.format.specs.declared.ValueAnswer.{ValueAnswer}
+use Rattle.format.specs.declared.CountAnswer.{CountAnswer}
 use Rattle.format.specs.declared.WriteAnswer.{WriteAnswer}
 use Rattle.format.specs.declared.SetAnswer.{SetAnswer}
 use Rattle.format.specs.Bytes.{if_then_else_, bytes, isSome, orElse, same, LF, BACKSLASH, over}
@@ -22,14 +23,16 @@ use Rattle.format.specs.Refusals.{extentTooLarge, lentTooShort, refusal, fine, 
 use Rattle.format.specs.Lines.{Line, size, unlines, starts}
 use Rattle.format.specs.Pairs.{escape}
 use Rattle.format.specs.Fields.{pairsSince}
-use Rattle.format.specs.Header.{Item, magic, comment, field, pair, closing, Entry, entry, Outcome, refused, accepted, header, versionOf, valueIn, valueOf, tableOf}
+use Rattle.format.specs.Header.{Item, magic, comment, field, pair, closing, Entry, entry, Outcome, refused, accepted, header, headerLength, versionOf, valueIn, valueOf, tableOf}
+use Rattle.format.specs.Data.{placeOf}
 use Rattle.format.specs.Settings.{lent, SetOutcome, kept, changed, keyFine, valueFine, newLines, refilled, tableFine, store, setRead, setKey}
 use Rattle.format.specs.Writer.{fileBytes, writeRefusal}
-use Rattle.format.specs.Calls.{readAnswer, readHeaderCall, withTable, readCall, noPlace, valuePlace, keyPlace, findKeyIn, findKeyCall, copyValue, copyValueIn, copyValueCall, writeAnswer, writeCall, setAnswer, setKeyCall}
+use Rattle.format.specs.Calls.{readAnswer, readHeaderCall, withTable, readCall, noPlace, valuePlace, keyPlace, findKeyIn, findKeyCall, copyValue, copyValueIn, copyValueCall, checkIn, samplesCall, writeAnswer, writeCall, setAnswer, setKeyCall}
 use Rattle.format.proofs.Header.{header-sound}
 use Rattle.format.proofs.Numbered.{NumberedOutcome, header-numbered}
-use Rattle.room.specs.Room.{Enough, tableEntries, writeRoom, valueRoom, Copied, setRoom, HoldsSet, RoomEnough}
+use Rattle.room.specs.Room.{Enough, tableEntries, writeRoom, valueRoom, Copied, samplesRoom, setRoom, HoldsSet, RoomEnough}
 use Rattle.room.proofs.Written.{room-for-file}
+use Rattle.room.proofs.Checked.{place-told, list-long}
 
 -- ---- the reading, with a table or without
 
@@ -102,6 +105,16 @@ module _ (k : List ℕ) where
         go (refused r) n l = record { refusal = refl; found = refl; short = omega arith; enough = λ h. omega arith }
         go (accepted es gs ls) n l = copied (keyPlace k 0 es) (valueOf k es) (placed 0 es) l
 
+-- ---- samples
+
+samples-enough : (file second : List ℕ) (list : List ℤ) → samplesRoom (header file) ≤ length list → Enough (samplesCall file second list .0 .refusal)
+samples-enough file second list l = go (header file) (header-numbered file) l
+  where
+    go : (o : Outcome) → NumberedOutcome o → samplesRoom o ≤ length list → Enough (checkIn (length list) file second o .refusal)
+    go (refused r) n l = λ e. omega arith
+    go (accepted es gs ls) n l =
+        list-long gs (placeOf true gs (headerLength es) file second) (place-told gs true (headerLength es) file second) (length list) file second (omega arith)
+
 -- ---- a written file
 
 write-enough : (version : ℕ) (sizes : List ℕ) (t e endian : ℕ) (zs : List ℤ) (out : List ℕ) → writeRoom (length zs) ≤ length out → Enough (writeCall version sizes t e endian zs out .0 .refusal)
@@ -171,6 +184,7 @@ room-enough =
       reading-numbers = reading-numbers;
       table-enough = table-enough;
       value-enough = λ file k buf. value-enough k buf file;
+      samples-enough = samples-enough;
       write-enough = write-enough;
       set-enough = λ buf used table count k v r. set-enough buf used table r count k v;
     }
@@ -188,6 +202,10 @@ read-answered file table {a} e h =
 pub value-answered : (file k buf : List ℕ) {a : ValueAnswer} {after : List ℕ} → _≡_ {A = ValueAnswer × List ℕ} (a, after) (copyValueCall file k buf)
     → valueRoom (findKeyCall file k) ≤ length buf → Copied (findKeyCall file k) a
 value-answered file k buf e h = subst (Copied (findKeyCall file k)) (sym (ap (λ (x : ValueAnswer × List ℕ). x .0) e)) (value-enough k buf file h)
+
+pub samples-answered : (file second : List ℕ) (list : List ℤ) {a : CountAnswer} {after : List ℤ}
+    → _≡_ {A = CountAnswer × List ℤ} (a, after) (samplesCall file second list) → samplesRoom (header file) ≤ length list → Enough (a .refusal)
+samples-answered file second list q h = same-refusal (ap (λ (x : CountAnswer × List ℤ). x .0 .refusal) q) (samples-enough file second list h)
 
 pub write-answered : (version : ℕ) (sizes : List ℕ) (t e endian : ℕ) (zs : List ℤ) (out : List ℕ) {a : WriteAnswer} {after : List ℕ}
     → _≡_ {A = WriteAnswer × List ℕ} (a, after) (writeCall version sizes t e endian zs out) → writeRoom (length zs) ≤ length out → Enough (a .refusal)

@@ -1,5 +1,6 @@
 -- Room that is always enough, as one statement: `RoomEnough`. The manual promises it (include/craneholt.h), and document 01 asks for
--- refusal 22 only where what is lent is too short ("Numbers of refusal"). Each call's contract says its own part of it.
+-- refusal 22 only where what is lent is too short ("Numbers of refusal"). Each call's contract says its own part of it. The room of a listing is
+-- not in it: that is claimed by the contracts of describe::listing and craneholt_listing alone.
 use Prim.Native.Nat.{ℕ, _+_, _*_, _≤_}
 use mathlib.Core.Path.{_≡_}
 use mathlib.Core.List.{List, _++_}
@@ -14,7 +15,7 @@ use Rattle.format.specs.Lines.{unlines}
 use Rattle.format.specs.Header.{Outcome, refused, accepted, header}
 use Rattle.format.specs.Settings.{newLines}
 use Rattle.format.specs.Boundary.{entryBytes}
-use Rattle.format.specs.Calls.{readHeaderCall, readCall, findKeyCall, copyValueCall, writeCall, setKeyCall}
+use Rattle.format.specs.Calls.{readHeaderCall, readCall, findKeyCall, copyValueCall, countOf, samplesCall, writeCall, setKeyCall}
 
 -- what is lent was long enough: the refusal is another one, or none
 abbrev pub Enough : Refusal → Type 0
@@ -36,7 +37,7 @@ tableRoom = tableEntries * entryBytes
 abbrev pub headerRoom : ℕ
 headerRoom = 512
 
--- bytes for a sample: the longest, in text, are 21, a sign, 19 digits and LF
+-- bytes for a sample: one more than the longest takes, which is in text: a sign, 19 digits and LF
 abbrev pub sampleRoom : ℕ
 sampleRoom = 22
 
@@ -56,6 +57,13 @@ pub record Copied (p : FindAnswer) (a : ValueAnswer) : Type 0 where
   pub found : a .found ≡ p .found
   pub short : a .length ≤ p .length
   pub enough : Enough (a .refusal)
+
+-- ---- samples
+
+-- entries for the samples of a file with this reading: the product of its sizes
+abbrev pub samplesRoom : Outcome → ℕ
+samplesRoom (refused r) = 0
+samplesRoom (accepted es gs ls) = countOf gs
 
 -- ---- a setting
 
@@ -77,7 +85,9 @@ pub record RoomEnough : Type 0 where
   pub table-enough : (file table : List ℕ) → tableEntries ≤ length table → readCall file table .0 ≡ readHeaderCall file
   -- the length that `find_key` tells is enough for the value
   pub value-enough : (file k buf : List ℕ) → valueRoom (findKeyCall file k) ≤ length buf → Copied (findKeyCall file k) (copyValueCall file k buf .0)
+  -- as many entries as the sizes ask for
+  pub samples-enough : (file second : List ℕ) (list : List ℤ) → samplesRoom (header file) ≤ length list → Enough (samplesCall file second list .0 .refusal)
   -- a file of these samples
   pub write-enough : (version : ℕ) (sizes : List ℕ) (t e endian : ℕ) (zs : List ℤ) (out : List ℕ) → writeRoom (length zs) ≤ length out → Enough (writeCall version sizes t e endian zs out .0 .refusal)
-  -- no setting is refused for such a table
+  -- with such a table and buffer no setting is refused by 22
   pub set-enough : (buf : List ℕ) (used : ℕ) (table : List ℕ) (count : ℕ) (k v : List ℕ) → tableEntries ≤ length table → HoldsSet buf used k v → Enough (setKeyCall buf used table count k v .0 .refusal)

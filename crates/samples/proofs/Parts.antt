@@ -27,6 +27,8 @@ use Rattle.format.specs.Data.{afterSkips, Place, nowhere, part, placeFrom, plac
 use Rattle.format.specs.Samples.{Decoded, sampleValue, ordered, rawSamples, textSamples, HexRun, noHex, hexRun, hexBytes, hexSample, hexSamples, withoutBlanks, samplesOf}
 use Rattle.format.specs.Calls.{readingOf, readAnswer, readHeaderCall, dataAnswer, noSamples, countOf, decoded, answerDecoded, checkAt, checkIn, checkSamplesCall, seenIn, samplesCall}
 use Rattle.format.proofs.Numbered.{NumberedOutcome, header-numbered}
+use Rattle.room.specs.Room.{Enough, samplesRoom}
+use Rattle.room.proofs.Enough.{samples-answered}
 use Rattle.words.specs.Widths.{Width, kindBy, endianBy}
 use Rattle.volume.specs.Places.{IsReading}
 use Rattle.samples.specs.Parts.{decodedBy, Decodable, partBy, Held, Placed}
@@ -263,3 +265,8 @@ module _ (file second : List ℕ) where
     pub list-filled : a .refusal .number ≡ 0 → (after : List ℤ) → after ≡ over (seenIn file second (header file)) list
         → _≡_ {A = CountAnswer × List ℤ} (a, after) (samplesCall file second list)
     list-filled z after q = rw (← e, eq-eqb (a .refusal .number) 0 z, q)
+
+-- an answer that is the call's, and the room that is enough for it
+pub list-answered : (file second : List ℕ) (list : List ℤ) {a : CountAnswer} {after : List ℤ} → _≡_ {A = CountAnswer × List ℤ} (a, after) (samplesCall file second list)
+    → (_≡_ {A = CountAnswer × List ℤ} (a, after) (samplesCall file second list)) × (samplesRoom (header file) ≤ length list → Enough (a .refusal))
+list-answered file second list e = (e, samples-answered file second list e)

@@ -7,14 +7,18 @@ use format::Reading;
 use format::Refusal;
 ghost use mathlib.Core.Path.{_≡_};
 ghost use mathlib.Core.List.{List};
-ghost use Prim.Native.Nat.{ℕ};
+ghost use Prim.Native.Nat.{ℕ, _/_, _≤_};
 ghost use lib.Dec.{eqb};
 ghost use lib.IntN.{ℤ};
+ghost use lib.ListN.{length};
 ghost use Rattle.format.specs.declared.CountAnswer.{CountAnswer};
 ghost use Rattle.format.specs.Bytes.{if_then_else_};
 ghost use Rattle.format.specs.Refusals.{refusal, fine};
+ghost use Rattle.format.specs.Boundary.{wordBytes};
+ghost use Rattle.format.specs.Header.{header};
 ghost use Rattle.format.specs.Calls.{noSamples, checkSamplesCall, samplesCall};
 ghost use Rattle.format.specs.EntryPoints.{samplesEntry};
+ghost use Rattle.room.specs.Room.{Enough, samplesRoom};
 ghost use Rattle.samples.specs.Parts.{Placed};
 
 // There are no samples.
@@ -72,9 +76,10 @@ pub fn check_samples(file: &[u8], second: &[u8], room: usize) -> CountAnswer
     check_at(reading, file, second, d, room)
 }
 
-// The samples to the front of the list; untouched where they are refused.
+// The samples to the front of the list; untouched where they are refused. As many entries as the product of the sizes are enough.
 pub fn samples(file: &[u8], second: &[u8], list: &mut [i64]) -> CountAnswer
-    ensures { λ r. ⌜ _≡_ {A = CountAnswer × List ℤ} (r, now (list .exit)) (samplesCall (now (file .entry)) (now (second .entry)) (now (list .entry))) ⌝ }
+    ensures call { λ r. ⌜ _≡_ {A = CountAnswer × List ℤ} (r, now (list .exit)) (samplesCall (now (file .entry)) (now (second .entry)) (now (list .entry))) ⌝ }
+    ensures enough { λ r. ⌜ (samplesRoom (header (now (file .entry))) ≤ length (now (list .entry)) → Enough (r .refusal)) ⌝ }
 {
     let answer = header::read::read_header(file);
     if answer.refusal.number != 0 {
@@ -92,7 +97,8 @@ pub fn samples(file: &[u8], second: &[u8], list: &mut [i64]) -> CountAnswer
 
 // The same for a caller that lends the list as bytes, 8 for each sample; a rest too short for one stays.
 pub fn samples_to_bytes(file: &[u8], second: &[u8], list: &mut [u8]) -> CountAnswer
-    ensures { λ r. ⌜ _≡_ {A = CountAnswer × List ℕ} (r, now (list .exit)) (samplesEntry (now (file .entry)) (now (second .entry)) (now (list .entry))) ⌝ }
+    ensures call { λ r. ⌜ _≡_ {A = CountAnswer × List ℕ} (r, now (list .exit)) (samplesEntry (now (file .entry)) (now (second .entry)) (now (list .entry))) ⌝ }
+    ensures enough { λ r. ⌜ (samplesRoom (header (now (file .entry))) ≤ length (now (list .entry)) / wordBytes → Enough (r .refusal)) ⌝ }
 {
     let answer = header::read::read_header(file);
     if answer.refusal.number != 0 {

@@ -5,7 +5,7 @@ use mathlib.Core.Path.{_≡_, sym, ap, _∙_}
 use lib.ListN.{length}
 use Rattle.format.specs.declared.CountAnswer.{CountAnswer}
 use Rattle.samples.specs.Parts.{Placed}
-use Rattle.samples.proofs.Parts.{check-refused, samples-placed, Full, place-full, list-kept, list-filled}
+use Rattle.samples.proofs.Parts.{check-refused, samples-placed, Full, place-full, list-kept, list-filled, list-answered}
 use Rattle.samples.proofs.samples.Statement.{statement}
 use Rattle.samples.proofs.samples.Tie as tie
 
@@ -35,9 +35,10 @@ returns c =
     let a = c .before .before .before .before .before .before .args in
     let r = c .before .before .before .read-header in
     let n = c .before .if1 .taken in
-    list-kept (a .file .now) (a .second .now) (c .none .result) (a .list .now)
+    list-answered (a .file .now) (a .second .now) (a .list .now)
+    (list-kept (a .file .now) (a .second .now) (c .none .result) (a .list .now)
     (c .none .ensures ∙ check-refused (a .file .now) (a .second .now) (r .result) (r .ensures) n (length (a .list .now)))
-    (λ z. n (sym (ap (λ (y : CountAnswer). y .refusal .number) (c .none .ensures)) ∙ z))
+    (λ z. n (sym (ap (λ (y : CountAnswer). y .refusal .number) (c .none .ensures)) ∙ z)))
 
 locate-requires : tie.Need-locate-requires
 locate-requires c κs = search needs
@@ -49,7 +50,8 @@ returns-2 : tie.Need-returns-2
 returns-2 c =
     let a = c .before .before .before .before .before .before .before .before .before .before .args in
     let k = c .before .before .check-at in
-    list-kept (a .file .now) (a .second .now) (k .result) (a .list .now) (k .ensures) (c .if2 .taken)
+    list-answered (a .file .now) (a .second .now) (a .list .now)
+    (list-kept (a .file .now) (a .second .now) (k .result) (a .list .now) (k .ensures) (c .if2 .taken))
 
 fill-place-requires : tie.Need-fill-place-requires
 fill-place-requires c κs =
@@ -64,8 +66,9 @@ returns-3 c =
     let a = c .before .before .before .before .before .before .before .before .before .before .before .before .before .args in
     let k = c .before .before .before .before .before .check-at in
     let z = c .before .before .before .if2 .left in
-    list-filled (a .file .now) (a .second .now) (k .result) (a .list .now) (k .ensures) z _
-    (rw (full (c .before .before .before .before .before) z .seen) (c .before .fill-place .ensures))
+    list-answered (a .file .now) (a .second .now) (a .list .now)
+    (list-filled (a .file .now) (a .second .now) (k .result) (a .list .now) (k .ensures) z _
+    (rw (full (c .before .before .before .before .before) z .seen) (c .before .fill-place .ensures)))
 
 pub samples-spec : {M : Type 1} → statement M
 samples-spec =

@@ -5,7 +5,7 @@ use mathlib.Core.Path.{_≡_, sym, ap, _∙_}
 use lib.ListN.{length}
 use Rattle.format.specs.declared.CountAnswer.{CountAnswer}
 use Rattle.samples.specs.Parts.{Placed}
-use Rattle.samples.proofs.Packed.{bytes-kept, bytes-filled}
+use Rattle.samples.proofs.Packed.{bytes-kept, bytes-filled, bytes-answered}
 use Rattle.samples.proofs.Parts.{check-refused, samples-placed, Full, place-full}
 use borrow.Author.Needs.{needs}
 use Rattle.samples.proofs.samples_to_bytes.Statement.{statement}
@@ -38,10 +38,11 @@ returns c =
     let a = s .before .before .before .args in
     let r = c .before .before .before .read-header in
     let n = c .before .if1 .taken in
-    bytes-kept (a .file .now) (a .second .now) (c .none .result) (a .list .now)
+    bytes-answered (a .file .now) (a .second .now) (a .list .now)
+    (bytes-kept (a .file .now) (a .second .now) (c .none .result) (a .list .now)
     (c .none .ensures ∙ check-refused (a .file .now) (a .second .now) (r .result) (r .ensures) n (length (a .list .now) / 8))
     (λ i. s .slice-known .given i .fits)
-    (λ z. n (sym (ap (λ (y : CountAnswer). y .refusal .number) (c .none .ensures)) ∙ z))
+    (λ z. n (sym (ap (λ (y : CountAnswer). y .refusal .number) (c .none .ensures)) ∙ z)))
 
 locate-requires : tie.Need-locate-requires
 locate-requires c κs = search needs
@@ -54,7 +55,8 @@ returns-2 c =
     let s = c .before .before .before .before .before .before .before .before in
     let a = s .before .before .before .args in
     let k = c .before .before .check-at in
-    bytes-kept (a .file .now) (a .second .now) (k .result) (a .list .now) (k .ensures) (λ i. s .slice-known .given i .fits) (c .if2 .taken)
+    bytes-answered (a .file .now) (a .second .now) (a .list .now)
+    (bytes-kept (a .file .now) (a .second .now) (k .result) (a .list .now) (k .ensures) (λ i. s .slice-known .given i .fits) (c .if2 .taken))
 
 pack-place-requires : tie.Need-pack-place-requires
 pack-place-requires c κs =
@@ -69,7 +71,8 @@ returns-3 c =
     let k = c .before .before .before .before .before .before in
     let a = k .before .before .before .before .before .before .before .before .before .args in
     let z = c .before .before .before .before .if2 .left in
-    bytes-filled (a .file .now) (a .second .now) (k .check-at .result) (a .list .now) (k .check-at .ensures) z _ (rw (full k z .seen) (c .before .before .pack-place .ensures))
+    bytes-answered (a .file .now) (a .second .now) (a .list .now)
+    (bytes-filled (a .file .now) (a .second .now) (k .check-at .result) (a .list .now) (k .check-at .ensures) z _ (rw (full k z .seen) (c .before .before .pack-place .ensures)))
 
 pub samples-to-bytes-spec : {M : Type 1} → statement M
 samples-to-bytes-spec =
