@@ -240,7 +240,8 @@ typedef struct craneholt_set_answer {
  * file no longer takes become 0; bytes past the old and the new length stay, as do entries past the new count.
  * After any number of settings, some of them refused, a reading of the file gives each key the value accepted for it last.
  * Refuses: 22 if `used` passes the buffer; 1 to 15; 8 (version 1), 24, 25, 26; of the file as it would become 3, 4, 1, and 22
- * if it does not fit the buffer or its lines do not fit the table (CRANEHOLT_MAX_LINES entries are always enough). */
+ * if it does not fit the buffer or its lines do not fit the table (CRANEHOLT_MAX_LINES entries are always enough, with a
+ * buffer of `used` bytes, two for each byte of key and value, and 4). */
 craneholt_set_answer craneholt_set_key(uint8_t *buffer, size_t buffer_length, size_t used,
                                        void *table, size_t table_length, size_t count,
                                        const uint8_t *key, size_t key_length,

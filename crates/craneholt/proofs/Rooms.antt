@@ -13,7 +13,7 @@ use Rattle.format.specs.Boundary.{entryBytes, numbersOf}
 use Rattle.format.specs.Calls.{readHeaderCall, readCall, setKeyCall}
 use Rattle.format.specs.EntryPoints.{readEntry, setKeyEntry}
 use Rattle.format.specs.Listing.{listing, listingCall}
-use Rattle.room.specs.Room.{Enough, tableEntries, tableRoom, HoldsSet}
+use Rattle.room.specs.Room.{Enough, tableEntries, tableRoom, setRoom}
 use Rattle.room.proofs.Enough.{same-refusal, read-answered, set-answered}
 use Rattle.format.proofs.Boundary.{length-numbers}
 use Rattle.describe.specs.Shown.{maxListing}
@@ -29,7 +29,7 @@ read-room file table e h =
     read-answered file (numbersOf entryBytes table) (λ i. (ap (λ (x : ReadAnswer × List ℕ). x .0) e i, c .1)) (many-entries table h)
 
 pub set-room : (buf : List ℕ) (used : ℕ) (table : List ℕ) (count : ℕ) (k v : List ℕ) {a : SetAnswer} {after : List ℕ × List ℕ}
-    → _≡_ {A = SetAnswer × (List ℕ × List ℕ)} (a, after) (setKeyEntry buf used table count k v) → tableRoom ≤ length table → HoldsSet buf used k v → Enough (a .refusal)
+    → _≡_ {A = SetAnswer × (List ℕ × List ℕ)} (a, after) (setKeyEntry buf used table count k v) → tableRoom ≤ length table → setRoom used k v ≤ length buf → Enough (a .refusal)
 set-room buf used table count k v e h =
     let c = setKeyCall buf used (numbersOf entryBytes table) count k v in
     set-answered buf used (numbersOf entryBytes table) count k v (λ i. (ap (λ (x : SetAnswer × (List ℕ × List ℕ)). x .0) e i, c .1)) (many-entries table h)

@@ -24,7 +24,7 @@ ghost use Rattle.format.specs.Found.{FindsField, FindsKey};
 ghost use Rattle.format.specs.EntryPoints.{readEntry, samplesEntry, sampleNumberEntry, writeEntry, setKeyEntry};
 ghost use Rattle.format.specs.Listing.{listingCall};
 ghost use Rattle.describe.specs.Shown.{maxListing};
-ghost use Rattle.room.specs.Room.{Enough, tableRoom, samplesRoom, writeRoom, valueRoom, Copied, HoldsSet};
+ghost use Rattle.room.specs.Room.{Enough, tableRoom, samplesRoom, writeRoom, valueRoom, Copied, setRoom};
 
 // How many entries a table of so many bytes has, at most 1,024: no header has more lines.
 fn room_of(bytes: usize) -> usize
@@ -148,7 +148,7 @@ pub extern "C" fn craneholt_set_key(
     value: &[u8],
 ) -> SetAnswer
     ensures call { λ r. ⌜ _≡_ {A = SetAnswer × (List ℕ × List ℕ)} (r, (now (buf .exit), now (table .exit))) (setKeyEntry (now (buf .entry)) used (now (table .entry)) count (now (key .entry)) (now (value .entry))) ⌝ }
-    ensures enough { λ r. ⌜ (tableRoom ≤ length (now (table .entry)) → HoldsSet (now (buf .entry)) used (now (key .entry)) (now (value .entry)) → Enough (r .refusal)) ⌝ }
+    ensures enough { λ r. ⌜ (tableRoom ≤ length (now (table .entry)) → setRoom used (now (key .entry)) (now (value .entry)) ≤ length (now (buf .entry)) → Enough (r .refusal)) ⌝ }
 {
     // a header has at most 1,024 lines
     let mut local = [0u32; 1024];

@@ -8,7 +8,8 @@ use Prim.Native.Nat.{ℕ, _+_, _≤_}
 use native.Mathlib.Omega.{arith}
 use lib.Dec.{eqb, ltb}
 use lib.IntN.{ℤ}
-use lib.ListN.{length, take}
+use lib.ListN.{length, take, length-append}
+use lib.Seq.{length-take-le}
 use borrow.Author.Tests.{le-ltb, ltb-false}
 use Rattle.format.specs.declared.ReadAnswer.{ReadAnswer}
 use Rattle.format.specs.declared.FindAnswer.{FindAnswer}
@@ -16,23 +17,23 @@ use Rattle.format.specs.declared.ValueAnswer.{ValueAnswer}
 use Rattle.format.specs.declared.CountAnswer.{CountAnswer}
 use Rattle.format.specs.declared.WriteAnswer.{WriteAnswer}
 use Rattle.format.specs.declared.SetAnswer.{SetAnswer}
-use Rattle.format.specs.Bytes.{if_then_else_, bytes, isSome, orElse, same, LF, BACKSLASH, over}
+use Rattle.format.specs.Bytes.{if_then_else_, isSome, orElse, same, over}
 use Rattle.format.specs.Limits.{maxFile, maxHeader, maxLines}
 use Rattle.format.specs.declared.Refusal.{Refusal}
 use Rattle.format.specs.Refusals.{extentTooLarge, lentTooShort, refusal, fine, headerTooLong, tooManyLines, fileTooLong, notInVersion, badKey, badValue, wrongTable}
 use Rattle.format.specs.Lines.{Line, size, unlines, starts}
-use Rattle.format.specs.Pairs.{escape}
 use Rattle.format.specs.Fields.{pairsSince}
-use Rattle.format.specs.Header.{Item, magic, comment, field, pair, closing, Entry, entry, Outcome, refused, accepted, header, headerLength, versionOf, valueIn, valueOf, tableOf}
+use Rattle.format.specs.Header.{Item, magic, comment, field, pair, closing, Entry, entry, linesOf, Outcome, refused, accepted, header, headerLength, versionOf, valueIn, valueOf, tableOf}
 use Rattle.format.specs.Data.{placeOf}
 use Rattle.format.specs.Settings.{lent, SetOutcome, kept, changed, keyFine, valueFine, newLines, refilled, tableFine, store, setRead, setKey}
 use Rattle.format.specs.Writer.{fileBytes, writeRefusal}
 use Rattle.format.specs.Calls.{readAnswer, readHeaderCall, withTable, readCall, noPlace, valuePlace, keyPlace, findKeyIn, findKeyCall, copyValue, copyValueIn, copyValueCall, checkIn, samplesCall, writeAnswer, writeCall, setAnswer, setKeyCall}
 use Rattle.format.proofs.Header.{header-sound}
 use Rattle.format.proofs.Numbered.{NumberedOutcome, header-numbered}
-use Rattle.room.specs.Room.{Enough, tableEntries, writeRoom, valueRoom, Copied, samplesRoom, setRoom, HoldsSet, RoomEnough}
+use Rattle.room.specs.Room.{Enough, tableEntries, writeRoom, valueRoom, Copied, samplesRoom, setRoom, RoomEnough}
 use Rattle.room.proofs.Written.{room-for-file}
 use Rattle.room.proofs.Checked.{place-told, list-long}
+use Rattle.room.proofs.Grown.{escape-length, header-grown}
 
 -- ---- the reading, with a table or without
 
@@ -53,18 +54,6 @@ table-enough file table h = go (header file) refl
 
 -- ---- the value of a key
 
--- a text is not longer than it is escaped
-escape-longer : (v : List ℕ) → length v ≤ length (escape v)
-unfolding escape
-escape-longer [] = omega arith
-escape-longer (b ∷ v) = go (eqb b LF) (eqb b BACKSLASH) (escape-longer v)
-  where
-    go : (x y : Bool) → length v ≤ length (escape v)
-        → length (b ∷ v) ≤ length (if x then bytes "\\n" ++ escape v else if y then bytes "\\\\" ++ escape v else b ∷ escape v)
-    go true y h = omega arith
-    go false true h = omega arith
-    go false false h = omega arith
-
 -- what a place says of the value of a key: nothing is found, or a text at least as long as the value
 abbrev Placed : FindAnswer → Option (List ℕ) → Type 0
 Placed p none = p ≡ noPlace fine
@@ -78,7 +67,7 @@ module _ (k : List ℕ) where
   placed-in at (pair j v) = go (same k j)
     where
       go : (x : Bool) → Placed (if isSome (if x then some v else none) then valuePlace at (pair j v) else noPlace fine) (if x then some v else none)
-      go true = (refl, refl, escape-longer v)
+      go true = (refl, refl, escape-length v .0)
       go false = refl
   placed-in at closing = refl
 
@@ -157,20 +146,30 @@ module _ (buf : List ℕ) (used : ℕ) (table : List ℕ) (room : tableEntries �
           rw (le-ltb (length buf) (length (unlines ls ++ rest)) h, le-ltb (length table) (length ls) (omega (arith, ltb-false maxLines (length ls) q))) tt
 
   module _ (count : ℕ) (k v : List ℕ) where
-    read-fits : (o : Outcome) → NumberedOutcome o → setRoom k v o ≤ length buf → Fits (setRead buf used table count k v o)
+    read-fits : setRoom used k v ≤ length buf → (o : Outcome) → header (take used buf) ≡ o → NumberedOutcome o → Fits (setRead buf used table count k v o)
     unfolding setRead
-    read-fits (refused r) n h = λ e. omega arith
-    read-fits (accepted es gs ls) n h =
+    read-fits h (refused r) q n = λ e. omega arith
+    read-fits h (accepted es gs ls) q n =
         fits-unless (ltb (versionOf es) pairsSince) (refusal notInVersion) _ (λ e. omega arith)
         (fits-unless (not (keyFine k)) (refusal badKey) _ (λ e. omega arith)
         (fits-unless (not (valueFine v)) (refusal badValue) _ (λ e. omega arith)
         (fits-unless (not (tableFine table count (tableOf es))) (refusal wrongTable) _ (λ e. omega arith)
-        (store-fits (newLines k v es) (unlines ls) (omega (arith, h))))))
+        (store-fits (newLines k v es) (unlines ls) fits))))
+      where
+        -- the file was `used` bytes long
+        whole : length (unlines (linesOf es)) + length (unlines ls) ≡ used
+        whole =
+            sym (length-append (unlines (linesOf es)) (unlines ls))
+            ∙ ap length (sym (header-sound (take used buf) q .bytes)) ∙ length-take-le used buf (omega (arith, h))
 
-    set-enough : HoldsSet buf used k v → Enough (setKeyCall buf used table count k v .0 .refusal)
+        fits : length (unlines (newLines k v es) ++ unlines ls) ≤ length buf
+        fits = rw (length-append (unlines (newLines k v es)) (unlines ls)) (omega (arith, h, whole, header-grown k v es))
+
+    set-enough : setRoom used k v ≤ length buf → Enough (setKeyCall buf used table count k v .0 .refusal)
     unfolding setKey
     set-enough h =
-        rw (le-ltb (length buf) used (h .0)) (go (setRead buf used table count k v (header (take used buf))) (read-fits (header (take used buf)) (header-numbered (take used buf)) (h .1)))
+        let o = header (take used buf) in
+        rw (le-ltb (length buf) used (omega arith)) (go (setRead buf used table count k v o) (read-fits h o refl (header-numbered (take used buf))))
       where
         go : (s : SetOutcome) → Fits s → Enough (setAnswer buf used table count s .0 .refusal)
         go (kept r) f = f
@@ -213,6 +212,6 @@ write-answered version sizes t e endian zs out q h =
     same-refusal (ap (λ (x : WriteAnswer × List ℕ). x .0 .refusal) q) (write-enough version sizes t e endian zs out h)
 
 pub set-answered : (buf : List ℕ) (used : ℕ) (table : List ℕ) (count : ℕ) (k v : List ℕ) {a : SetAnswer} {after : List ℕ × List ℕ}
-    → _≡_ {A = SetAnswer × (List ℕ × List ℕ)} (a, after) (setKeyCall buf used table count k v) → tableEntries ≤ length table → HoldsSet buf used k v → Enough (a .refusal)
+    → _≡_ {A = SetAnswer × (List ℕ × List ℕ)} (a, after) (setKeyCall buf used table count k v) → tableEntries ≤ length table → setRoom used k v ≤ length buf → Enough (a .refusal)
 set-answered buf used table count k v q r h =
     same-refusal (ap (λ (x : SetAnswer × (List ℕ × List ℕ)). x .0 .refusal) q) (set-enough buf used table r count k v h)

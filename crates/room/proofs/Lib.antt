@@ -1,3 +1,4 @@
 pub mod Written
 pub mod Checked
+pub mod Grown
 pub mod Enough

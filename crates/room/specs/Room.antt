@@ -3,17 +3,15 @@
 -- not in it: that is claimed by the contracts of describe::listing and craneholt_listing alone.
 use Prim.Native.Nat.{ℕ, _+_, _*_, _≤_}
 use mathlib.Core.Path.{_≡_}
-use mathlib.Core.List.{List, _++_}
+use mathlib.Core.List.{List}
 use lib.IntN.{ℤ}
-use lib.ListN.{length, take}
+use lib.ListN.{length}
 use Rattle.format.specs.declared.Refusal.{Refusal}
 use Rattle.format.specs.declared.FindAnswer.{FindAnswer}
 use Rattle.format.specs.declared.ValueAnswer.{ValueAnswer}
 use Rattle.format.specs.Limits.{maxLines}
 use Rattle.format.specs.Refusals.{extentTooLarge, lentTooShort}
-use Rattle.format.specs.Lines.{unlines}
 use Rattle.format.specs.Header.{Outcome, refused, accepted, header}
-use Rattle.format.specs.Settings.{newLines}
 use Rattle.format.specs.Boundary.{entryBytes}
 use Rattle.format.specs.Calls.{readHeaderCall, readCall, findKeyCall, copyValueCall, countOf, samplesCall, writeCall, setKeyCall}
 
@@ -67,14 +65,9 @@ samplesRoom (accepted es gs ls) = countOf gs
 
 -- ---- a setting
 
--- bytes for the file with this reading once its key k has the value v
-abbrev pub setRoom : List ℕ → List ℕ → Outcome → ℕ
-setRoom k v (refused r) = 0
-setRoom k v (accepted es gs ls) = length (unlines (newLines k v es) ++ unlines ls)
-
--- the buffer has room for the file in its first `used` bytes, and for that file once k has the value v
-abbrev pub HoldsSet : List ℕ → ℕ → List ℕ → List ℕ → Type 0
-HoldsSet buf used k v = (used ≤ length buf) × (setRoom k v (header (take used buf)) ≤ length buf)
+-- bytes for a file of `used` bytes once its key k has the value v: of both each byte takes at most two, `:=` takes two and a line's ending at most two
+abbrev pub setRoom : ℕ → List ℕ → List ℕ → ℕ
+setRoom used k v = used + (2 * (length k + length v) + 4)
 
 -- ---- THE STATEMENT
 
@@ -90,4 +83,4 @@ pub record RoomEnough : Type 0 where
   -- a file of these samples
   pub write-enough : (version : ℕ) (sizes : List ℕ) (t e endian : ℕ) (zs : List ℤ) (out : List ℕ) → writeRoom (length zs) ≤ length out → Enough (writeCall version sizes t e endian zs out .0 .refusal)
   -- with such a table and buffer no setting is refused by 22
-  pub set-enough : (buf : List ℕ) (used : ℕ) (table : List ℕ) (count : ℕ) (k v : List ℕ) → tableEntries ≤ length table → HoldsSet buf used k v → Enough (setKeyCall buf used table count k v .0 .refusal)
+  pub set-enough : (buf : List ℕ) (used : ℕ) (table : List ℕ) (count : ℕ) (k v : List ℕ) → tableEntries ≤ length table → setRoom used k v ≤ length buf → Enough (setKeyCall buf used table count k v .0 .refusal)

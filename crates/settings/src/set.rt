@@ -7,7 +7,7 @@ ghost use Prim.Native.Nat.{ℕ, _≤_};
 ghost use lib.ListN.{length};
 ghost use Rattle.format.specs.declared.SetAnswer.{SetAnswer};
 ghost use Rattle.format.specs.Calls.{setKeyCall};
-ghost use Rattle.room.specs.Room.{Enough, tableEntries, HoldsSet};
+ghost use Rattle.room.specs.Room.{Enough, tableEntries, setRoom};
 
 // The answer of a file of so many bytes and header lines.
 fn answer(refusal: Refusal, length: usize, count: usize) -> SetAnswer
@@ -21,7 +21,7 @@ fn answer(refusal: Refusal, length: usize, count: usize) -> SetAnswer
 }
 
 // Sets a key to a value in the file in the first `used` bytes of a buffer, whose line table has `count` entries. A refused call alters nothing.
-// A table of 1,024 entries is enough for any file.
+// A table of 1,024 entries is enough for any file, and a buffer of `used` bytes, two for each byte of key and value, and 4.
 pub fn set_key(
     buf: &mut [u8],
     used: usize,
@@ -31,7 +31,7 @@ pub fn set_key(
     value: &[u8],
 ) -> SetAnswer
     ensures call { λ r. ⌜ _≡_ {A = SetAnswer × (List ℕ × List ℕ)} (r, (now (buf .exit), now (table .exit))) (setKeyCall (now (buf .entry)) used (now (table .entry)) count (now (key .entry)) (now (value .entry))) ⌝ }
-    ensures enough { λ r. ⌜ (tableEntries ≤ length (now (table .entry)) → HoldsSet (now (buf .entry)) used (now (key .entry)) (now (value .entry)) → Enough (r .refusal)) ⌝ }
+    ensures enough { λ r. ⌜ (tableEntries ≤ length (now (table .entry)) → setRoom used (now (key .entry)) (now (value .entry)) ≤ length (now (buf .entry)) → Enough (r .refusal)) ⌝ }
 {
     let room = buf.len();
     if room < used {
