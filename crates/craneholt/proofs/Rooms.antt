@@ -1,8 +1,8 @@
--- The room that is always enough, where tables cross in bytes, and for a listing.
+-- The room that is always enough, where tables cross in bytes, for samples by the reading, and for a listing.
 -- Assumes nothing.
 use Prim.Native.Nat.{ℕ, _≤_}
 use native.Mathlib.Omega.{arith}
-use mathlib.Core.Path.{_≡_, ap}
+use mathlib.Core.Path.{_≡_, refl, ap}
 use mathlib.Core.List.{List}
 use lib.ListN.{length}
 use borrow.Author.Tests.{le-ltb}
@@ -10,12 +10,14 @@ use Rattle.format.specs.declared.ReadAnswer.{ReadAnswer}
 use Rattle.format.specs.declared.WriteAnswer.{WriteAnswer}
 use Rattle.format.specs.declared.SetAnswer.{SetAnswer}
 use Rattle.format.specs.Boundary.{entryBytes, numbersOf}
-use Rattle.format.specs.Calls.{readHeaderCall, readCall, setKeyCall}
+use Rattle.format.specs.Header.{Outcome, refused, accepted, header}
+use Rattle.format.specs.Calls.{readingOf, readAnswer, readHeaderCall, readCall, setKeyCall}
 use Rattle.format.specs.EntryPoints.{readEntry, setKeyEntry}
 use Rattle.format.specs.Listing.{listing, listingCall}
-use Rattle.room.specs.Room.{Enough, tableEntries, tableRoom, setRoom}
+use Rattle.room.specs.Room.{Enough, tableEntries, tableRoom, samplesRoom, sizesRoom, setRoom}
 use Rattle.room.proofs.Enough.{same-refusal, read-answered, set-answered}
 use Rattle.format.proofs.Boundary.{length-numbers}
+use Rattle.volume.proofs.Headers.{header-sizes}
 use Rattle.describe.specs.Shown.{maxListing}
 
 -- the entries of such a table
@@ -33,6 +35,15 @@ pub set-room : (buf : List ℕ) (used : ℕ) (table : List ℕ) (count : ℕ) (k
 set-room buf used table count k v e h =
     let c = setKeyCall buf used (numbersOf entryBytes table) count k v in
     set-answered buf used (numbersOf entryBytes table) count k v (λ i. (ap (λ (x : SetAnswer × (List ℕ × List ℕ)). x .0) e i, c .1)) (many-entries table h)
+
+-- the product of the sizes that a reading tells is enough for the samples
+pub sizes-room : (file : List ℕ) → samplesRoom (header file) ≤ sizesRoom (readHeaderCall file .reading)
+unfolding readingOf
+sizes-room file = go (header file) refl
+  where
+    go : (o : Outcome) → header file ≡ o → samplesRoom o ≤ sizesRoom (readAnswer o .reading)
+    go (refused r) e = omega arith
+    go (accepted es gs ls) e = rw (header-sizes file e) (omega arith)
 
 pub listing-room : (file out : List ℕ) {a : WriteAnswer} {after : List ℕ} → _≡_ {A = WriteAnswer × List ℕ} (a, after) (listingCall file out)
     → length (listing file) ≤ maxListing → maxListing ≤ length out → Enough (a .refusal)

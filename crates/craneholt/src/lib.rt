@@ -24,7 +24,7 @@ ghost use Rattle.format.specs.Found.{FindsField, FindsKey};
 ghost use Rattle.format.specs.EntryPoints.{readEntry, samplesEntry, sampleNumberEntry, writeEntry, setKeyEntry};
 ghost use Rattle.format.specs.Listing.{listingCall};
 ghost use Rattle.describe.specs.Shown.{maxListing};
-ghost use Rattle.room.specs.Room.{Enough, tableRoom, samplesRoom, writeRoom, valueRoom, Copied, setRoom};
+ghost use Rattle.room.specs.Room.{Enough, tableRoom, samplesRoom, sizesRoom, writeRoom, valueRoom, Copied, setRoom};
 
 // How many entries a table of so many bytes has, at most 1,024: no header has more lines.
 fn room_of(bytes: usize) -> usize
@@ -105,6 +105,7 @@ pub extern "C" fn craneholt_check_samples(file: &[u8], second: &[u8], room: usiz
 pub extern "C" fn craneholt_samples(file: &[u8], second: &[u8], list: &mut [u8]) -> CountAnswer
     ensures call { λ r. ⌜ _≡_ {A = CountAnswer × List ℕ} (r, now (list .exit)) (samplesEntry (now (file .entry)) (now (second .entry)) (now (list .entry))) ⌝ }
     ensures enough { λ r. ⌜ (samplesRoom (header (now (file .entry))) ≤ length (now (list .entry)) / wordBytes → Enough (r .refusal)) ⌝ }
+    ensures known { λ _. ⌜ samplesRoom (header (now (file .entry))) ≤ sizesRoom (readHeaderCall (now (file .entry)) .reading) ⌝ }
 {
     samples::samples_to_bytes(file, second, list)
 }

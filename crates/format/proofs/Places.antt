@@ -69,10 +69,10 @@ bytes-at-most n s = go (ltb (length s) n)
 pub skips-at-most : (m n : ℕ) (s : List ℕ) → AtMost (length s) (andThen (skipLines m s) (λ t. skipBytes n t))
 skips-at-most m n s = then-at-most (length s) (skipLines m s) (λ t. skipBytes n t) (lines-at-most m s) (bytes-at-most n)
 
--- ---- no refusal of a place has the number 0
+-- ---- the refusals of a place have the numbers 1 to 19
 
 abbrev pub NumberedPlace : Place → Type 0
-NumberedPlace (nowhere n) = 0 < n
+NumberedPlace (nowhere n) = (0 < n) × (n ≤ floatSamples)
 NumberedPlace (part s start n) = Unit {0}
 
 module _ (gs : List Given) where

@@ -1,23 +1,22 @@
 -- Where the list is long enough, no refusal of samples is 22.
 -- Assumes nothing.
-use mathlib.Core.Path.{_≡_}
-use mathlib.Core.Bool.{Bool, true, false, _&&_}
+use mathlib.Core.Bool.{Bool, true, false}
 use mathlib.Core.List.{List, [], _∷_}
 use mathlib.Core.Option.{Option, none, some}
-use Prim.Native.Nat.{ℕ, zero, suc, _+_, _-_, _^_, _≤_}
+use Prim.Native.Nat.{ℕ, zero, suc, _≤_}
 use native.Mathlib.Omega.{arith}
-use lib.Dec.{eqb, ltb, leb}
+use lib.Dec.{eqb}
 use lib.IntN.{ℤ}
-use lib.ListN.{length, take, drop}
+use lib.ListN.{take, drop}
 use borrow.Author.Tests.{le-ltb}
 use Rattle.format.specs.Bytes.{if_then_else_}
-use Rattle.format.specs.Limits.{maxFile}
-use Rattle.format.specs.Refusals.{fileTooLong, placeTooLarge, dataTooShort, floatSamples, badSample, dataEndsEarly, refusal, fine}
+use Rattle.format.specs.Refusals.{badSample, dataEndsEarly, refusal, fine}
 use Rattle.format.specs.Fields.{Given}
-use Rattle.format.specs.Descriptors.{NumberKind, isDetached, encodingOf, endianOf, typeOf, numberKind, sampleBytes, isFloating, extentOf, raw, asText}
-use Rattle.format.specs.Data.{afterSkips, Place, nowhere, part, dataLength, placeFrom, placeOf, partOf}
-use Rattle.format.specs.Samples.{Decoded, stopped, withSample, thenSamples, inType, sampleValue, rawSamples, withoutBlanks, hexDigit, HexRun, noHex, hexRun, withHexByte, hexPair, hexAlone, hexBytes, hexSample, hexSamples, skipBlanks, token, afterToken, tokenValue, textSample, tokens, textSamples, samplesOf}
+use Rattle.format.specs.Descriptors.{NumberKind, encodingOf, endianOf, typeOf, numberKind, sampleBytes, raw, asText}
+use Rattle.format.specs.Data.{Place, nowhere, part, partOf}
+use Rattle.format.specs.Samples.{Decoded, stopped, withSample, thenSamples, inType, sampleValue, rawSamples, withoutBlanks, hexDigit, HexRun, noHex, hexRun, hexPair, hexAlone, hexBytes, hexSample, hexSamples, skipBlanks, token, afterToken, tokenValue, textSample, tokens, textSamples, samplesOf}
 use Rattle.format.specs.Calls.{noSamples, countOf, decoded, answerDecoded, checkAt}
+use Rattle.format.proofs.Places.{NumberedPlace}
 use Rattle.room.specs.Room.{Enough}
 
 -- ---- samples that are decoded are refused by 20 or 21
@@ -88,49 +87,18 @@ module _ (k : NumberKind) (w : ℕ) where
         go false true = text-told n (skipBlanks s)
         go false false = hexes-told n (withoutBlanks s)
 
--- ---- a place is refused by 1 or by 16 to 19
+-- ---- the answer
 
-abbrev ToldPlace : Place → Type 0
-ToldPlace (nowhere n) = n ≤ floatSamples
-ToldPlace (part s start n) = Unit {0}
+answer-told : (n : ℕ) (d : Decoded) → Told d → Enough (answerDecoded n d .refusal)
+answer-told n d t = go (eqb (d .number) 0)
+  where
+    go : (x : Bool) → Enough ((if x then record { refusal = fine; count = n } else noSamples (refusal (d .number))) .refusal)
+    go true = λ e. omega arith
+    go false = λ e. omega arith
 
-module _ (gs : List Given) where
-  from-told : (s : Bool) (whole : ℕ) (o : Option (List ℕ)) → ToldPlace (placeFrom gs s whole o)
-  from-told s whole none = omega arith
-  from-told s whole (some left) =
-      go (leb (2 ^ 64) (whole - length left + extentOf gs)) (eqb (encodingOf gs) raw && ltb (length left) (extentOf gs))
-    where
-      go : (a b : Bool) → ToldPlace (if a then nowhere placeTooLarge else if b then nowhere dataTooShort else part s (whole - length left) (dataLength gs left))
-      go true b = omega arith
-      go false true = omega arith
-      go false false = tt
-
-  pub place-told : (wanted : Bool) (h : ℕ) (file second : List ℕ) → ToldPlace (placeOf wanted gs h file second)
-  unfolding placeOf
-  place-told wanted h file second =
-      go (isDetached gs && ltb maxFile (length second)) (wanted && isFloating (numberKind (typeOf gs))) (isDetached gs)
-    where
-      go : (a b c : Bool)
-          → ToldPlace
-          (if a then nowhere fileTooLong else if b then nowhere floatSamples
-          else if c then placeFrom gs true (length second) (afterSkips gs second) else placeFrom gs false (length file) (afterSkips gs (drop h file)))
-      go true b c = omega arith
-      go false true c = omega arith
-      go false false true = from-told true (length second) (afterSkips gs second)
-      go false false false = from-told false (length file) (afterSkips gs (drop h file))
-
-  -- ---- the answer
-
-  answer-told : (n : ℕ) (d : Decoded) → Told d → Enough (answerDecoded n d .refusal)
-  answer-told n d t = go (eqb (d .number) 0)
-    where
-      go : (x : Bool) → Enough ((if x then record { refusal = fine; count = n } else noSamples (refusal (d .number))) .refusal)
-      go true = λ e. omega arith
-      go false = λ e. omega arith
-
-  pub list-long : (p : Place) → ToldPlace p → (room : ℕ) (file second : List ℕ) → countOf gs ≤ room → Enough (checkAt gs p room file second .refusal)
-  list-long (nowhere n) t room file second l = λ e. omega arith
-  list-long (part s start n) t room file second l =
-      rw (le-ltb room (countOf gs) (omega arith))
-      (answer-told (countOf gs) (decoded gs (partOf (part s start n) file second))
-      (samples-told (numberKind (typeOf gs)) (sampleBytes (typeOf gs)) (endianOf gs) (encodingOf gs) (countOf gs) (partOf (part s start n) file second)))
+pub list-long : (gs : List Given) (p : Place) → NumberedPlace p → (room : ℕ) (file second : List ℕ) → countOf gs ≤ room → Enough (checkAt gs p room file second .refusal)
+list-long gs (nowhere n) t room file second l = λ e. omega arith
+list-long gs (part s start n) t room file second l =
+    rw (le-ltb room (countOf gs) (omega arith))
+    (answer-told (countOf gs) (decoded gs (partOf (part s start n) file second))
+    (samples-told (numberKind (typeOf gs)) (sampleBytes (typeOf gs)) (endianOf gs) (encodingOf gs) (countOf gs) (partOf (part s start n) file second)))

@@ -30,9 +30,10 @@ use Rattle.format.specs.Writer.{fileBytes, writeRefusal}
 use Rattle.format.specs.Calls.{readAnswer, readHeaderCall, withTable, readCall, noPlace, valuePlace, keyPlace, findKeyIn, findKeyCall, copyValue, copyValueIn, copyValueCall, checkIn, samplesCall, writeAnswer, writeCall, setAnswer, setKeyCall}
 use Rattle.format.proofs.Header.{header-sound}
 use Rattle.format.proofs.Numbered.{NumberedOutcome, header-numbered}
+use Rattle.format.proofs.Places.{place-numbered}
 use Rattle.room.specs.Room.{Enough, tableEntries, writeRoom, valueRoom, Copied, samplesRoom, setRoom, RoomEnough}
 use Rattle.room.proofs.Written.{room-for-file}
-use Rattle.room.proofs.Checked.{place-told, list-long}
+use Rattle.room.proofs.Checked.{list-long}
 use Rattle.room.proofs.Grown.{escape-length, header-grown}
 
 -- ---- the reading, with a table or without
@@ -102,7 +103,7 @@ samples-enough file second list l = go (header file) (header-numbered file) l
     go : (o : Outcome) → NumberedOutcome o → samplesRoom o ≤ length list → Enough (checkIn (length list) file second o .refusal)
     go (refused r) n l = λ e. omega arith
     go (accepted es gs ls) n l =
-        list-long gs (placeOf true gs (headerLength es) file second) (place-told gs true (headerLength es) file second) (length list) file second (omega arith)
+        list-long gs (placeOf true gs (headerLength es) file second) (place-numbered gs true (headerLength es) file second) (length list) file second (omega arith)
 
 -- ---- a written file
 

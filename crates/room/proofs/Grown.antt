@@ -1,6 +1,5 @@
 -- How long a file is at most once a key is set.
 -- Assumes nothing.
-use mathlib.Core.Path.{_≡_}
 use mathlib.Core.Bool.{Bool, true, false}
 use mathlib.Core.List.{List, [], _∷_, _++_}
 use Prim.Native.Nat.{ℕ, _+_, _*_, _≤_}
@@ -8,7 +7,7 @@ use native.Mathlib.Omega.{arith}
 use lib.Dec.{eqb}
 use lib.ListN.{length, length-append}
 use Rattle.format.specs.Bytes.{if_then_else_, bytes, isSome, LF, BACKSLASH}
-use Rattle.format.specs.Lines.{Ending, lf, crlf, eof, Line, line, endingBytes, unlines}
+use Rattle.format.specs.Lines.{Ending, lf, crlf, eof, line, endingBytes, unlines}
 use Rattle.format.specs.Pairs.{escape}
 use Rattle.format.specs.Header.{Entry, entry, linesOf, valueIn}
 use Rattle.format.specs.Settings.{pairText, hasKey, replaced, inserted, newLines}

@@ -5,12 +5,14 @@ use Prim.Native.Nat.{ℕ, _+_, _*_, _≤_}
 use mathlib.Core.Path.{_≡_}
 use mathlib.Core.List.{List}
 use lib.IntN.{ℤ}
-use lib.ListN.{length}
+use lib.ListN.{length, take}
 use Rattle.format.specs.declared.Refusal.{Refusal}
+use Rattle.format.specs.declared.Reading.{Reading}
 use Rattle.format.specs.declared.FindAnswer.{FindAnswer}
 use Rattle.format.specs.declared.ValueAnswer.{ValueAnswer}
 use Rattle.format.specs.Limits.{maxLines}
 use Rattle.format.specs.Refusals.{extentTooLarge, lentTooShort}
+use Rattle.format.specs.Descriptors.{product}
 use Rattle.format.specs.Header.{Outcome, refused, accepted, header}
 use Rattle.format.specs.Boundary.{entryBytes}
 use Rattle.format.specs.Calls.{readHeaderCall, readCall, findKeyCall, copyValueCall, countOf, samplesCall, writeCall, setKeyCall}
@@ -62,6 +64,10 @@ pub record Copied (p : FindAnswer) (a : ValueAnswer) : Type 0 where
 abbrev pub samplesRoom : Outcome → ℕ
 samplesRoom (refused r) = 0
 samplesRoom (accepted es gs ls) = countOf gs
+
+-- the same by what a reading tells: the product of its first `dimension` sizes
+abbrev pub sizesRoom : Reading → ℕ
+sizesRoom r = product (take (r .dimension) (r .sizes))
 
 -- ---- a setting
 
