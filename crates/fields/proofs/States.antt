@@ -13,11 +13,11 @@ use lib.Seq.{take-at}
 use borrow.Author.Tests.{ltb-true, lt-ltb, le-ltb, le-leb, lt-leb, leb-true, leb-false, eqb-true, eqb-false, eq-eqb, ne-eqb}
 use mir.Val.{boolByte}
 use Rattle.format.specs.declared.Reading.{Reading}
-use Rattle.format.specs.Bytes.{isIn, orDefault, if_then_else_}
-use Rattle.format.specs.Limits.{maxAxes, maxSize, maxExtent}
+use Rattle.format.specs.Bytes.{isIn, isSome, orDefault, if_then_else_}
+use Rattle.format.specs.Limits.{maxAxes, maxSize, maxSkip, maxExtent}
 use Rattle.format.specs.Refusals.{badDescriptor, missingField, extentTooLarge, refusal, fine}
 use Rattle.format.specs.Fields.{Given, given, descriptorOf, isGiven, understood, dimension, type, encoding, endian, sizes, lineSkip, byteSkip, dataFile}
-use Rattle.format.specs.Descriptors.{meaning, noEndian, number, valueOfNumber, within, numbersIn, sizesFine, words, typeNamed, encodingNamed, endianNamed, isDetached, mayDescribe, dimensionOf, typeOf, sizesOf, sampleBytes, endianNeeded, hasNeeded, product, extentOf, capped}
+use Rattle.format.specs.Descriptors.{meaning, noEndian, number, numberIn, valueOfNumber, within, numbersIn, sizesFine, words, typeNamed, encodingNamed, endianNamed, isDetached, mayDescribe, dimensionOf, typeOf, sizesOf, sampleBytes, endianNeeded, hasNeeded, product, extentOf, capped}
 use Rattle.format.specs.Header.{Item, magic, comment, field, pair, closing, Entry, right, judge, refused, afterItem, versionOf, headerLength}
 use Rattle.format.specs.Rules.{FieldLine, Keeps}
 use Rattle.format.specs.Calls.{readAnswer, readingOf}
@@ -175,13 +175,35 @@ number-wrong (some m) e least most h = go (leb m maxSize) refl e
     go true f e = cc
     go false f e = let g = leb-false m maxSize f in rw (lt-leb m most (omega arith)) (above (leb least m))
 
-pub row-is : (o : Option ℕ) (n : ℕ) → Number n ≡ rowAnswer o → o ≡ some n
+row-is : (o : Option ℕ) (n : ℕ) → Number n ≡ rowAnswer o → o ≡ some n
 row-is none n e = cc
 row-is (some m) n e = cc
 
-pub row-unknown : (o : Option ℕ) → Unknown ≡ rowAnswer o → o ≡ none
+row-unknown : (o : Option ℕ) → Unknown ≡ rowAnswer o → o ≡ none
 row-unknown none e = refl
 row-unknown (some m) e = cc
+
+-- the step where a field with this descriptor is refused, and where it is taken: what the number that is read, or the row of a word, tells
+module _ {st : State} {gs : List Given} (h : Holds st gs) (f : ℕ) (t : List ℕ) where
+  -- a field whose descriptor is a number up to the limit of a skip
+  pub skip-taken : mayDescribe gs f t ≡ numberIn 0 maxSkip t → f < fieldCount → {n : ℕ} → Value n ≡ numberAnswer (number t)
+      → (valueOfNumber t ≡ n) × (record { wrong = 0; closes = false; state = after st f t } ≡ stepOf (st .version) gs (described gs f t))
+  skip-taken may b {n} e =
+      let k = number-is (number t) n e in
+      (ap (orDefault 0) (k .0), taken-is h f t b (may ∙ rw (k .0, le-leb 0 n (omega arith), le-leb n maxSkip (k .1))))
+
+  pub skip-refused : mayDescribe gs f t ≡ numberIn 0 maxSkip t → Wrong ≡ numberAnswer (number t)
+      → record { wrong = badDescriptor; closes = false; state = st } ≡ stepOf (st .version) gs (described gs f t)
+  skip-refused may e = refused-is h f t (may ∙ number-wrong (number t) e 0 maxSkip (omega arith))
+
+  -- a field whose descriptor is a word with a row
+  pub word-taken : (o : Option ℕ) → mayDescribe gs f t ≡ isSome o → f < fieldCount → {n : ℕ} → Number n ≡ rowAnswer o
+      → (o ≡ some n) × (record { wrong = 0; closes = false; state = after st f t } ≡ stepOf (st .version) gs (described gs f t))
+  word-taken o may b {n} e = let k = row-is o n e in (k, taken-is h f t b (may ∙ rw k))
+
+  pub word-refused : (o : Option ℕ) → mayDescribe gs f t ≡ isSome o → Unknown ≡ rowAnswer o
+      → record { wrong = badDescriptor; closes = false; state = st } ≡ stepOf (st .version) gs (described gs f t)
+  word-refused o may e = refused-is h f t (may ∙ rw (row-unknown o e))
 
 -- fine sizes are as many as asked
 fine-length : (n : ℕ) (ws : List (List ℕ)) → sizesFine n ws ≡ true → length ws ≡ n

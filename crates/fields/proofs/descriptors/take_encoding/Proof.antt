@@ -1,10 +1,10 @@
 -- `fields::take_encoding` meets its contract. Assumes nothing.
-use mathlib.Core.Path.{sym, ap, _∙_}
+use mathlib.Core.Path.{refl, sym, ap, _∙_}
 use native.Mathlib.Omega.{arith}
 use Rattle.format.specs.Bytes.{orDefault}
 use Rattle.format.specs.Fields.{encoding}
 use Rattle.format.specs.Descriptors.{encodingNamed, mayDescribe}
-use Rattle.fields.proofs.States.{refused-is, taken-is, row-is, row-unknown}
+use Rattle.fields.proofs.States.{word-taken, word-refused}
 use borrow.Author.Needs.{needs}
 use Rattle.fields.proofs.descriptors.take_encoding.Statement.{statement}
 use Rattle.fields.proofs.descriptors.take_encoding.Tie as tie
@@ -25,14 +25,14 @@ returns : tie.Need-returns
 unfolding mayDescribe
 returns c gs h =
     let t = c .before .before .before .before .before .args .t .now in
-    let e = row-is (encodingNamed t) _ (sym (c .before .x .given .1) ∙ c .before .before .before .encoding-named .ensures) in
-    rw (sym (ap (orDefault 0) e)) (taken-is h encoding t (omega arith) (rw e))
+    let k = word-taken h encoding t (encodingNamed t) refl (omega arith) (sym (c .before .x .given .1) ∙ c .before .before .before .encoding-named .ensures) in
+    rw (sym (ap (orDefault 0) (k .0))) (k .1)
 
 returns-2 : tie.Need-returns-2
 unfolding mayDescribe
 returns-2 c gs h =
     let t = c .before .before .before .before .args .t .now in
-    refused-is h encoding t (rw (row-unknown (encodingNamed t) (sym (c .enum-told .given .1) ∙ c .before .before .encoding-named .ensures)))
+    word-refused h encoding t (encodingNamed t) refl (sym (c .enum-told .given .1) ∙ c .before .before .encoding-named .ensures)
 
 pub take-encoding-spec : {M : Type 1} → statement M
 take-encoding-spec =

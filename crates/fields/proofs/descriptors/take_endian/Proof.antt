@@ -1,10 +1,10 @@
 -- `fields::take_endian` meets its contract. Assumes nothing.
-use mathlib.Core.Path.{sym, ap, _∙_}
+use mathlib.Core.Path.{refl, sym, ap, _∙_}
 use native.Mathlib.Omega.{arith}
 use Rattle.format.specs.Bytes.{orDefault}
 use Rattle.format.specs.Fields.{endian}
-use Rattle.format.specs.Descriptors.{endianNamed, mayDescribe, noEndian}
-use Rattle.fields.proofs.States.{refused-is, taken-is, row-is, row-unknown}
+use Rattle.format.specs.Descriptors.{noEndian, endianNamed, mayDescribe}
+use Rattle.fields.proofs.States.{word-taken, word-refused}
 use borrow.Author.Needs.{needs}
 use Rattle.fields.proofs.descriptors.take_endian.Statement.{statement}
 use Rattle.fields.proofs.descriptors.take_endian.Tie as tie
@@ -25,14 +25,14 @@ returns : tie.Need-returns
 unfolding mayDescribe
 returns c gs h =
     let t = c .before .before .before .before .before .args .t .now in
-    let e = row-is (endianNamed t) _ (sym (c .before .x .given .1) ∙ c .before .before .before .endian-named .ensures) in
-    rw (sym (ap (orDefault noEndian) e)) (taken-is h endian t (omega arith) (rw e))
+    let k = word-taken h endian t (endianNamed t) refl (omega arith) (sym (c .before .x .given .1) ∙ c .before .before .before .endian-named .ensures) in
+    rw (sym (ap (orDefault noEndian) (k .0))) (k .1)
 
 returns-2 : tie.Need-returns-2
 unfolding mayDescribe
 returns-2 c gs h =
     let t = c .before .before .before .before .args .t .now in
-    refused-is h endian t (rw (row-unknown (endianNamed t) (sym (c .enum-told .given .1) ∙ c .before .before .endian-named .ensures)))
+    word-refused h endian t (endianNamed t) refl (sym (c .enum-told .given .1) ∙ c .before .before .endian-named .ensures)
 
 pub take-endian-spec : {M : Type 1} → statement M
 take-endian-spec =
