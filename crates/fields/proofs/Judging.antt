@@ -6,19 +6,18 @@ use native.Mathlib.Nat.{add-zero, zero-add, not-suc-le-zero, le-of-suc-le-suc}
 use native.Mathlib.Omega.{arith}
 use mathlib.Core.Path.{_≡_, refl, sym, ap, _∙_}
 use mathlib.Core.Bool.{Bool, true, false, not, _&&_, _||_}
-use mathlib.Core.List.{List, [], _∷_}
+use mathlib.Core.List.{List, [], _∷_, map}
 use mathlib.Core.Option.{Option, none, some}
-use lib.Dec.{eqb, ltb, leb, eqb·zero-suc, eqb·suc-suc}
+use lib.Dec.{eqb, ltb, eqb·zero-suc, eqb·suc-suc}
 use lib.ListN.{length, take, drop, getD, length-drop}
 use lib.Seq.{take-length}
-use borrow.Author.Tests.{eq-eqb, ne-eqb, eqb-true, eqb-false, ltb-true, ltb-false, not-true, lt-leb, le-leb, lt-ltb, le-ltb}
+use borrow.Author.Tests.{eq-eqb, ne-eqb, eqb-true, eqb-false, lt-ltb, le-ltb}
 use Rattle.format.specs.Bytes.{if_then_else_, bytes, HASH, PERCENT, every, same, beginsWith, isIn, isEmpty, isAny, rowFrom, isSome}
 use Rattle.format.specs.Refusals.{badByte, noMark, notInVersion, repeatedField, outOfOrder, badBackslash}
 use Rattle.format.specs.Pairs.{plain, mark, unescape}
-use Rattle.format.specs.Fields.{fieldNames, fieldNamed, pairsSince, fieldSince, Given, isGiven, perAxis, inSpace, inOrder}
+use Rattle.format.specs.Fields.{namesOf, fieldTable, fieldCount, fieldNamed, pairsSince, fieldSince, Given, isGiven, needsDimension, needsSpace, inOrder}
 use Rattle.format.specs.Descriptors.{trimEnd, fromDescriptor, descriptor, isName}
 use Rattle.format.specs.Header.{comment, closing, wrong, right, unescaped, onPair, onField, onMark, judge}
-use Rattle.format.proofs.Bytes.{and-left, and-right}
 use Rattle.format.proofs.Descriptors.{drop-to-descriptor, take-trimmed}
 use Rattle.text.specs.declared.lines.Mark.the-variants.{Field, Pair, Nothing}
 use Rattle.text.specs.declared.words.Row.the-variants.{Number, Unknown}
@@ -26,78 +25,7 @@ use Rattle.text.specs.Places.{before, markPlace}
 use Rattle.text.specs.Rows.{rowAnswer}
 use Rattle.text.proofs.Places.{mark-split-field, mark-split-pair, mark-split-nothing}
 use Rattle.fields.specs.declared.state.State.{State}
-use Rattle.fields.specs.States.{fieldCount, flags, stateOf, Holds, described, stepOf, wrongOf}
-
--- ---- a test of each number below 30, by computation
-
-unfoldable below : (ℕ → Bool) → ℕ → Bool
-below p zero = true
-below p (suc n) = p n && below p n
-
-below-at : (p : ℕ → Bool) (n f : ℕ) → below p n ≡ true → f < n → p f ≡ true
-unfolding below
-below-at p zero f e h = absurd (not-suc-le-zero h)
-below-at p (suc n) f e h = go (eqb f n) refl (below-at p n f (and-right (p n) (below p n) e))
-  where
-    go : (x : Bool) → eqb f n ≡ x → (f < n → p f ≡ true) → p f ≡ true
-    go true i r = rw (eqb-true f n i) (and-left (p n) (below p n) e)
-    go false i r = let ne = eqb-false f n i in r (omega arith)
-
--- two functions are the same where a test says so of each number below 30, and a proof of the others
-agree : {A : Type 0} (alike : A → A → Bool) → ((a b : A) → alike a b ≡ true → a ≡ b)
-    → (p q : ℕ → A) → below (λ f. alike (p f) (q f)) fieldCount ≡ true → ((f : ℕ) → fieldCount ≤ f → p f ≡ q f)
-    → (f : ℕ) → p f ≡ q f
-agree alike sound p q e more f = go (ltb f fieldCount) refl
-  where
-    go : (x : Bool) → ltb f fieldCount ≡ x → p f ≡ q f
-    go true i = sound (p f) (q f) (below-at (λ g. alike (p g) (q g)) fieldCount f e (ltb-true f fieldCount i))
-    go false i = more f (ltb-false f fieldCount i)
-
-abbrev iff : Bool → Bool → Bool
-iff true y = y
-iff false y = not y
-
-iff-sound : (x y : Bool) → iff x y ≡ true → x ≡ y
-iff-sound true y e = sym e
-iff-sound false y e = sym (not-true y e)
-
--- a number above all of a list is not in it
-not-in : (f : ℕ) (ns : List ℕ) → every (λ m. ltb m fieldCount) ns ≡ true → fieldCount ≤ f → isIn f ns ≡ false
-unfolding isIn every
-not-in f [] e h = refl
-not-in f (m ∷ ns) e h =
-    let l = ltb-true m fieldCount (and-left (ltb m fieldCount) (every (λ k. ltb k fieldCount) ns) e) in
-    rw (ne-eqb f m (omega arith), not-in f ns (and-right (ltb m fieldCount) (every (λ k. ltb k fieldCount) ns) e) h)
-
--- ---- the lists of fields by tests of the number
-
-pub in-space : (f : ℕ) → isIn f inSpace ≡ (leb 18 f && leb f 21)
-unfolding below isIn every
-in-space = agree iff iff-sound (λ f. isIn f inSpace) (λ f. leb 18 f && leb f 21) refl
-    (λ f h. not-in f inSpace refl h ∙ rw (le-leb 18 f (omega arith), lt-leb f 21 (omega arith)))
-
-pub per-axis : (f : ℕ) → isIn f perAxis ≡ (eqb f 4 || (eqb f 20 || (leb 22 f && leb f 29)))
-unfolding below isIn every
-per-axis = agree iff iff-sound (λ f. isIn f perAxis) (λ f. eqb f 4 || (eqb f 20 || (leb 22 f && leb f 29))) refl
-    (λ f h. not-in f perAxis refl h ∙ rw (ne-eqb f 4 (omega arith), ne-eqb f 20 (omega arith), le-leb 22 f (omega arith), lt-leb f 29 (omega arith)))
-
-abbrev sinceByNumber : ℕ → ℕ
-sinceByNumber f =
-    if eqb f 29 then 3
-    else if eqb f 21 then 5
-    else if eqb f 23 then 4
-    else if ltb f 15 then 1
-    else if leb f 20 then 4
-    else 1
-
-since-past : (f : ℕ) → fieldCount ≤ f → fieldSince f ≡ sinceByNumber f
-unfolding every fieldSince
-since-past f h =
-    rw (not-in f _ refl h, not-in f _ refl h, not-in f _ refl h, ne-eqb f 29 (omega arith), ne-eqb f 21 (omega arith), ne-eqb f 23 (omega arith), le-ltb f 15 (omega arith), lt-leb f 20 (omega arith))
-
-pub since-by-number : (f : ℕ) → fieldSince f ≡ sinceByNumber f
-unfolding below isIn fieldSince
-since-by-number = agree eqb eqb-true fieldSince sinceByNumber refl since-past
+use Rattle.fields.specs.States.{flags, stateOf, Holds, described, stepOf, wrongOf}
 
 -- ---- the fields given, by number
 
@@ -122,7 +50,7 @@ holds-given st gs h f l = rw (holds-flags st gs h) (flags-at gs f l)
 
 -- the order by the flags
 pub order-by-flags : (f : ℕ) (gs : List Given) {g : List Bool} {axes space : Bool}
-    → axes ≡ isIn f perAxis → space ≡ isIn f inSpace → g ≡ flags 0 fieldCount gs
+    → axes ≡ needsDimension f → space ≡ needsSpace f → g ≡ flags 0 fieldCount gs
     → ((not axes || getD g 0 false) && (not space || (getD g 16 false || getD g 17 false))) ≡ inOrder f gs
 unfolding inOrder
 order-by-flags f gs p q e =
@@ -145,7 +73,7 @@ row-below w (r ∷ rs) i = go (isAny w r) (row-below w rs (i + 1))
     go false h = let e : i + suc (length rs) ≡ i + 1 + length rs = omega arith in rw e h
 
 pub field-below : (name : List ℕ) (f : ℕ) → fieldNamed name ≡ some f → f < fieldCount
-field-below name f e = rw e at (row-below name fieldNames 0)
+field-below name f e = rw e at (row-below name (map namesOf fieldTable) 0)
 
 -- the answers of the look-up
 pub row-number : (o : Option ℕ) (f : ℕ) → Number f ≡ rowAnswer o → o ≡ some f

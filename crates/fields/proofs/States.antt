@@ -7,16 +7,16 @@ use mathlib.Core.Path.{_≡_, refl, sym, ap, _∙_}
 use mathlib.Core.Bool.{Bool, true, false, not, _&&_, _||_, false≢true}
 use mathlib.Core.List.{List, [], _∷_, _++_, map}
 use mathlib.Core.Option.{Option, none, some}
-use lib.Dec.{eqb, leb}
+use lib.Dec.{eqb, ltb, leb}
 use lib.ListN.{length, replicate, take, getD, set, length-map}
 use lib.Seq.{take-at}
 use borrow.Author.Tests.{ltb-true, lt-ltb, le-ltb, le-leb, lt-leb, leb-true, leb-false, eqb-true, eqb-false, eq-eqb, ne-eqb}
 use mir.Val.{boolByte}
 use Rattle.format.specs.declared.Reading.{Reading}
-use Rattle.format.specs.Bytes.{isIn, isSome, orDefault, if_then_else_}
+use Rattle.format.specs.Bytes.{isSome, orDefault, if_then_else_}
 use Rattle.format.specs.Limits.{maxAxes, maxSize, maxSkip, maxExtent}
 use Rattle.format.specs.Refusals.{badDescriptor, missingField, extentTooLarge, refusal, fine}
-use Rattle.format.specs.Fields.{Given, given, descriptorOf, isGiven, understood, dimension, type, encoding, endian, sizes, lineSkip, byteSkip, dataFile}
+use Rattle.format.specs.Fields.{Given, given, descriptorOf, fieldCount, fieldAt, isGiven, dimension, type, encoding, endian, sizes, lineSkip, byteSkip, dataFile}
 use Rattle.format.specs.Descriptors.{meaning, noEndian, number, numberIn, valueOfNumber, within, numbersIn, sizesFine, words, typeNamed, encodingNamed, endianNamed, isDetached, mayDescribe, dimensionOf, typeOf, sizesOf, sampleBytes, endianNeeded, hasNeeded, product, extentOf, capped}
 use Rattle.format.specs.Header.{Item, magic, comment, field, pair, closing, Entry, right, judge, refused, afterItem, versionOf, headerLength}
 use Rattle.format.specs.Rules.{FieldLine, Keeps}
@@ -31,7 +31,7 @@ use Rattle.text.specs.declared.numbers.Number.the-variants.{Value, Wrong}
 use Rattle.text.specs.declared.numbers.Sizes.{Sizes}
 use Rattle.text.specs.declared.words.Row.the-variants.{Number, Unknown}
 use Rattle.fields.specs.declared.state.State.{State}
-use Rattle.fields.specs.States.{fieldCount, flags, paddedSizes, stateOf, Kept, Holds, described, stepOf, completeNumber, readingAt, finished}
+use Rattle.fields.specs.States.{flags, paddedSizes, stateOf, Kept, Holds, described, stepOf, completeNumber, readingAt, finished}
 
 -- ---- the flags
 
@@ -147,8 +147,8 @@ pub carried-is : {st : State} {gs : List Given} → Holds st gs → (f : ℕ) (t
     → record { wrong = 0; closes = false; state = marked st f } ≡ stepOf (st .version) gs (described gs f t)
 unfolding mayDescribe
 carried-is {st} {gs} h f t l b =
-    let e : (g : ℕ) → understood g ≡ true → eqb g f ≡ false = λ g u. ne-eqb g f (omega (arith, ltb-true)) in
-    let d : (g : ℕ) → understood g ≡ true → eqb f g ≡ false = λ g u. ne-eqb f g (omega (arith, ltb-true)) in
+    let e : (g : ℕ) → ltb g 8 ≡ true → eqb g f ≡ false = λ g u. ne-eqb g f (omega (arith, ltb-true)) in
+    let d : (g : ℕ) → ltb g 8 ≡ true → eqb f g ≡ false = λ g u. ne-eqb f g (omega (arith, ltb-true)) in
     let a : after st f t ≡ marked st f = rw (e 0 refl, e 1 refl, e 2 refl, e 3 refl, e 4 refl, e 5 refl, e 6 refl) in
     let m : mayDescribe gs f t ≡ true = rw (d 0 refl, d 1 refl, d 2 refl, d 3 refl, d 4 refl, d 5 refl, d 6 refl, d 7 refl) in
     rw a at (taken-is h f t b m)
@@ -338,7 +338,7 @@ module _ (version : ℕ) {gs : List Given} (d : List ℕ) (k : Kept gs) where
       }
 
   kept-sizes : {t : List ℕ} → FieldLine version gs t sizes d → Kept (given sizes d ∷ gs)
-  unfolding descriptorOf mayDescribe isIn
+  unfolding descriptorOf mayDescribe fieldAt
   kept-sizes h =
       record {
         axes = k .axes;

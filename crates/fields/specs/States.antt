@@ -10,16 +10,12 @@ use Rattle.format.specs.declared.ReadAnswer.{ReadAnswer}
 use Rattle.format.specs.Bytes.{if_then_else_}
 use Rattle.format.specs.Limits.{maxAxes, maxExtent}
 use Rattle.format.specs.Refusals.{badDescriptor, missingField, extentTooLarge, refusal, fine}
-use Rattle.format.specs.Fields.{Given, isGiven, dimension, sizes}
+use Rattle.format.specs.Fields.{Given, fieldCount, isGiven, dimension, sizes}
 use Rattle.format.specs.Descriptors.{dimensionOf, typeOf, encodingOf, endianOf, sizesOf, lineSkipOf, byteSkipOf, mayDescribe, hasNeeded, extentOf}
 use Rattle.format.specs.Header.{Judged, wrong, right, field, closes, afterItem, Outcome, refused, accepted, headerLength}
 use Rattle.format.specs.Calls.{noReading, formOf}
 use Rattle.fields.specs.declared.state.State.{State}
 use Rattle.fields.specs.declared.state.Step.{Step}
-
--- how many fields there are
-abbrev pub fieldCount : ℕ
-fieldCount = 30
 
 -- whether each of n fields from f on is given
 unfoldable pub flags : ℕ → ℕ → List Given → List Bool

@@ -7,8 +7,8 @@ use text::words::Row;
 ghost use mathlib.Core.Path.{_≡_};
 ghost use mathlib.Core.List.{List};
 ghost use Prim.Native.Nat.{ℕ, _<_, _≤_};
-ghost use Rattle.format.specs.Fields.{Given, dimension, type, encoding, endian, sizes, lineSkip, byteSkip, dataFile};
-ghost use Rattle.fields.specs.States.{Holds, described, stepOf, fieldCount};
+ghost use Rattle.format.specs.Fields.{Given, fieldCount, dimension, type, encoding, endian, sizes, lineSkip, byteSkip, dataFile};
+ghost use Rattle.fields.specs.States.{Holds, described, stepOf};
 
 // Dimension: 1 to 16.
 fn take_dimension(state: State, t: &[u8]) -> Step

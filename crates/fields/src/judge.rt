@@ -9,34 +9,11 @@ ghost use mathlib.Core.List.{List};
 ghost use mathlib.Core.Option.{some};
 ghost use Prim.Native.Nat.{_-_, _≤_, _<_};
 ghost use lib.ListN.{length};
-ghost use Rattle.format.specs.Bytes.{isIn};
 ghost use Rattle.format.specs.Pairs.{mark};
-ghost use Rattle.format.specs.Fields.{Given, fieldNamed, fieldSince, perAxis, inSpace, inOrder};
+ghost use Rattle.format.specs.Fields.{Given, fieldCount, fieldNamed, inOrder};
 ghost use Rattle.format.specs.Descriptors.{isName, fromDescriptor, descriptor};
 ghost use Rattle.format.specs.Header.{wrong, onPair, onField, onMark, judge};
-ghost use Rattle.fields.specs.States.{wrongOf, flags, fieldCount, Holds, stepOf};
-
-// The first version that has the field.
-fn field_since(f: usize) -> u32
-    ensures { λ r. ⌜ r ≡ fieldSince f ⌝ }
-{
-    if f == field::KINDS {
-        return 3;
-    }
-    if f == field::MEASUREMENT_FRAME {
-        return 5;
-    }
-    if f == field::THICKNESSES {
-        return 4;
-    }
-    if f < field::SAMPLE_UNITS {
-        return 1;
-    }
-    if f <= field::SPACE_DIRECTIONS {
-        return 4;
-    }
-    1
-}
+ghost use Rattle.fields.specs.States.{wrongOf, flags, Holds, stepOf};
 
 // Whether the text is a name of one data file.
 pub(crate) fn is_name(t: &[u8]) -> bool
@@ -73,38 +50,13 @@ fn on_pair(version: u32, key: &[u8], value: &[u8]) -> u32
     0
 }
 
-// Whether the field is one of those with an entry for each axis.
-fn is_per_axis(f: usize) -> bool
-    ensures { λ r. ⌜ r ≡ isIn f perAxis ⌝ }
-{
-    if f == field::SIZES {
-        return true;
-    }
-    if f == field::SPACE_DIRECTIONS {
-        return true;
-    }
-    if f < field::SPACINGS {
-        return false;
-    }
-    f <= field::KINDS
-}
-
-// Whether the field needs a space before it.
-fn is_in_space(f: usize) -> bool
-    ensures { λ r. ⌜ r ≡ isIn f inSpace ⌝ }
-{
-    if f < field::SPACE_UNITS {
-        return false;
-    }
-    f <= field::MEASUREMENT_FRAME
-}
-
 // Whether the field may come here, by the fields given.
 fn is_in_order(f: usize, given: &[bool; 30]) -> bool
     ensures { λ r. ⌜ ((gs : List Given) → now (given .entry) ≡ flags 0 fieldCount gs → r ≡ inOrder f gs) ⌝ }
 {
-    (!is_per_axis(f) | given[field::DIMENSION])
-        & (!is_in_space(f) | (given[field::SPACE] | given[field::SPACE_DIMENSION]))
+    (!format_values::fields::needs_dimension(f) | given[field::DIMENSION])
+        & (!format_values::fields::needs_space(f)
+            | (given[field::SPACE] | given[field::SPACE_DIMENSION]))
 }
 
 // The descriptor of a field in what follows its mark.
@@ -121,7 +73,7 @@ pub fn descriptor_of<'a>(f: usize, rest: &'a [u8]) -> &'a [u8]
 pub fn text_start(f: usize, rest: &[u8]) -> usize
     ensures { λ r. ⌜ (r ≡ length (now (rest .entry)) - length (fromDescriptor f (now (rest .entry)))) × (r ≤ length (now (rest .entry))) ⌝ }
 {
-    if f < field::BLOCK_SIZE {
+    if format_values::fields::is_understood(f) {
         return text::lines::leading(rest);
     }
     0
@@ -143,7 +95,7 @@ fn on_known(state: State, f: usize, rest: &[u8]) -> Step
     requires { ⌜ f < fieldCount ⌝ }
     ensures { λ r. ⌜ ((gs : List Given) → Holds state gs → r ≡ stepOf (state .version) gs (onField (state .version) gs (some f) (now (rest .entry)))) ⌝ }
 {
-    if state.version < field_since(f) {
+    if state.version < format_values::fields::since(f) {
         return refuse(state, format::NOT_IN_VERSION);
     }
     let given = state.given;

@@ -13,7 +13,7 @@ use Rattle.format.specs.Calls.{readAnswer}
 use Rattle.format.specs.Refusals.{atLine, fine}
 use Rattle.format.specs.Lines.{Line, line, lf, lines}
 use Rattle.format.specs.Pairs.{mark}
-use Rattle.format.specs.Fields.{fieldSince, descriptorOf, inOrder}
+use Rattle.format.specs.Fields.{fieldAt, descriptorOf, inOrder}
 use Rattle.format.specs.Descriptors.{trimFront, trimEnd, descriptor, digitsFrom, number, parts, notEmpty, numbersIn, typeAt, mayDescribe, hasNeeded, product}
 use Rattle.format.specs.Header.{magicVersion, onField, judge, Outcome, complete, walk, fromFirst, header}
 use Rattle.format.specs.Trials.{texts, headerWith, comment, AtLimits}
@@ -58,17 +58,17 @@ with-comment n h = from-lines (comment (suc n)) _ (two-lines (suc n)) (simp (len
 
 -- by the bytes of the comment's line after its first one
 taken : (t : List ℕ) → length (t ++ LF ∷ []) ≡ 65_477 → readAnswer (fromFirst (fiveLines (line (HASH ∷ t) lf ∷ line [] lf ∷ []))) .refusal ≡ fine
-unfolding every same alike beginsWith isIn isAny rowFrom mark fieldSince descriptorOf inOrder trimFront trimEnd descriptor digitsFrom number parts notEmpty numbersIn typeAt mayDescribe hasNeeded product magicVersion onField judge complete walk
+unfolding every same alike beginsWith isIn isAny rowFrom mark fieldAt descriptorOf inOrder trimFront trimEnd descriptor digitsFrom number parts notEmpty numbersIn typeAt mayDescribe hasNeeded product magicVersion onField judge complete walk
 taken t p = rw p
 
 refused : (t : List ℕ) → length (t ++ LF ∷ []) ≡ 65_478 → readAnswer (fromFirst (fiveLines (line (HASH ∷ t) lf ∷ line [] lf ∷ []))) .refusal ≡ atLine 3 7
-unfolding every same alike beginsWith isIn isAny rowFrom mark fieldSince descriptorOf inOrder trimFront trimEnd descriptor digitsFrom number parts notEmpty numbersIn typeAt mayDescribe hasNeeded product magicVersion onField judge complete walk
+unfolding every same alike beginsWith isIn isAny rowFrom mark fieldAt descriptorOf inOrder trimFront trimEnd descriptor digitsFrom number parts notEmpty numbersIn typeAt mayDescribe hasNeeded product magicVersion onField judge complete walk
 refused t p = rw p
 
 -- ---- both limits
 
 pub at-limits : AtLimits
-unfolding every same alike beginsWith isIn isAny rowFrom lines mark fieldSince descriptorOf inOrder trimFront trimEnd descriptor digitsFrom number parts notEmpty numbersIn typeAt mayDescribe hasNeeded product magicVersion onField judge complete walk header texts
+unfolding every same alike beginsWith isIn isAny rowFrom lines mark fieldAt descriptorOf inOrder trimFront trimEnd descriptor digitsFrom number parts notEmpty numbersIn typeAt mayDescribe hasNeeded product magicVersion onField judge complete walk header texts
 at-limits =
     record {
       bytes-taken = ap (λ (o : Outcome). readAnswer o .refusal) (with-comment 65_476 (omega arith)) ∙ taken (replicate 65_476 HASH) (line-long 65_476);

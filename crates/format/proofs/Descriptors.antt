@@ -7,7 +7,7 @@ use mathlib.Core.Bool.{Bool, true, false}
 use mathlib.Core.List.{List, [], _∷_}
 use lib.ListN.{length, take, drop}
 use Rattle.format.specs.Bytes.{spaceOrTab, if_then_else_}
-use Rattle.format.specs.Fields.{understood}
+use Rattle.format.specs.Fields.{isUnderstood}
 use Rattle.format.specs.Descriptors.{trimFront, trimByte, trimEnd, fromDescriptor}
 
 -- ---- where it starts
@@ -37,7 +37,7 @@ drop-leading (b ∷ s) = go (spaceOrTab b) (drop-leading s)
 module _ (f : ℕ) (rest : List ℕ) where
   -- what a field's descriptor starts with is no longer than what follows the mark
   pub from-le : length (fromDescriptor f rest) ≤ length rest
-  from-le = go (understood f)
+  from-le = go (isUnderstood f)
     where
       go : (x : Bool) → length (if x then trimFront rest else rest) ≤ length rest
       go true = trim-front-le rest
@@ -45,7 +45,7 @@ module _ (f : ℕ) (rest : List ℕ) where
 
   -- it is the last bytes of it
   pub drop-to-descriptor : drop (length rest - length (fromDescriptor f rest)) rest ≡ fromDescriptor f rest
-  drop-to-descriptor = go (understood f)
+  drop-to-descriptor = go (isUnderstood f)
     where
       go : (x : Bool)
           → drop (length rest - length (if x then trimFront rest else rest)) rest ≡ (if x then trimFront rest else rest)

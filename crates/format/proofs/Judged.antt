@@ -7,10 +7,10 @@ use mathlib.Core.List.{List, [], _∷_}
 use mathlib.Core.Option.{Option, none, some}
 use lib.Dec.{eqb, ltb}
 use borrow.Author.Tests.{ltb-false, le-ltb}
-use Rattle.format.specs.Bytes.{every, isIn, isEmpty, HASH, if_then_else_}
+use Rattle.format.specs.Bytes.{every, isEmpty, HASH, if_then_else_}
 use Rattle.format.specs.Refusals.{badByte, notInVersion, repeatedField, outOfOrder, badDescriptor}
 use Rattle.format.specs.Pairs.{plain, Marked, unmarked, fieldMark, pairMark, mark, unescape}
-use Rattle.format.specs.Fields.{fieldNamed, pairsSince, fieldSince, Given, isGiven, perAxis, inSpace, inOrder, dimension, space, spaceDimension}
+use Rattle.format.specs.Fields.{fieldNamed, pairsSince, fieldSince, Given, isGiven, needsDimension, needsSpace, inOrder, dimension, space, spaceDimension}
 use Rattle.format.specs.Descriptors.{descriptor, mayDescribe}
 use Rattle.format.specs.Header.{Item, magic, comment, field, pair, closing, Judged, wrong, right, unescaped, onPair, onField, onMark, judge}
 use Rattle.format.specs.Rules.{isComment, OtherLine, Keeps}
@@ -28,11 +28,11 @@ unless-is : (a b : Bool) → (a ≡ true → b ≡ true) → (not a || b) ≡ tr
 unless-is true b h = h refl
 unless-is false b h = refl
 
-in-order : (f : ℕ) (gs : List Given) → (isIn f perAxis ≡ true → isGiven dimension gs ≡ true)
-    → (isIn f inSpace ≡ true → (isGiven space gs || isGiven spaceDimension gs) ≡ true) → inOrder f gs ≡ true
+in-order : (f : ℕ) (gs : List Given) → (needsDimension f ≡ true → isGiven dimension gs ≡ true)
+    → (needsSpace f ≡ true → (isGiven space gs || isGiven spaceDimension gs) ≡ true) → inOrder f gs ≡ true
 unfolding inOrder
 in-order f gs a b =
-    rw (unless-is (isIn f perAxis) (isGiven dimension gs) a, unless-is (isIn f inSpace) (isGiven space gs || isGiven spaceDimension gs) b)
+    rw (unless-is (needsDimension f) (isGiven dimension gs) a, unless-is (needsSpace f) (isGiven space gs || isGiven spaceDimension gs) b)
 
 module _ (version : ℕ) (gs : List Given) where
   -- ---- it keeps the rules: judged
@@ -84,10 +84,10 @@ module _ (version : ℕ) (gs : List Given) where
       go (ltb version (fieldSince f)) refl (isGiven f gs) refl (inOrder f gs) refl (mayDescribe gs f (descriptor f rest)) refl
     where
       axes : Bool
-      axes = not (isIn f perAxis) || isGiven dimension gs
+      axes = not (needsDimension f) || isGiven dimension gs
 
       spaces : Bool
-      spaces = not (isIn f inSpace) || (isGiven space gs || isGiven spaceDimension gs)
+      spaces = not (needsSpace f) || (isGiven space gs || isGiven spaceDimension gs)
 
       go : (a : Bool) → ltb version (fieldSince f) ≡ a → (b : Bool) → isGiven f gs ≡ b → (c : Bool) → inOrder f gs ≡ c
           → (d : Bool) → mayDescribe gs f (descriptor f rest) ≡ d
@@ -107,8 +107,8 @@ module _ (version : ℕ) (gs : List Given) where
             named = e;
             since = ltb-false version (fieldSince f) ha;
             new = hb;
-            after-dimension = unless (isIn f perAxis) (isGiven dimension gs) (and-left axes spaces hc);
-            after-space = unless (isIn f inSpace) (isGiven space gs || isGiven spaceDimension gs) (and-right axes spaces hc);
+            after-dimension = unless (needsDimension f) (isGiven dimension gs) (and-left axes spaces hc);
+            after-space = unless (needsSpace f) (isGiven space gs || isGiven spaceDimension gs) (and-right axes spaces hc);
             descriptor-is = refl;
             described = hd;
           }

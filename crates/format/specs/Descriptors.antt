@@ -9,7 +9,7 @@ use lib.Dec.{eqb, ltb}
 use lib.ListN.{length, getD}
 use Rattle.format.specs.Bytes.{if_then_else_, bytes, between, spaceOrTab, isDigit, same, beginsWith, isIn, isEmpty, rowOf, isSome, orDefault, PERCENT}
 use Rattle.format.specs.Limits.{maxAxes, maxSize, maxSkip}
-use Rattle.format.specs.Fields.{Given, descriptorOf, isGiven, understood, dimension, type, encoding, endian, sizes, lineSkip, byteSkip, dataFile}
+use Rattle.format.specs.Fields.{Given, descriptorOf, isGiven, isUnderstood, dimension, type, encoding, endian, sizes, lineSkip, byteSkip, dataFile}
 
 -- ---- the text of a descriptor
 
@@ -30,7 +30,7 @@ trimEnd (b ∷ s) = trimByte b (trimEnd s)
 
 -- what follows the mark of a field, from where its descriptor starts: in understood fields past the spaces and tabs
 abbrev pub fromDescriptor : ℕ → List ℕ → List ℕ
-fromDescriptor f rest = if understood f then trimFront rest else rest
+fromDescriptor f rest = if isUnderstood f then trimFront rest else rest
 
 -- the descriptor of a field in what follows its mark
 unfoldable pub descriptor : ℕ → List ℕ → List ℕ

@@ -1,53 +1,127 @@
 -- The 30 fields: their names in either spelling, first versions and order
 -- (document 01, "Understood fields", "Carried fields", "Versions", "Order").
--- A field is a number from 0: first the 8 understood ones, then the 22 carried ones, each as the document lists them.
+-- A field is a number from 0: its row in the table. The numbers are those that callers in C use: they stay when a field becomes understood.
 use Prim.Native.Nat.{ℕ}
 use Prim.Native.String.{String}
-use mathlib.Core.Bool.{Bool, not, _&&_, _||_}
-use mathlib.Core.List.{List, [], _∷_}
+use mathlib.Core.Bool.{Bool, true, false, not, _&&_, _||_}
+use mathlib.Core.List.{List, [], _∷_, map}
 use mathlib.Core.Option.{Option, none, some}
-use lib.Dec.{eqb, ltb}
-use Rattle.format.specs.Bytes.{if_then_else_, isIn, rowOf, isSome}
+use lib.Dec.{eqb}
+use lib.ListN.{length, getD}
+use Rattle.format.specs.Bytes.{if_then_else_, rowOf, isSome}
 
--- ---- names
+-- ---- the table
 
-abbrev pub fieldNames : List (List String)
-fieldNames =
-    ("dimension" ∷ [])
-    ∷ ("type" ∷ [])
-    ∷ ("encoding" ∷ [])
-    ∷ ("endian" ∷ [])
-    ∷ ("sizes" ∷ [])
-    ∷ ("line skip" ∷ "lineskip" ∷ [])
-    ∷ ("byte skip" ∷ "byteskip" ∷ [])
-    ∷ ("data file" ∷ "datafile" ∷ [])
-    ∷ ("block size" ∷ "blocksize" ∷ [])
-    ∷ ("content" ∷ [])
-    ∷ ("min" ∷ [])
-    ∷ ("max" ∷ [])
-    ∷ ("old min" ∷ "oldmin" ∷ [])
-    ∷ ("old max" ∷ "oldmax" ∷ [])
-    ∷ ("number" ∷ [])
-    ∷ ("sample units" ∷ "sampleunits" ∷ [])
-    ∷ ("space" ∷ [])
-    ∷ ("space dimension" ∷ [])
-    ∷ ("space units" ∷ [])
-    ∷ ("space origin" ∷ [])
-    ∷ ("space directions" ∷ [])
-    ∷ ("measurement frame" ∷ [])
-    ∷ ("spacings" ∷ [])
-    ∷ ("thicknesses" ∷ [])
-    ∷ ("axis mins" ∷ "axismins" ∷ [])
-    ∷ ("axis maxs" ∷ "axismaxs" ∷ [])
-    ∷ ("centers" ∷ "centerings" ∷ [])
-    ∷ ("labels" ∷ [])
-    ∷ ("units" ∷ [])
-    ∷ ("kinds" ∷ [])
+-- what comes before a field ("Order"): nothing; dimension; space or space dimension; or both of these
+pub data Before : Type 0 where
+  anywhere afterDimension afterSpace afterBoth : Before
+
+-- whether a field is understood ("Understood fields"), or kept as text ("Carried fields")
+pub data Treatment : Type 0 where
+  understood carried : Treatment
+
+-- a field: its names, the first version that has it ("Versions"), what comes before it, and whether it is understood
+pub data FieldRow : Type 0 where
+  fieldRow : List String → ℕ → Before → Treatment → FieldRow
+
+abbrev pub fieldTable : List FieldRow
+fieldTable =
+    fieldRow ("dimension" ∷ []) 1 anywhere understood
+    ∷ fieldRow ("type" ∷ []) 1 anywhere understood
+    ∷ fieldRow ("encoding" ∷ []) 1 anywhere understood
+    ∷ fieldRow ("endian" ∷ []) 1 anywhere understood
+    ∷ fieldRow ("sizes" ∷ []) 1 afterDimension understood
+    ∷ fieldRow ("line skip" ∷ "lineskip" ∷ []) 1 anywhere understood
+    ∷ fieldRow ("byte skip" ∷ "byteskip" ∷ []) 1 anywhere understood
+    ∷ fieldRow ("data file" ∷ "datafile" ∷ []) 1 anywhere understood
+    ∷ fieldRow ("block size" ∷ "blocksize" ∷ []) 1 anywhere carried
+    ∷ fieldRow ("content" ∷ []) 1 anywhere carried
+    ∷ fieldRow ("min" ∷ []) 1 anywhere carried
+    ∷ fieldRow ("max" ∷ []) 1 anywhere carried
+    ∷ fieldRow ("old min" ∷ "oldmin" ∷ []) 1 anywhere carried
+    ∷ fieldRow ("old max" ∷ "oldmax" ∷ []) 1 anywhere carried
+    ∷ fieldRow ("number" ∷ []) 1 anywhere carried
+    ∷ fieldRow ("sample units" ∷ "sampleunits" ∷ []) 4 anywhere carried
+    ∷ fieldRow ("space" ∷ []) 4 anywhere carried
+    ∷ fieldRow ("space dimension" ∷ []) 4 anywhere carried
+    ∷ fieldRow ("space units" ∷ []) 4 afterSpace carried
+    ∷ fieldRow ("space origin" ∷ []) 4 afterSpace carried
+    ∷ fieldRow ("space directions" ∷ []) 4 afterBoth carried
+    ∷ fieldRow ("measurement frame" ∷ []) 5 afterSpace carried
+    ∷ fieldRow ("spacings" ∷ []) 1 afterDimension carried
+    ∷ fieldRow ("thicknesses" ∷ []) 4 afterDimension carried
+    ∷ fieldRow ("axis mins" ∷ "axismins" ∷ []) 1 afterDimension carried
+    ∷ fieldRow ("axis maxs" ∷ "axismaxs" ∷ []) 1 afterDimension carried
+    ∷ fieldRow ("centers" ∷ "centerings" ∷ []) 1 afterDimension carried
+    ∷ fieldRow ("labels" ∷ []) 1 afterDimension carried
+    ∷ fieldRow ("units" ∷ []) 1 afterDimension carried
+    ∷ fieldRow ("kinds" ∷ []) 3 afterDimension carried
     ∷ []
+
+-- how many fields there are
+abbrev pub fieldCount : ℕ
+fieldCount = length fieldTable
+
+-- ---- what a row says
+
+abbrev pub namesOf : FieldRow → List String
+namesOf (fieldRow ns v b t) = ns
+
+abbrev pub sinceOf : FieldRow → ℕ
+sinceOf (fieldRow ns v b t) = v
+
+abbrev pub beforeOf : FieldRow → Before
+beforeOf (fieldRow ns v b t) = b
+
+abbrev pub treatmentOf : FieldRow → Treatment
+treatmentOf (fieldRow ns v b t) = t
+
+-- a per-axis field comes after dimension
+abbrev pub comesAfterDimension : Before → Bool
+comesAfterDimension anywhere = false
+comesAfterDimension afterDimension = true
+comesAfterDimension afterSpace = false
+comesAfterDimension afterBoth = true
+
+-- a field that lies in a space comes after space or space dimension
+abbrev pub comesAfterSpace : Before → Bool
+comesAfterSpace anywhere = false
+comesAfterSpace afterDimension = false
+comesAfterSpace afterSpace = true
+comesAfterSpace afterBoth = true
+
+abbrev pub isMeant : Treatment → Bool
+isMeant understood = true
+isMeant carried = false
+
+-- ---- the fields by their numbers
+
+-- the stand-in past the table
+abbrev pub noField : FieldRow
+noField = fieldRow [] 1 anywhere carried
+
+-- the row of a number
+unfoldable pub fieldAt : ℕ → FieldRow
+fieldAt f = getD fieldTable f noField
 
 -- the field of a name, ignoring case, or none
 abbrev pub fieldNamed : List ℕ → Option ℕ
-fieldNamed name = rowOf name fieldNames
+fieldNamed name = rowOf name (map namesOf fieldTable)
+
+-- the first version that has the field
+abbrev pub fieldSince : ℕ → ℕ
+fieldSince f = sinceOf (fieldAt f)
+
+abbrev pub needsDimension : ℕ → Bool
+needsDimension f = comesAfterDimension (beforeOf (fieldAt f))
+
+abbrev pub needsSpace : ℕ → Bool
+needsSpace f = comesAfterSpace (beforeOf (fieldAt f))
+
+abbrev pub isUnderstood : ℕ → Bool
+isUnderstood f = isMeant (treatmentOf (fieldAt f))
+
+-- ---- fields with a name here: each is the number of its row (specs/FindTrials.antt)
 
 abbrev pub dimension : ℕ
 dimension = 0
@@ -73,17 +147,11 @@ byteSkip = 6
 abbrev pub dataFile : ℕ
 dataFile = 7
 
-abbrev pub sampleUnits : ℕ
-sampleUnits = 15
-
 abbrev pub space : ℕ
 space = 16
 
 abbrev pub spaceDimension : ℕ
 spaceDimension = 17
-
-abbrev pub spaceUnits : ℕ
-spaceUnits = 18
 
 abbrev pub spaceOrigin : ℕ
 spaceOrigin = 19
@@ -93,18 +161,6 @@ spaceDirections = 20
 
 abbrev pub measurementFrame : ℕ
 measurementFrame = 21
-
-abbrev pub spacings : ℕ
-spacings = 22
-
-abbrev pub thicknesses : ℕ
-thicknesses = 23
-
-abbrev pub axisMins : ℕ
-axisMins = 24
-
-abbrev pub axisMaxs : ℕ
-axisMaxs = 25
 
 abbrev pub centers : ℕ
 centers = 26
@@ -118,23 +174,11 @@ units = 28
 abbrev pub kinds : ℕ
 kinds = 29
 
--- the understood fields are the first eight; the others are carried as text
-abbrev pub understood : ℕ → Bool
-understood f = ltb f 8
-
 -- ---- versions
 
 -- key pairs are there from version 2
 abbrev pub pairsSince : ℕ
 pairsSince = 2
-
--- the first version that has the field
-unfoldable pub fieldSince : ℕ → ℕ
-fieldSince f =
-    if isIn f (kinds ∷ []) then 3
-    else if isIn f (thicknesses ∷ sampleUnits ∷ space ∷ spaceDimension ∷ spaceUnits ∷ spaceOrigin ∷ spaceDirections ∷ []) then 4
-    else if isIn f (measurementFrame ∷ []) then 5
-    else 1
 
 -- ---- the fields given so far, the last one first: the field and its descriptor
 
@@ -151,14 +195,6 @@ isGiven f gs = isSome (descriptorOf f gs)
 
 -- ---- order
 
--- the per-axis fields come after dimension
-abbrev pub perAxis : List ℕ
-perAxis = sizes ∷ spacings ∷ thicknesses ∷ axisMins ∷ axisMaxs ∷ centers ∷ labels ∷ units ∷ kinds ∷ spaceDirections ∷ []
-
--- these come after space or space dimension
-abbrev pub inSpace : List ℕ
-inSpace = spaceUnits ∷ spaceOrigin ∷ spaceDirections ∷ measurementFrame ∷ []
-
 -- the field may come here
 unfoldable pub inOrder : ℕ → List Given → Bool
-inOrder f gs = (not (isIn f perAxis) || isGiven dimension gs) && (not (isIn f inSpace) || (isGiven space gs || isGiven spaceDimension gs))
+inOrder f gs = (not (needsDimension f) || isGiven dimension gs) && (not (needsSpace f) || (isGiven space gs || isGiven spaceDimension gs))

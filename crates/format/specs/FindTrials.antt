@@ -1,10 +1,13 @@
 -- Trials of the look-ups: what each answers about small files, with places and lengths as numbers; proofs/ computes them all.
 use Prim.Native.Nat.{ℕ}
+use Prim.Native.String.{String}
 use mathlib.Core.Bool.{false}
-use mathlib.Core.List.{List, [], _∷_}
+use mathlib.Core.List.{List, [], _∷_, map}
+use mathlib.Core.Option.{Option, some}
 use Rattle.format.specs.declared.FindAnswer.{FindAnswer}
 use Rattle.format.specs.Bytes.{bytes, LF}
 use Rattle.format.specs.Refusals.{atLine, fine}
+use Rattle.format.specs.Fields.{fieldNamed, dimension, type, encoding, endian, sizes, lineSkip, byteSkip, dataFile, space, spaceDimension, spaceOrigin, spaceDirections, measurementFrame, centers, labels, units, kinds}
 use Rattle.format.specs.Calls.{noPlace, foundAt, findFieldCall, findKeyCall}
 use Rattle.format.specs.Trials.{Trial, trial, Hold, texts, wholeS, fileS}
 
@@ -46,6 +49,29 @@ refusedFile = wholeS "NRRD0001" "utc offset:=37"
 abbrev pub refusedThere : FindAnswer
 refusedThere = record { refusal = atLine 8 8; found = false; start = 0; length = 0 }
 
+-- ---- the fields that the definitions have a name for, each with the number that the name stands for
+
+abbrev pub namedFields : List (String × ℕ)
+namedFields =
+    ("dimension", dimension)
+    ∷ ("type", type)
+    ∷ ("encoding", encoding)
+    ∷ ("endian", endian)
+    ∷ ("sizes", sizes)
+    ∷ ("line skip", lineSkip)
+    ∷ ("byte skip", byteSkip)
+    ∷ ("data file", dataFile)
+    ∷ ("space", space)
+    ∷ ("space dimension", spaceDimension)
+    ∷ ("space origin", spaceOrigin)
+    ∷ ("space directions", spaceDirections)
+    ∷ ("measurement frame", measurementFrame)
+    ∷ ("centers", centers)
+    ∷ ("labels", labels)
+    ∷ ("units", units)
+    ∷ ("kinds", kinds)
+    ∷ []
+
 -- ---- the trials; fields by their numbers (specs/Fields.antt)
 
 abbrev pub findTrials : List Trial
@@ -72,6 +98,8 @@ findTrials =
     -- an empty value is found, without its line's CR
     ∷ trial FindAnswer (findKeyCall crlfFile (bytes "empty")) (foundAt 80 0)
     ∷ trial FindAnswer (findKeyCall refusedFile (bytes "utc offset")) refusedThere
+    -- each of these names is the number of its field's row
+    ∷ trial (List (Option ℕ)) (map (λ n. fieldNamed (bytes (n .0))) namedFields) (map (λ n. some (n .1)) namedFields)
     ∷ []
 
 -- all of them

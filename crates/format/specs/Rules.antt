@@ -8,11 +8,11 @@ use mathlib.Core.List.{List, [], _∷_, _++_}
 use mathlib.Core.Option.{some}
 use lib.Dec.{eqb}
 use lib.ListN.{length}
-use Rattle.format.specs.Bytes.{bytes, every, isIn, isEmpty, HASH}
+use Rattle.format.specs.Bytes.{bytes, every, isEmpty, HASH}
 use Rattle.format.specs.Limits.{maxFile, maxHeader, maxLines, maxExtent}
 use Rattle.format.specs.Lines.{Ending, lf, crlf, eof, Line, text, ending, lines}
 use Rattle.format.specs.Pairs.{plain, unescape}
-use Rattle.format.specs.Fields.{fieldNamed, pairsSince, fieldSince, Given, given, isGiven, perAxis, inSpace, dimension, type, encoding, endian, sizes, dataFile, space, spaceDimension}
+use Rattle.format.specs.Fields.{fieldNamed, pairsSince, fieldSince, Given, given, isGiven, needsDimension, needsSpace, dimension, type, encoding, endian, sizes, dataFile, space, spaceDimension}
 use Rattle.format.specs.Descriptors.{descriptor, mayDescribe, endianNeeded, typeOf, encodingOf, extentOf}
 use Rattle.format.specs.Header.{Item, magic, comment, field, pair, closing, Entry, entry, itemOf, linesOf, magicVersion, closes, headerLength}
 
@@ -48,8 +48,8 @@ pub record FieldLine (version : ℕ) (gs : List Given) (t : List ℕ) (f : ℕ) 
   -- no line before gives it, in either spelling ("Numbers of refusal"; 9)
   pub new : isGiven f gs ≡ false
   -- a per-axis field comes after dimension, and a field that lies in a space after space or space dimension ("Order"; 10)
-  pub after-dimension : isIn f perAxis ≡ true → isGiven dimension gs ≡ true
-  pub after-space : isIn f inSpace ≡ true → (isGiven space gs || isGiven spaceDimension gs) ≡ true
+  pub after-dimension : needsDimension f ≡ true → isGiven dimension gs ≡ true
+  pub after-space : needsSpace f ≡ true → (isGiven space gs || isGiven spaceDimension gs) ≡ true
   -- its descriptor is the text after the mark, trimmed, and it is one that the field may have ("Understood fields", "Carried fields"; 11)
   pub descriptor-is : d ≡ descriptor f rest
   pub described : mayDescribe gs f d ≡ true

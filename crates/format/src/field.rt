@@ -1,4 +1,4 @@
-// The fields by number, as the definitions list them (`fieldNames`): first the understood ones, then the carried ones.
+// The fields by number: their rows in the table of the definitions (`fieldTable`). Only those with a name in the code stand here.
 pub const DIMENSION: usize = 0;
 
 pub const TYPE: usize = 1;
@@ -15,26 +15,9 @@ pub const BYTE_SKIP: usize = 6;
 
 pub const DATA_FILE: usize = 7;
 
-// The first carried field.
-pub const BLOCK_SIZE: usize = 8;
-
-pub const SAMPLE_UNITS: usize = 15;
-
 pub const SPACE: usize = 16;
 
 pub const SPACE_DIMENSION: usize = 17;
-
-pub const SPACE_UNITS: usize = 18;
-
-pub const SPACE_DIRECTIONS: usize = 20;
-
-pub const MEASUREMENT_FRAME: usize = 21;
-
-pub const SPACINGS: usize = 22;
-
-pub const THICKNESSES: usize = 23;
-
-pub const KINDS: usize = 29;
 
 // How many fields there are.
 pub const COUNT: usize = 30;

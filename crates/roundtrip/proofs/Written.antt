@@ -12,11 +12,11 @@ use lib.Dec.{eqb}
 use lib.IntN.{ℤ}
 use lib.ListN.{length, length-append, length-map}
 use borrow.Author.Tests.{le-ltb, eq-eqb, le-leb}
-use Rattle.format.specs.Bytes.{if_then_else_, bytes, every, isIn, isAny, alike, rowFrom}
+use Rattle.format.specs.Bytes.{if_then_else_, bytes, every, isAny, alike, rowFrom}
 use Rattle.format.specs.Limits.{maxLines, maxAxes}
 use Rattle.format.specs.Lines.{Line, line, lf, lines, unlines}
 use Rattle.format.specs.Pairs.{plain, mark}
-use Rattle.format.specs.Fields.{Given, given, descriptorOf, isGiven, inOrder, fieldSince, understood, dimension, type, encoding, endian, sizes, lineSkip, byteSkip, dataFile}
+use Rattle.format.specs.Fields.{Given, given, descriptorOf, isGiven, inOrder, fieldAt, fieldSince, isUnderstood, dimension, type, encoding, endian, sizes, lineSkip, byteSkip, dataFile}
 use Rattle.format.specs.Descriptors.{descriptor, numberIn, valueOfNumber, words, sizesFine, mayDescribe, hasNeeded, types, typeAt, typeName, typeNames, encodings, endians, endianNeeded, noEndian, dimensionOf, typeOf, encodingOf, endianOf, sizesOf, lineSkipOf, byteSkipOf, isDetached, sampleBytes}
 use Rattle.format.specs.Header.{field, closing, magic, Entry, entry, linesOf, right, onField, judge, accepted, header, headerLength}
 use Rattle.format.specs.Writer.{decimal, spaced, nameAt, fieldLine, headerLines, fileBytes, dataBytes}
@@ -119,7 +119,7 @@ names =
 
 -- the line of an understood field that every version has, that is new and in order, with a descriptor that it may have
 field-line : (version : ℕ) (gs : List Given) (name : String) (f : ℕ) (d : List ℕ) → 1 ≤ version → NameOf name f → Text d
-    → (understood f ≡ true) × (fieldSince f ≡ 1) × (isGiven f gs ≡ false) × (inOrder f gs ≡ true) → mayDescribe gs f d ≡ true
+    → (isUnderstood f ≡ true) × (fieldSince f ≡ 1) × (isGiven f gs ≡ false) × (inOrder f gs ≡ true) → mayDescribe gs f d ≡ true
     → judge version gs (bytes name ++ (bytes ": " ++ d)) ≡ right (field f d)
 unfolding onField descriptor
 field-line version gs name f d v named text here may =
@@ -184,7 +184,7 @@ module _ (version : ℕ) (ns : List ℕ) (t e n : ℕ) (zs : List ℤ) (a : Acce
   -- each line is judged to be its item
   fine-entries : (x : Bool) → Complete (fieldsOf x ns t e n) → (r : List Line)
       → Fine version [] (restEntries x ns t e n) (fieldsOf x ns t e n) r
-  unfolding descriptorOf isIn inOrder fieldSince mayDescribe judge
+  unfolding descriptorOf inOrder fieldAt mayDescribe judge
   fine-entries x c r = (
     field-line version _ "type" type _ v (names .of-type) (of-type-name .text) (refl, refl, refl, refl) (rw (of-type-name .row)),
     (

@@ -5,14 +5,14 @@ use Rattle.fields.proofs.Judging.{order-by-flags}
 use Rattle.fields.proofs.judge.is_in_order.Statement.{statement}
 use Rattle.fields.proofs.judge.is_in_order.Tie as tie
 
-is-per-axis-requires : tie.Need-is-per-axis-requires
-is-per-axis-requires c κs = search needs
+needs-dimension-requires : tie.Need-needs-dimension-requires
+needs-dimension-requires c κs = search needs
 
 element-copy-out-result : tie.Need-element-copy-out-result
 element-copy-out-result c = search needs
 
-is-in-space-requires : tie.Need-is-in-space-requires
-is-in-space-requires c κs = search needs
+needs-space-requires : tie.Need-needs-space-requires
+needs-space-requires c κs = search needs
 
 element-copy-out-result-2 : tie.Need-element-copy-out-result-2
 element-copy-out-result-2 c = search needs
@@ -22,15 +22,15 @@ element-copy-out-result-3 c = search needs
 
 returns : tie.Need-returns
 returns c = λ gs e.
-    order-by-flags (c .before .before .before .before .before .args .f) gs (c .before .before .before .before .is-per-axis .ensures) (c .before .before .is-in-space .ensures) e
+    order-by-flags (c .before .before .before .before .before .args .f) gs (c .before .before .before .before .needs-dimension .ensures) (c .before .before .needs-space .ensures) e
 
 pub is-in-order-spec : {M : Type 1} → statement M
 is-in-order-spec =
     tie.close
     (tie.spec
-    is-per-axis-requires
+    needs-dimension-requires
     element-copy-out-result
-    is-in-space-requires
+    needs-space-requires
     element-copy-out-result-2
     element-copy-out-result-3
     returns)

@@ -12,8 +12,8 @@ use Rattle.fields.proofs.Judging.{holds-flags, holds-given, field-old, 
 use Rattle.fields.proofs.judge.on_known.Statement.{statement}
 use Rattle.fields.proofs.judge.on_known.Tie as tie
 
-field-since-requires : tie.Need-field-since-requires
-field-since-requires c κs = search needs
+since-requires : tie.Need-since-requires
+since-requires c κs = search needs
 
 refuse-requires : tie.Need-refuse-requires
 refuse-requires c κs = search needs
@@ -80,7 +80,7 @@ pub on-known-spec : {M : Type 1} → statement M
 on-known-spec =
     tie.close
     (tie.spec
-    field-since-requires
+    since-requires
     refuse-requires
     returns
     array-read-if2

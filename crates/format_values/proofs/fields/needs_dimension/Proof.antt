@@ -1,0 +1,18 @@
+-- `fields::needs_dimension` meets its contract: the set is that of the table, by computation.
+-- Assumes nothing.
+use mathlib.Core.Path.{refl}
+use borrow.Author.Needs.{needs}
+use Rattle.format.specs.Fields.{beforeOf, comesAfterDimension}
+use Rattle.format_values.specs.Packed.{packed}
+use Rattle.format_values.proofs.fields.needs_dimension.Statement.{statement}
+use Rattle.format_values.proofs.fields.needs_dimension.Tie as tie
+
+is-in-requires : tie.Need-is-in-requires
+is-in-requires c κs = search needs
+
+returns : tie.Need-returns
+unfolding packed
+returns c = c .is-in .ensures (λ r. comesAfterDimension (beforeOf r)) refl refl
+
+pub needs-dimension-spec : {M : Type 1} → statement M
+needs-dimension-spec = tie.close (tie.spec is-in-requires returns)
