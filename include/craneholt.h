@@ -149,8 +149,9 @@ typedef struct craneholt_find_answer {
     uint64_t length;
 } craneholt_find_answer;
 
-/* The descriptor of a field, without spaces and tabs at its end, and, in the fields up to data file, at its start. A number past
- * the last field is answered as not found. Refuses 1 to 15. */
+/* The descriptor of a field, without spaces and tabs at its end; in the understood fields, which are dimension, type, encoding,
+ * endian, sizes, line skip, byte skip and data file, also without those at its start. A number past the last field is answered
+ * as not found. Refuses 1 to 15. */
 craneholt_find_answer craneholt_find_field(const uint8_t *file, size_t file_length, uint32_t field);
 
 /* The text of a key's value as it stands in the file: in the last line with the key, LF as "\n" and backslash as "\\".

@@ -69,7 +69,7 @@ fn read_lines(file: &[u8], from: usize, version: u32) -> ReadAnswer
             }
         }
     }
-    if state.given[7] {
+    if state.given[format::field::DATA_FILE] {
         return fields::state::finish(state, at, n - 1);
     }
     fields::state::refuse(format::NO_END, 0)

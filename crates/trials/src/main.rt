@@ -7,7 +7,7 @@
 //   20   the 27 numbers of the reading, in the order of `format::Reading`, all 0 where `read_header` refuses
 //   128  a run, the file
 //   a run, the entries that `read` writes, as numbers
-//   for each of the 30 fields, in the order of the definitions (`fieldNames`): a text, the descriptor
+//   for each of the 30 fields, in the order of the definitions (`fieldTable`): a text, the descriptor
 //   the number of keys; for each a run, the key; a text, the value as it stands in the file; a run, the value
 //
 // The table is filled with 7 before the call; its entries past those written must still be 7. `read` must answer the same reading as
