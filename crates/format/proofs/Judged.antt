@@ -11,7 +11,7 @@ use Rattle.format.specs.Bytes.{every, isEmpty, HASH, if_then_else_}
 use Rattle.format.specs.Refusals.{badByte, notInVersion, repeatedField, outOfOrder, badDescriptor}
 use Rattle.format.specs.Pairs.{plain, Marked, unmarked, fieldMark, pairMark, mark, unescape}
 use Rattle.format.specs.Fields.{fieldNamed, pairsSince, fieldSince, Given, isGiven, needsDimension, needsSpace, inOrder, dimension, space, spaceDimension}
-use Rattle.format.specs.Descriptors.{descriptor, mayDescribe}
+use Rattle.format.specs.Descriptors.{descriptor, mayDescribe, dimensionOf}
 use Rattle.format.specs.Header.{Item, magic, comment, field, pair, closing, Judged, wrong, right, unescaped, onPair, onField, onMark, judge}
 use Rattle.format.specs.Rules.{isComment, OtherLine, Keeps}
 use Rattle.format.proofs.Bytes.{and-left, and-right}
@@ -43,7 +43,7 @@ module _ (version : ℕ) (gs : List Given) where
   judge-other (b ∷ t) o = rw (o .no-comment, o .all-plain)
 
   on-field-is : (f : ℕ) (rest : List ℕ) → fieldSince f ≤ version → isGiven f gs ≡ false → inOrder f gs ≡ true
-      → mayDescribe gs f (descriptor f rest) ≡ true → onField version gs (some f) rest ≡ right (field f (descriptor f rest))
+      → mayDescribe (dimensionOf gs) f (descriptor f rest) ≡ true → onField version gs (some f) rest ≡ right (field f (descriptor f rest))
   unfolding onField
   on-field-is f rest s n o d = rw (le-ltb version (fieldSince f) s, n, o, d)
 
@@ -81,7 +81,7 @@ module _ (version : ℕ) (gs : List Given) where
   unfolding onField inOrder
   field-keeps t name rest other m none e = tt
   field-keeps t name rest other m (some f) e =
-      go (ltb version (fieldSince f)) refl (isGiven f gs) refl (inOrder f gs) refl (mayDescribe gs f (descriptor f rest)) refl
+      go (ltb version (fieldSince f)) refl (isGiven f gs) refl (inOrder f gs) refl (mayDescribe (dimensionOf gs) f (descriptor f rest)) refl
     where
       axes : Bool
       axes = not (needsDimension f) || isGiven dimension gs
@@ -90,7 +90,7 @@ module _ (version : ℕ) (gs : List Given) where
       spaces = not (needsSpace f) || (isGiven space gs || isGiven spaceDimension gs)
 
       go : (a : Bool) → ltb version (fieldSince f) ≡ a → (b : Bool) → isGiven f gs ≡ b → (c : Bool) → inOrder f gs ≡ c
-          → (d : Bool) → mayDescribe gs f (descriptor f rest) ≡ d
+          → (d : Bool) → mayDescribe (dimensionOf gs) f (descriptor f rest) ≡ d
           → KeepsRight t
           (if a then wrong notInVersion else if b then wrong repeatedField else if not c then wrong outOfOrder
           else if not d then wrong badDescriptor else right (field f (descriptor f rest)))

@@ -13,7 +13,7 @@ use Rattle.format.specs.Refusals.{fileTooLong, headerTooLong, tooManyLin
 use Rattle.format.specs.Lines.{Line, size, text, lines}
 use Rattle.format.specs.Pairs.{plain, Marked, unmarked, fieldMark, pairMark, mark, unescape}
 use Rattle.format.specs.Fields.{fieldNamed, pairsSince, fieldSince, Given, isGiven, inOrder}
-use Rattle.format.specs.Descriptors.{descriptor, mayDescribe, hasNeeded, extentOf, isDetached}
+use Rattle.format.specs.Descriptors.{descriptor, mayDescribe, dimensionOf, hasNeeded, extentOf, isDetached}
 use Rattle.format.specs.Header.{Item, magic, comment, field, Entry, entry, versionOfLine, Judged, wrong, right, unescaped, onPair, onField, onMark, judge, Outcome, refused, accepted, withEntry, closes, afterItem, complete, onJudged, walk, afterMagic, fromFirst, header}
 
 -- ---- a line's
@@ -27,7 +27,7 @@ module _ (version : ℕ) (gs : List Given) where
   unfolding onField
   field-numbered none rest = omega arith
   field-numbered (some f) rest =
-      go (ltb version (fieldSince f)) (isGiven f gs) (inOrder f gs) (mayDescribe gs f (descriptor f rest))
+      go (ltb version (fieldSince f)) (isGiven f gs) (inOrder f gs) (mayDescribe (dimensionOf gs) f (descriptor f rest))
     where
       go : (a b c d : Bool)
           → Numbered

@@ -41,22 +41,30 @@ noReading =
 abbrev pub formOf : List Given → ℕ
 formOf gs = if isDetached gs then 1 else 0
 
-unfoldable pub readingOf : List Entry → List Given → Reading
-readingOf es gs =
+-- sizes, 0 past the last axis
+abbrev pub padded : List ℕ → List ℕ
+padded ns = ns ++ replicate (maxAxes - length ns) 0
+
+-- the reading of a header of so many bytes and lines, by its version and the fields given
+abbrev pub readingAt : ℕ → List Given → ℕ → ℕ → Reading
+readingAt version gs bytes count =
     record {
-      version = versionOf es;
+      version = version;
       form = formOf gs;
       dimension = dimensionOf gs;
       sampletype = typeOf gs;
       encoding = encodingOf gs;
       endian = endianOf gs;
-      sizes = sizesOf gs ++ replicate (maxAxes - length (sizesOf gs)) 0;
+      sizes = padded (sizesOf gs);
       lineskip = lineSkipOf gs;
       byteskip = byteSkipOf gs;
       extent = extentOf gs;
-      length = headerLength es;
-      lines = length es;
+      length = bytes;
+      lines = count;
     }
+
+unfoldable pub readingOf : List Entry → List Given → Reading
+readingOf es gs = readingAt (versionOf es) gs (headerLength es) (length es)
 
 abbrev pub readAnswer : Outcome → ReadAnswer
 readAnswer (refused r) = record { refusal = r; reading = noReading }

@@ -185,26 +185,48 @@ abbrev pub meaning : {A : Type 0} → A → (List ℕ → A) → Option (List �
 meaning d f none = d
 meaning d f (some t) = f t
 
+-- the number that a field's descriptor says: of a type, an encoding or an endian the one of its name, of dimension and skips their value;
+-- 0 for a field that says none
+abbrev pub numberSaid : ℕ → List ℕ → ℕ
+numberSaid f t =
+    if eqb f type then orDefault 0 (typeNamed t)
+    else if eqb f encoding then orDefault 0 (encodingNamed t)
+    else if eqb f endian then orDefault noEndian (endianNamed t)
+    else if eqb f dimension || (eqb f lineSkip || eqb f byteSkip) then valueOfNumber t
+    else 0
+
+-- the number of a field that is not given
+abbrev pub numberAbsent : ℕ → ℕ
+numberAbsent f = if eqb f endian then noEndian else 0
+
+-- the number of a field
+abbrev pub numberOf : ℕ → List Given → ℕ
+numberOf f gs = meaning (numberAbsent f) (numberSaid f) (descriptorOf f gs)
+
 abbrev pub dimensionOf : List Given → ℕ
-dimensionOf gs = meaning 0 valueOfNumber (descriptorOf dimension gs)
+dimensionOf gs = numberOf dimension gs
 
 abbrev pub typeOf : List Given → ℕ
-typeOf gs = meaning 0 (λ t. orDefault 0 (typeNamed t)) (descriptorOf type gs)
+typeOf gs = numberOf type gs
 
 abbrev pub encodingOf : List Given → ℕ
-encodingOf gs = meaning 0 (λ t. orDefault 0 (encodingNamed t)) (descriptorOf encoding gs)
+encodingOf gs = numberOf encoding gs
 
 abbrev pub endianOf : List Given → ℕ
-endianOf gs = meaning noEndian (λ t. orDefault noEndian (endianNamed t)) (descriptorOf endian gs)
-
-abbrev pub sizesOf : List Given → List ℕ
-sizesOf gs = meaning [] (λ t. map valueOfNumber (words t)) (descriptorOf sizes gs)
+endianOf gs = numberOf endian gs
 
 abbrev pub lineSkipOf : List Given → ℕ
-lineSkipOf gs = meaning 0 valueOfNumber (descriptorOf lineSkip gs)
+lineSkipOf gs = numberOf lineSkip gs
 
 abbrev pub byteSkipOf : List Given → ℕ
-byteSkipOf gs = meaning 0 valueOfNumber (descriptorOf byteSkip gs)
+byteSkipOf gs = numberOf byteSkip gs
+
+-- the sizes that a descriptor says
+abbrev pub sizesSaid : List ℕ → List ℕ
+sizesSaid t = map valueOfNumber (words t)
+
+abbrev pub sizesOf : List Given → List ℕ
+sizesOf gs = meaning [] sizesSaid (descriptorOf sizes gs)
 
 -- detached: the data file field is given
 abbrev pub isDetached : List Given → Bool
@@ -220,14 +242,14 @@ sizesFine n ws = eqb (length ws) n && numbersIn 1 maxSize ws
 abbrev pub isName : List ℕ → Bool
 isName t = not (isEmpty t) && (not (same t (bytes "LIST")) && (not (beginsWith (bytes "LIST ") t) && not (isIn PERCENT t)))
 
--- the field may have the descriptor t after the fields given; a carried field may have any
-unfoldable pub mayDescribe : List Given → ℕ → List ℕ → Bool
-mayDescribe gs f t =
+-- the field may have the descriptor t in a header of dimension n; a carried field may have any
+unfoldable pub mayDescribe : ℕ → ℕ → List ℕ → Bool
+mayDescribe n f t =
     if eqb f dimension then numberIn 1 maxAxes t
     else if eqb f type then isSome (typeNamed t)
     else if eqb f encoding then isSome (encodingNamed t)
     else if eqb f endian then isSome (endianNamed t)
-    else if eqb f sizes then sizesFine (dimensionOf gs) (words t)
+    else if eqb f sizes then sizesFine n (words t)
     else if eqb f lineSkip then numberIn 0 maxSkip t
     else if eqb f byteSkip then numberIn 0 maxSkip t
     else if eqb f dataFile then isName t

@@ -13,7 +13,7 @@ use Rattle.format.specs.Refusals.{fileTooLong, noMagic, headerTooLong, t
 use Rattle.format.specs.Lines.{Line, line, lf, crlf, eof, text, size, lines, unlines, starts}
 use Rattle.format.specs.Pairs.{plain, Marked, unmarked, fieldMark, pairMark, mark, unescape}
 use Rattle.format.specs.Fields.{fieldNamed, pairsSince, fieldSince, Given, given, isGiven, inOrder}
-use Rattle.format.specs.Descriptors.{descriptor, mayDescribe, hasNeeded, extentOf, isDetached}
+use Rattle.format.specs.Descriptors.{descriptor, mayDescribe, dimensionOf, hasNeeded, extentOf, isDetached}
 
 -- ---- what a line is
 
@@ -84,7 +84,7 @@ onField version gs (some f) rest =
     if ltb version (fieldSince f) then wrong notInVersion
     else if isGiven f gs then wrong repeatedField
     else if not (inOrder f gs) then wrong outOfOrder
-    else if not (mayDescribe gs f (descriptor f rest)) then wrong badDescriptor
+    else if not (mayDescribe (dimensionOf gs) f (descriptor f rest)) then wrong badDescriptor
     else right (field f (descriptor f rest))
 
 abbrev pub onMark : ℕ → List Given → Marked → Judged

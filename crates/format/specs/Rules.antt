@@ -13,7 +13,7 @@ use Rattle.format.specs.Limits.{maxFile, maxHeader, maxLines, maxExtent}
 use Rattle.format.specs.Lines.{Ending, lf, crlf, eof, Line, text, ending, lines}
 use Rattle.format.specs.Pairs.{plain, unescape}
 use Rattle.format.specs.Fields.{fieldNamed, pairsSince, fieldSince, Given, given, isGiven, needsDimension, needsSpace, dimension, type, encoding, endian, sizes, dataFile, space, spaceDimension}
-use Rattle.format.specs.Descriptors.{descriptor, mayDescribe, endianNeeded, typeOf, encodingOf, extentOf}
+use Rattle.format.specs.Descriptors.{descriptor, mayDescribe, endianNeeded, dimensionOf, typeOf, encodingOf, extentOf}
 use Rattle.format.specs.Header.{Item, magic, comment, field, pair, closing, Entry, entry, itemOf, linesOf, magicVersion, closes, headerLength}
 
 -- ---- one line after line 1
@@ -52,7 +52,7 @@ pub record FieldLine (version : ℕ) (gs : List Given) (t : List ℕ) (f : ℕ) 
   pub after-space : needsSpace f ≡ true → (isGiven space gs || isGiven spaceDimension gs) ≡ true
   -- its descriptor is the text after the mark, trimmed, and it is one that the field may have ("Understood fields", "Carried fields"; 11)
   pub descriptor-is : d ≡ descriptor f rest
-  pub described : mayDescribe gs f d ≡ true
+  pub described : mayDescribe (dimensionOf gs) f d ≡ true
 
 -- a line with the text t is the pair of the key k and the value v, in a header of this version
 pub record PairLine (version : ℕ) (t k v : List ℕ) : Type 0 where

@@ -17,7 +17,7 @@ use Rattle.format.specs.Refusals.{fine, badByte, notInVersion, repeatedField, o
 use Rattle.format.specs.Lines.{Line, line, text, size, lines, unlines}
 use Rattle.format.specs.Pairs.{plain, Marked, unmarked, fieldMark, pairMark, mark, escape, unescape}
 use Rattle.format.specs.Fields.{pairsSince, fieldSince, fieldNamed, Given, isGiven, inOrder}
-use Rattle.format.specs.Descriptors.{fromDescriptor, descriptor, mayDescribe}
+use Rattle.format.specs.Descriptors.{fromDescriptor, descriptor, mayDescribe, dimensionOf}
 use Rattle.format.specs.Header.{Item, magic, comment, field, pair, closing, Entry, entry, lineOf, linesOf, wrong, right, unescaped, onPair, onField, onMark, judge, headerLength, valueIn, valueOf}
 use Rattle.format.specs.Settings.{beginsFine}
 use Rattle.format.specs.Calls.{noPlace, foundAt, valuePlace, keyPlace, findKeyIn, findKeyCall, beforeDescriptor, descriptorPlace, fieldPlace, findFieldIn, findFieldCall}
@@ -70,7 +70,7 @@ module _ (version : ℕ) (gs : List Given) where
   unfolding onField
   field-right none rest i e = absurd (not-right e)
   field-right (some f) rest i e =
-      (f, refl, go (ltb version (fieldSince f)) (isGiven f gs) (inOrder f gs) (mayDescribe gs f (descriptor f rest)) e)
+      (f, refl, go (ltb version (fieldSince f)) (isGiven f gs) (inOrder f gs) (mayDescribe (dimensionOf gs) f (descriptor f rest)) e)
     where
       go : (a b c d : Bool)
           → (if a then wrong notInVersion else if b then wrong repeatedField else if not c then wrong outOfOrder

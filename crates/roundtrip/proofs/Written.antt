@@ -119,7 +119,7 @@ names =
 
 -- the line of an understood field that every version has, that is new and in order, with a descriptor that it may have
 field-line : (version : ℕ) (gs : List Given) (name : String) (f : ℕ) (d : List ℕ) → 1 ≤ version → NameOf name f → Text d
-    → (isUnderstood f ≡ true) × (fieldSince f ≡ 1) × (isGiven f gs ≡ false) × (inOrder f gs ≡ true) → mayDescribe gs f d ≡ true
+    → (isUnderstood f ≡ true) × (fieldSince f ≡ 1) × (isGiven f gs ≡ false) × (inOrder f gs ≡ true) → mayDescribe (dimensionOf gs) f d ≡ true
     → judge version gs (bytes name ++ (bytes ": " ++ d)) ≡ right (field f d)
 unfolding onField descriptor
 field-line version gs name f d v named text here may =
