@@ -5,7 +5,7 @@ use Prim.Native.String.{String}
 use mathlib.Core.Path.{_≡_, refl, sym, ap, _∙_}
 use mathlib.Core.Bool.{Bool, true, false, _&&_, _||_, false≢true}
 use mathlib.Core.List.{List, [], _∷_, _++_}
-use mathlib.Core.Option.{some}
+use mathlib.Core.Option.{Option, none, some}
 use native.Mathlib.Nat.{add-zero}
 use native.Mathlib.Omega.{arith}
 use lib.Dec.{eqb, ltb, leb}
@@ -165,3 +165,13 @@ module _ (p : ℕ → Bool) where
         → ((ns : List Name) → table ≡ packed ns → r ≡ rowAnswer (rowAmong s ns)) → table ≡ packed (namesFrom 0 rs)
         → r ≡ rowAnswer (rowOf s rs)
     row-named rs f e = f (namesFrom 0 rs) e ∙ ap rowAnswer (rows-from 0 rs)
+
+-- ---- the answers of the look-ups
+
+pub row-is : (o : Option ℕ) (n : ℕ) → Number n ≡ rowAnswer o → o ≡ some n
+row-is none n e = cc
+row-is (some m) n e = cc
+
+pub row-unknown : (o : Option ℕ) → Unknown ≡ rowAnswer o → o ≡ none
+row-unknown none e = refl
+row-unknown (some m) e = cc
