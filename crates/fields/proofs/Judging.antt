@@ -1,128 +1,39 @@
 -- Laws of what a line is: fields by number, the fields given, and the judgement along its tests.
 -- Assumes nothing.
 use Prim.Native.Nat.{ℕ, zero, suc, _+_, _-_, _≤_, _<_}
-use Prim.Native.String.{String}
-use native.Mathlib.Nat.{add-zero, zero-add, not-suc-le-zero, le-of-suc-le-suc}
 use native.Mathlib.Omega.{arith}
 use mathlib.Core.Path.{_≡_, refl, sym, ap, _∙_}
 use mathlib.Core.Bool.{Bool, true, false, not, _&&_, _||_}
 use mathlib.Core.List.{List, [], _∷_, map}
 use mathlib.Core.Option.{Option, none, some}
-use lib.Dec.{eqb, ltb, eqb·zero-suc, eqb·suc-suc}
+use lib.Dec.{ltb}
 use lib.ListN.{length, take, drop, getD, length-drop}
 use lib.Seq.{take-length}
-use borrow.Author.Tests.{eq-eqb, ne-eqb, eqb-true, eqb-false, lt-ltb, le-ltb}
-use Rattle.format.specs.Bytes.{if_then_else_, bytes, HASH, PERCENT, every, same, beginsWith, isIn, isEmpty, isAny, rowFrom, isSome}
-use Rattle.format.specs.Refusals.{badByte, noMark, notInVersion, repeatedField, outOfOrder, badBackslash}
+use borrow.Author.Tests.{eq-eqb, ne-eqb, lt-ltb, le-ltb}
+use Rattle.format.specs.Bytes.{if_then_else_, HASH, every, isSome}
+use Rattle.format.specs.Refusals.{badByte, noMark, unknownField, notInVersion, repeatedField, outOfOrder, badBackslash}
 use Rattle.format.specs.Pairs.{plain, mark, unescape}
-use Rattle.format.specs.Fields.{namesOf, fieldTable, fieldCount, fieldNamed, pairsSince, fieldSince, Given, isGiven, needsDimension, needsSpace, inOrder}
-use Rattle.format.specs.Descriptors.{trimEnd, fromDescriptor, descriptor, isName}
-use Rattle.format.specs.Header.{comment, closing, wrong, right, unescaped, onPair, onField, onMark, judge}
+use Rattle.format.specs.Fields.{fieldCount, fieldNamed, pairsSince, fieldSince, Given, isGiven, needsDimension, needsSpace, inOrder}
+use Rattle.format.specs.Descriptors.{trimEnd, fromDescriptor, descriptor, dimensionOf}
+use Rattle.format.specs.Header.{comment, closing, Judged, wrong, right, unescaped, onPair, onField, onMark, judge}
 use Rattle.format.proofs.Descriptors.{drop-to-descriptor, take-trimmed}
 use Rattle.text.specs.declared.lines.Mark.the-variants.{Field, Pair, Nothing}
-use Rattle.text.specs.declared.words.Row.the-variants.{Number, Unknown}
-use Rattle.text.specs.Places.{before, markPlace}
-use Rattle.text.specs.Rows.{rowAnswer}
+use Rattle.text.specs.Places.{markPlace}
 use Rattle.text.proofs.Places.{mark-split-field, mark-split-pair, mark-split-nothing}
-use Rattle.fields.specs.declared.state.State.{State}
-use Rattle.fields.specs.States.{flags, stateOf, Holds, described, stepOf, wrongOf}
+use Rattle.fields.specs.declared.state.Step.{Step}
+use Rattle.fields.specs.States.{flags, described, stepOf, stepped, wrongOf}
+use Rattle.fields.proofs.States.{flags-at}
+
 
 -- ---- the fields given, by number
 
-flags-from : (gs : List Given) (f n i : ℕ) → i < n → getD (flags f n gs) i false ≡ isGiven (f + i) gs
-unfolding flags
-flags-from gs f zero i h = absurd (not-suc-le-zero h)
-flags-from gs f (suc n) zero h = rw add-zero
-flags-from gs f (suc n) (suc i) h =
-    let e : f + suc i ≡ f + 1 + i = omega arith in
-    rw e (flags-from gs (f + 1) n i (le-of-suc-le-suc h))
-
-pub flags-at : (gs : List Given) (f : ℕ) → f < fieldCount → getD (flags 0 fieldCount gs) f false ≡ isGiven f gs
-flags-at gs f h = flags-from gs 0 fieldCount f h ∙ rw zero-add
-
--- the flags of a state are those of the fields given
-pub holds-flags : (st : State) (gs : List Given) → Holds st gs → st .given ≡ flags 0 fieldCount gs
-unfolding stateOf
-holds-flags st gs h = ap (λ (s : State). s .given) (h .is)
-
-pub holds-given : (st : State) (gs : List Given) → Holds st gs → (f : ℕ) → f < fieldCount → getD (st .given) f false ≡ isGiven f gs
-holds-given st gs h f l = rw (holds-flags st gs h) (flags-at gs f l)
-
 -- the order by the flags
 pub order-by-flags : (f : ℕ) (gs : List Given) {g : List Bool} {axes space : Bool}
-    → axes ≡ needsDimension f → space ≡ needsSpace f → g ≡ flags 0 fieldCount gs
+    → axes ≡ needsDimension f → space ≡ needsSpace f → g ≡ flags gs
     → ((not axes || getD g 0 false) && (not space || (getD g 16 false || getD g 17 false))) ≡ inOrder f gs
 unfolding inOrder
 order-by-flags f gs p q e =
     rw (e, p, q, flags-at gs 0 (omega arith), flags-at gs 16 (omega arith), flags-at gs 17 (omega arith))
-
--- ---- the field of a name is below their number
-
-abbrev Below : ℕ → Option ℕ → Type 0
-Below n none = Unit
-Below n (some f) = f < n
-
-row-below : (w : List ℕ) (rs : List (List String)) (i : ℕ) → Below (i + length rs) (rowFrom i w rs)
-unfolding rowFrom
-row-below w [] i = tt
-row-below w (r ∷ rs) i = go (isAny w r) (row-below w rs (i + 1))
-  where
-    go : (x : Bool) → Below (i + 1 + length rs) (rowFrom (i + 1) w rs)
-        → Below (i + suc (length rs)) (if x then some i else rowFrom (i + 1) w rs)
-    go true h = omega arith
-    go false h = let e : i + suc (length rs) ≡ i + 1 + length rs = omega arith in rw e h
-
-pub field-below : (name : List ℕ) (f : ℕ) → fieldNamed name ≡ some f → f < fieldCount
-field-below name f e = rw e at (row-below name (map namesOf fieldTable) 0)
-
--- the answers of the look-up
-pub row-number : (o : Option ℕ) (f : ℕ) → Number f ≡ rowAnswer o → o ≡ some f
-row-number none f e = cc
-row-number (some g) f e = cc
-
-pub row-unknown : (o : Option ℕ) → Unknown ≡ rowAnswer o → o ≡ none
-row-unknown none e = refl
-row-unknown (some g) e = cc
-
--- ---- the bytes of a name
-
-eqb-comm : (a b : ℕ) → eqb a b ≡ eqb b a
-eqb-comm a b = go (eqb a b) refl
-  where
-    go : (x : Bool) → eqb a b ≡ x → x ≡ eqb b a
-    go true e = sym (eq-eqb b a (sym (eqb-true a b e)))
-    go false e = sym (ne-eqb b a (λ q. eqb-false a b e (sym q)))
-
--- a byte is not in a text where all bytes stand before it
-pub not-in-text : (b : ℕ) (t : List ℕ) → not (isIn b t) ≡ eqb (before b t) (length t)
-unfolding isIn before
-not-in-text b [] = refl
-not-in-text b (c ∷ t) = rw (eqb-comm b c) (go (eqb c b) (not-in-text b t))
-  where
-    go : (x : Bool) → not (isIn b t) ≡ eqb (before b t) (length t)
-        → not (x || isIn b t) ≡ eqb (if x then 0 else suc (before b t)) (suc (length t))
-    go true h = sym (eqb·zero-suc (length t))
-    go false h = h ∙ sym (eqb·suc-suc (before b t) (length t))
-
--- a name along its tests
-pub name-empty : (t : List ℕ) → length t ≡ 0 → isName t ≡ false
-name-empty [] h = refl
-name-empty (b ∷ t) h = absurd (let z : ⊥ = omega arith in z)
-
-filled : (t : List ℕ) → (length t ≡ 0 → ⊥) → isEmpty t ≡ false
-filled [] h = absurd (h refl)
-filled (b ∷ t) h = refl
-
-module _ (t : List ℕ) (h : length t ≡ 0 → ⊥) where
-  pub name-list : same t (bytes "LIST") ≡ true → isName t ≡ false
-  name-list e = rw (filled t h, e)
-
-  module _ (e : same t (bytes "LIST") ≡ false) where
-    pub name-lists : beginsWith (bytes "LIST ") t ≡ true → isName t ≡ false
-    name-lists i = rw (filled t h, e, i)
-
-    pub name-pattern : beginsWith (bytes "LIST ") t ≡ false → isName t ≡ eqb (before PERCENT t) (length t)
-    name-pattern i = rw (filled t h, e, i) (not-in-text PERCENT t)
 
 -- ---- descriptors
 
@@ -166,22 +77,29 @@ module _ (version : ℕ) (v : List ℕ) where
       go (some a) none = refl
       go (some a) (some c) = refl
 
--- a pair's step: the fields given stay
-pub pair-step : (version : ℕ) (gs : List Given) (k v : List ℕ)
-    → stepOf version gs (wrong (wrongOf (onPair version k v))) ≡ stepOf version gs (onPair version k v)
+-- a pair's step: it gives no field
+pub pair-step : (version : ℕ) (ns k v : List ℕ) → stepped (wrong (wrongOf (onPair version k v))) ns ≡ stepped (onPair version k v) ns
 unfolding onPair
-pair-step version gs [] v = refl
-pair-step version gs (b ∷ k) v = go (ltb version pairsSince) (unescape (b ∷ k)) (unescape v)
+pair-step version ns [] v = refl
+pair-step version ns (b ∷ k) v = go (ltb version pairsSince) (unescape (b ∷ k)) (unescape v)
   where
     go : (x : Bool) (o q : Option (List ℕ))
-        → stepOf version gs (wrong (wrongOf (if x then wrong notInVersion else unescaped o q)))
-        ≡ stepOf version gs (if x then wrong notInVersion else unescaped o q)
+        → stepped (wrong (wrongOf (if x then wrong notInVersion else unescaped o q))) ns ≡ stepped (if x then wrong notInVersion else unescaped o q) ns
     go true o q = refl
     go false none q = refl
     go false (some a) none = refl
     go false (some a) (some c) = refl
 
+-- ---- refused, or right without a field: the sizes stay
+
+pub refuses : {r : Step} {w : ℕ} {j : Judged} (ns : List ℕ) → r ≡ stepOf (wrong w) → j ≡ wrong w → _≡_ {A = Step × List ℕ} (r, ns) (stepped j ns)
+refuses ns e q = rw (e, q)
+
 -- ---- a field along its tests
+
+pub field-unknown : (version : ℕ) (gs : List Given) (rest : List ℕ) {o : Option ℕ} → o ≡ none → onField version gs o rest ≡ wrong unknownField
+unfolding onField
+field-unknown version gs rest e = rw e
 
 module _ (version : ℕ) (gs : List Given) (f : ℕ) (rest : List ℕ) where
   pub field-old : version < fieldSince f → onField version gs (some f) rest ≡ wrong notInVersion
@@ -198,7 +116,7 @@ module _ (version : ℕ) (gs : List Given) (f : ℕ) (rest : List ℕ) where
     field-early g o = rw (le-ltb version (fieldSince f) n, g, o)
 
     pub field-here : isGiven f gs ≡ false → inOrder f gs ≡ true
-        → onField version gs (some f) rest ≡ described gs f (descriptor f rest)
+        → onField version gs (some f) rest ≡ described (dimensionOf gs) f (descriptor f rest)
     unfolding onField
     field-here g o = rw (le-ltb version (fieldSince f) n, g, o)
 

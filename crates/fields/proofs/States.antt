@@ -1,7 +1,8 @@
--- Laws of the reader's state: what one more field makes of it, what the header's end makes of it, and what the walk keeps.
+-- Laws of what the reader keeps: what one more field makes of it, what the header's end makes of it, and what the walk keeps.
 -- Assumes nothing.
-use Prim.Native.Nat.{ℕ, zero, suc, _+_, _*_, _≤_, _<_, _-_}
-use native.Mathlib.Nat.{mul-comm}
+use Prim.Native.Nat.{ℕ, zero, suc, _+_, _≤_, _<_, _-_}
+use Prim.Native.String.{String}
+use native.Mathlib.Nat.{add-zero, zero-add, not-suc-le-zero, le-of-suc-le-suc}
 use native.Mathlib.Omega.{arith}
 use mathlib.Core.Path.{_≡_, refl, sym, ap, _∙_}
 use mathlib.Core.Bool.{Bool, true, false, not, _&&_, _||_, false≢true}
@@ -10,207 +11,122 @@ use mathlib.Core.Option.{Option, none, some}
 use lib.Dec.{eqb, ltb, leb}
 use lib.ListN.{length, replicate, take, getD, set, length-map}
 use lib.Seq.{take-at}
-use borrow.Author.Tests.{ltb-true, lt-ltb, le-ltb, le-leb, lt-leb, leb-true, leb-false, eqb-true, eqb-false, eq-eqb, ne-eqb}
+use borrow.Author.Tests.{lt-ltb, le-ltb, le-leb, leb-true, eqb-true, eqb-false, eq-eqb, ne-eqb}
 use mir.Val.{boolByte}
 use Rattle.format.specs.declared.Reading.{Reading}
-use Rattle.format.specs.Bytes.{isSome, orDefault, if_then_else_}
-use Rattle.format.specs.Limits.{maxAxes, maxSize, maxSkip, maxExtent}
+use Rattle.format.specs.Bytes.{isAny, rowFrom, orDefault, if_then_else_}
+use Rattle.format.specs.Limits.{maxAxes, maxSize, maxExtent}
 use Rattle.format.specs.Refusals.{badDescriptor, missingField, extentTooLarge, refusal, fine}
-use Rattle.format.specs.Fields.{Given, given, descriptorOf, fieldCount, fieldAt, isGiven, dimension, type, encoding, endian, sizes, lineSkip, byteSkip, dataFile}
-use Rattle.format.specs.Descriptors.{meaning, noEndian, number, numberIn, valueOfNumber, within, numbersIn, sizesFine, words, typeNamed, encodingNamed, endianNamed, isDetached, mayDescribe, dimensionOf, typeOf, sizesOf, sampleBytes, endianNeeded, hasNeeded, product, extentOf, capped}
-use Rattle.format.specs.Header.{Item, magic, comment, field, pair, closing, Entry, right, judge, refused, afterItem, versionOf, headerLength}
-use Rattle.format.specs.Rules.{FieldLine, Keeps}
-use Rattle.format.specs.Calls.{readAnswer, readingOf}
+use Rattle.format.specs.Fields.{namesOf, fieldTable, fieldAt, fieldCount, fieldNamed, Given, given, descriptorOf, isGiven, dimension, type, encoding, endian, sizes, lineSkip, byteSkip, dataFile}
+use Rattle.format.specs.Descriptors.{meaning, number, valueOfNumber, within, numbersIn, sizesFine, words, isDetached, mayDescribe, numberSaid, numberOf, dimensionOf, sizesSaid, sizesOf, endianNeeded, hasNeeded, extent, extentOf}
+use Rattle.format.specs.Header.{Item, magic, comment, field, pair, closing, Entry, wrong, right, judge, refused, afterItem, versionOf, headerLength}
+use Rattle.format.specs.Rules.{FieldLine, Keeps, fieldOf}
+use Rattle.format.specs.Calls.{readAnswer, padded, readingAt, readingOf}
 use Rattle.format.proofs.Bytes.{and-left, and-right}
 use Rattle.format.proofs.Judged.{judge-keeps}
 use Rattle.format.proofs.Rules.{needed-of}
-use Rattle.format.proofs.ProductLaws.{times-capped}
-use Rattle.text.specs.Numbers.{numberAnswer, noSizes, sizesAnswer}
-use Rattle.text.specs.Rows.{rowAnswer}
-use Rattle.text.specs.declared.numbers.Number.the-variants.{Value, Wrong}
+use Rattle.text.specs.Numbers.{noSizes, sizesAnswer}
 use Rattle.text.specs.declared.numbers.Sizes.{Sizes}
-use Rattle.text.specs.declared.words.Row.the-variants.{Number, Unknown}
-use Rattle.fields.specs.declared.state.State.{State}
-use Rattle.fields.specs.States.{flags, paddedSizes, stateOf, Kept, Holds, described, stepOf, completeNumber, readingAt, finished}
+use Rattle.read_descriptors.specs.declared.Checked.{Checked}
+use Rattle.read_descriptors.specs.Checked.{found, checked}
+use Rattle.read_descriptors.proofs.Checking.{sizes-fine}
+use Rattle.fields.specs.declared.state.Step.{Step}
+use Rattle.fields.specs.States.{each, flags, numbersOf, Kept, Holds, Known, described, fieldGiven, numberGiven, sizesGiven, stepped, keptAt, completeNumber, finished}
 
--- ---- the flags
+-- ---- flags and numbers
 
--- a field before the first of the flags changes none of them
-flags-before : (f n g : ℕ) (d : List ℕ) (gs : List Given) → g < f → flags f n (given g d ∷ gs) ≡ flags f n gs
-unfolding flags descriptorOf
-flags-before f zero g d gs h = refl
-flags-before f (suc n) g d gs h = rw (ne-eqb f g (omega arith), flags-before (f + 1) n g d gs (omega arith))
+-- fields from f on of which v and w say the same
+each-same : {A : Type 0} (v w : ℕ → A) (f n : ℕ) → ((g : ℕ) → f ≤ g → v g ≡ w g) → each v f n ≡ each w f n
+unfolding each
+each-same v w f zero h = refl
+each-same v w f (suc n) h = rw (h f (omega arith), each-same v w (f + 1) n (λ g l. h g (omega arith)))
 
--- a field sets its own flag
-flags-set : (f n i g : ℕ) (d : List ℕ) (gs : List Given) → g ≡ f + i → i < n → flags f n (given g d ∷ gs) ≡ set (flags f n gs) i true
-unfolding flags descriptorOf
-flags-set f zero i g d gs e h = absurd (omega arith)
-flags-set f (suc n) zero g d gs e h = rw (eq-eqb f g (omega arith), flags-before (f + 1) n g d gs (omega arith))
-flags-set f (suc n) (suc i) g d gs e h = rw (ne-eqb f g (omega arith), flags-set (f + 1) n i g d gs (omega arith) (omega arith))
+-- one field of which w says x, and the others as v does
+each-set : {A : Type 0} (v w : ℕ → A) (x : A) (f n i g : ℕ) → ((k : ℕ) → (k ≡ g → ⊥) → w k ≡ v k) → w g ≡ x → g ≡ f + i → i < n
+    → each w f n ≡ set (each v f n) i x
+unfolding each
+each-set v w x f zero i g h e p l = absurd (omega arith)
+each-set v w x f (suc n) zero g h e p l =
+    let q : f ≡ g = omega arith in
+    rw (q, e, each-same w v (g + 1) n (λ k m. h k (omega arith)))
+each-set v w x f (suc n) (suc i) g h e p l =
+    rw (h f (omega arith), each-set v w x (f + 1) n i g h e (omega arith) (omega arith))
 
--- ---- the state once one more field is given
+-- what v says of a field
+each-from : {A : Type 0} (v : ℕ → A) (d : A) (f n i : ℕ) → i < n → getD (each v f n) i d ≡ v (f + i)
+unfolding each
+each-from v d f zero i h = absurd (not-suc-le-zero h)
+each-from v d f (suc n) zero h = rw add-zero
+each-from v d f (suc n) (suc i) h =
+    let e : f + suc i ≡ f + 1 + i = omega arith in
+    rw e (each-from v d (f + 1) n i (le-of-suc-le-suc h))
 
--- the value of the field g once the field f is given: a new one where they are the same
-abbrev pub valueBy : {A : Type 0} → ℕ → ℕ → A → A → A
-valueBy g f new old = if eqb g f then new else old
+each-at : {A : Type 0} (v : ℕ → A) (d : A) (f : ℕ) → f < fieldCount → getD (each v 0 fieldCount) f d ≡ v f
+each-at v d f h = each-from v d 0 fieldCount f h ∙ rw zero-add
 
--- sizes, 0 past the last axis
-abbrev padded : List ℕ → List ℕ
-padded ns = ns ++ replicate (maxAxes - length ns) 0
+pub flags-at : (gs : List Given) (f : ℕ) → f < fieldCount → getD (flags gs) f false ≡ isGiven f gs
+flags-at gs f h = each-at (λ g. isGiven g gs) false f h
 
--- the state once the field f is given with the descriptor d
-abbrev pub after : State → ℕ → List ℕ → State
-after st f d =
-    record {
-      version = st .version;
-      given = set (st .given) f true;
-      dimension = valueBy dimension f (valueOfNumber d) (st .dimension);
-      sampletype = valueBy type f (orDefault 0 (typeNamed d)) (st .sampletype);
-      encoding = valueBy encoding f (orDefault 0 (encodingNamed d)) (st .encoding);
-      endian = valueBy endian f (orDefault noEndian (endianNamed d)) (st .endian);
-      sizes = valueBy sizes f (padded (map valueOfNumber (words d))) (st .sizes);
-      lineskip = valueBy lineSkip f (valueOfNumber d) (st .lineskip);
-      byteskip = valueBy byteSkip f (valueOfNumber d) (st .byteskip);
-    }
+-- the flag of a field
+pub given-at : {marks : List Bool} {n : ℕ} {gs : List Given} → Known marks n gs → (f : ℕ) → f < fieldCount → getD marks f false ≡ isGiven f gs
+given-at {marks} {n} {gs} h f l = rw (h .marks-are) (flags-at gs f l)
 
--- the state with the flag of the field f set
-abbrev pub marked : State → ℕ → State
-marked st f =
-    record {
-      version = st .version;
-      given = set (st .given) f true;
-      dimension = st .dimension;
-      sampletype = st .sampletype;
-      encoding = st .encoding;
-      endian = st .endian;
-      sizes = st .sizes;
-      lineskip = st .lineskip;
-      byteskip = st .byteskip;
-    }
+-- ---- one field more: it sets its flag and its number, and sizes set the sizes
 
--- the meaning of the field g once the field f is given
-meaning-after : {A : Type 0} (g f : ℕ) (none-given : A) (m : List ℕ → A) (d : List ℕ) (gs : List Given)
-    → meaning none-given m (descriptorOf g (given f d ∷ gs)) ≡ valueBy g f (m d) (meaning none-given m (descriptorOf g gs))
-unfolding descriptorOf
-meaning-after g f z m d gs = go (eqb g f)
-  where
-    go : (x : Bool) → meaning z m (if x then some d else descriptorOf g gs) ≡ (if x then m d else meaning z m (descriptorOf g gs))
-    go true = refl
-    go false = refl
+module _ (f : ℕ) (d : List ℕ) (gs : List Given) where
+  other-descriptor : (g : ℕ) → (g ≡ f → ⊥) → descriptorOf g (given f d ∷ gs) ≡ descriptorOf g gs
+  unfolding descriptorOf
+  other-descriptor g h = rw (ne-eqb g f h)
 
-sizes-after : (f : ℕ) (d : List ℕ) (gs : List Given)
-    → paddedSizes (given f d ∷ gs) ≡ valueBy sizes f (padded (map valueOfNumber (words d))) (paddedSizes gs)
-unfolding descriptorOf
-sizes-after f d gs = go (eqb sizes f)
-  where
-    ns : Bool → List ℕ
-    ns x = meaning [] (λ t. map valueOfNumber (words t)) (if x then some d else descriptorOf sizes gs)
+  own-descriptor : descriptorOf f (given f d ∷ gs) ≡ some d
+  unfolding descriptorOf
+  own-descriptor = rw (eq-eqb f f refl)
 
-    go : (x : Bool) → padded (ns x) ≡ (if x then padded (map valueOfNumber (words d)) else paddedSizes gs)
-    go true = refl
-    go false = refl
+  flags-after : f < fieldCount → flags (given f d ∷ gs) ≡ set (flags gs) f true
+  flags-after h =
+      each-set (λ g. isGiven g gs) (λ g. isGiven g (given f d ∷ gs)) true 0 fieldCount f f
+      (λ g n. rw (other-descriptor g n)) (rw own-descriptor) (omega arith) h
 
-after-state : (version : ℕ) (gs : List Given) (f : ℕ) (d : List ℕ) → f < fieldCount
-    → after (stateOf version gs) f d ≡ stateOf version (given f d ∷ gs)
-unfolding stateOf
-after-state version gs f d b = sym λ i.
-    record {
-      version = version;
-      given = flags-set 0 fieldCount f f d gs (omega arith) b i;
-      dimension = meaning-after dimension f 0 valueOfNumber d gs i;
-      sampletype = meaning-after type f 0 (λ t. orDefault 0 (typeNamed t)) d gs i;
-      encoding = meaning-after encoding f 0 (λ t. orDefault 0 (encodingNamed t)) d gs i;
-      endian = meaning-after endian f noEndian (λ t. orDefault noEndian (endianNamed t)) d gs i;
-      sizes = sizes-after f d gs i;
-      lineskip = meaning-after lineSkip f 0 valueOfNumber d gs i;
-      byteskip = meaning-after byteSkip f 0 valueOfNumber d gs i;
-    }
+  numbers-after : f < fieldCount → numbersOf (given f d ∷ gs) ≡ set (numbersOf gs) f (numberSaid f d)
+  numbers-after h =
+      each-set (λ g. numberOf g gs) (λ g. numberOf g (given f d ∷ gs)) (numberSaid f d) 0 fieldCount f f
+      (λ g n. rw (other-descriptor g n)) (rw own-descriptor) (omega arith) h
+
+  sizes-after : padded (sizesOf (given f d ∷ gs)) ≡ sizesGiven (given f d ∷ []) (padded (sizesOf gs))
+  unfolding descriptorOf
+  sizes-after = go (eqb sizes f)
+    where
+      go : (x : Bool) → padded (meaning [] sizesSaid (if x then some d else descriptorOf sizes gs)) ≡ (if x then padded (sizesSaid d) else padded (sizesOf gs))
+      go true = refl
+      go false = refl
 
 -- ---- a field with its descriptor, refused or taken
 
-module _ {st : State} {gs : List Given} (h : Holds st gs) (f : ℕ) (t : List ℕ) where
-  -- refused: nothing changes
-  pub refused-is : mayDescribe gs f t ≡ false
-      → record { wrong = badDescriptor; closes = false; state = st } ≡ stepOf (st .version) gs (described gs f t)
-  refused-is e = rw e (ap (λ (s : State). record { wrong = badDescriptor; closes = false; state = s }) (h .is))
+module _ (n f : ℕ) (t : List ℕ) where
+  pub descriptor-wrong : mayDescribe n f t ≡ false → described n f t ≡ wrong badDescriptor
+  descriptor-wrong e = rw e
 
-  -- taken
-  pub taken-is : f < fieldCount → mayDescribe gs f t ≡ true
-      → record { wrong = 0; closes = false; state = after st f t } ≡ stepOf (st .version) gs (described gs f t)
-  taken-is b e =
-      rw e
-      (ap (λ (s : State). record { wrong = 0; closes = false; state = s })
-      (ap (λ (s : State). after s f t) (h .is) ∙ after-state (st .version) gs f t b))
+  -- taken, by the checker's answer
+  module _ (x : Checked) (e : x ≡ checked n f t) where
+    pub check-wrong : x .fine ≡ false → described n f t ≡ wrong badDescriptor
+    check-wrong h = descriptor-wrong (sym (ap (λ (y : Checked). y .fine) e) ∙ h)
 
--- a carried field changes only its flag
-pub carried-is : {st : State} {gs : List Given} → Holds st gs → (f : ℕ) (t : List ℕ) → 8 ≤ f → f < fieldCount
-    → record { wrong = 0; closes = false; state = marked st f } ≡ stepOf (st .version) gs (described gs f t)
-unfolding mayDescribe
-carried-is {st} {gs} h f t l b =
-    let e : (g : ℕ) → ltb g 8 ≡ true → eqb g f ≡ false = λ g u. ne-eqb g f (omega (arith, ltb-true)) in
-    let d : (g : ℕ) → ltb g 8 ≡ true → eqb f g ≡ false = λ g u. ne-eqb f g (omega (arith, ltb-true)) in
-    let a : after st f t ≡ marked st f = rw (e 0 refl, e 1 refl, e 2 refl, e 3 refl, e 4 refl, e 5 refl, e 6 refl) in
-    let m : mayDescribe gs f t ≡ true = rw (d 0 refl, d 1 refl, d 2 refl, d 3 refl, d 4 refl, d 5 refl, d 6 refl, d 7 refl) in
-    rw a at (taken-is h f t b m)
-
--- ---- what the answers of the leaves say of a descriptor
-
-pub number-is : (o : Option ℕ) (n : ℕ) → Value n ≡ numberAnswer o → (o ≡ some n) × (n ≤ maxSize)
-number-is none n e = let z : _≡_ {A = ℕ} 0 1 = cc in absurd (omega arith)
-number-is (some m) n e = go (leb m maxSize) refl e
-  where
-    go : (x : Bool) → leb m maxSize ≡ x → Value n ≡ (if x then Value m else Wrong) → (some m ≡ some n) × (n ≤ maxSize)
-    go true f e = let g : n ≡ m = cc in (cc, omega (arith, leb-true))
-    go false f e = let z : _≡_ {A = ℕ} 0 1 = cc in absurd (omega arith)
-
-pub number-wrong : (o : Option ℕ) → Wrong ≡ numberAnswer o → (least most : ℕ) → most ≤ maxSize → within least most o ≡ false
-number-wrong none e least most h = refl
-number-wrong (some m) e least most h = go (leb m maxSize) refl e
-  where
-    above : (x : Bool) → (x && false) ≡ false
-    above true = refl
-    above false = refl
-
-    go : (x : Bool) → leb m maxSize ≡ x → Wrong ≡ (if x then Value m else Wrong) → within least most (some m) ≡ false
-    go true f e = cc
-    go false f e = let g = leb-false m maxSize f in rw (lt-leb m most (omega arith)) (above (leb least m))
-
-row-is : (o : Option ℕ) (n : ℕ) → Number n ≡ rowAnswer o → o ≡ some n
-row-is none n e = cc
-row-is (some m) n e = cc
-
-row-unknown : (o : Option ℕ) → Unknown ≡ rowAnswer o → o ≡ none
-row-unknown none e = refl
-row-unknown (some m) e = cc
-
--- the step where a field with this descriptor is refused, and where it is taken: what the number that is read, or the row of a word, tells
-module _ {st : State} {gs : List Given} (h : Holds st gs) (f : ℕ) (t : List ℕ) where
-  -- a field whose descriptor is a number up to the limit of a skip
-  pub skip-taken : mayDescribe gs f t ≡ numberIn 0 maxSkip t → f < fieldCount → {n : ℕ} → Value n ≡ numberAnswer (number t)
-      → (valueOfNumber t ≡ n) × (record { wrong = 0; closes = false; state = after st f t } ≡ stepOf (st .version) gs (described gs f t))
-  skip-taken may b {n} e =
-      let k = number-is (number t) n e in
-      (ap (orDefault 0) (k .0), taken-is h f t b (may ∙ rw (k .0, le-leb 0 n (omega arith), le-leb n maxSkip (k .1))))
-
-  pub skip-refused : mayDescribe gs f t ≡ numberIn 0 maxSkip t → Wrong ≡ numberAnswer (number t)
-      → record { wrong = badDescriptor; closes = false; state = st } ≡ stepOf (st .version) gs (described gs f t)
-  skip-refused may e = refused-is h f t (may ∙ number-wrong (number t) e 0 maxSkip (omega arith))
-
-  -- a field whose descriptor is a word with a row
-  pub word-taken : (o : Option ℕ) → mayDescribe gs f t ≡ isSome o → f < fieldCount → {n : ℕ} → Number n ≡ rowAnswer o
-      → (o ≡ some n) × (record { wrong = 0; closes = false; state = after st f t } ≡ stepOf (st .version) gs (described gs f t))
-  word-taken o may b {n} e = let k = row-is o n e in (k, taken-is h f t b (may ∙ rw k))
-
-  pub word-refused : (o : Option ℕ) → mayDescribe gs f t ≡ isSome o → Unknown ≡ rowAnswer o
-      → record { wrong = badDescriptor; closes = false; state = st } ≡ stepOf (st .version) gs (described gs f t)
-  word-refused o may e = refused-is h f t (may ∙ rw (row-unknown o e))
+    pub check-fine : (f ≡ sizes → ⊥) → x .fine ≡ true → (ns : List ℕ)
+        → _≡_ {A = Step × List ℕ} (record { wrong = 0; closes = false; field = f; number = x .number }, ns) (stepped (described n f t) ns)
+    check-fine s h ns = go (mayDescribe n f t) e
+      where
+        go : (b : Bool) → x ≡ found b (numberSaid f t)
+            → _≡_ {A = Step × List ℕ} (record { wrong = 0; closes = false; field = f; number = x .number }, ns)
+            (stepped (if not b then wrong badDescriptor else right (field f t)) ns)
+        go true q = rw (ne-eqb sizes f (λ z. s (sym z)), q)
+        go false q = absurd (false≢true (sym (ap (λ (y : Checked). y .fine) q) ∙ h))
 
 -- fine sizes are as many as asked
 fine-length : (n : ℕ) (ws : List (List ℕ)) → sizesFine n ws ≡ true → length ws ≡ n
 fine-length n ws e = eqb-true (length ws) n (and-left (eqb (length ws) n) (numbersIn 1 maxSize ws) e)
 
 module _ (n : ℕ) (ws : List (List ℕ)) (r : Sizes) (e : r ≡ sizesAnswer n ws) (h : n ≤ maxAxes) where
-  pub sizes-are : r .fine ≡ true → (sizesFine n ws ≡ true) × (r .sizes ≡ padded (map valueOfNumber ws))
+  sizes-are : r .fine ≡ true → (sizesFine n ws ≡ true) × (r .sizes ≡ padded (map valueOfNumber ws))
   unfolding sizesAnswer
   sizes-are f = go (sizesFine n ws) refl (rw (le-leb n maxAxes h) at e)
     where
@@ -222,76 +138,75 @@ module _ (n : ℕ) (ws : List (List ℕ)) (r : Sizes) (e : r ≡ sizesAnswer n w
           (refl, rw k (ap (λ (y : Sizes). y .sizes) e))
       go false s e = absurd (false≢true (sym (ap (λ (y : Sizes). y .fine) e) ∙ f))
 
-  pub sizes-wrong : r .fine ≡ false → sizesFine n ws ≡ false
-  unfolding sizesAnswer
-  sizes-wrong f = go (sizesFine n ws) (rw (le-leb n maxAxes h) at e)
-    where
-      go : (x : Bool) → r ≡ (if x then record { fine = true; sizes = map valueOfNumber ws ++ replicate (maxAxes - n) 0 } else noSizes)
-          → x ≡ false
-      go true e = sym (ap (λ (y : Sizes). y .fine) e) ∙ f
-      go false e = refl
+-- sizes, by what is read
+module _ (n f : ℕ) (t : List ℕ) (q : f ≡ sizes) (r : Sizes) (e : r ≡ sizesAnswer n (words t)) (h : n ≤ maxAxes) where
+  pub sizes-wrong : r .fine ≡ false → described n f t ≡ wrong badDescriptor
+  unfolding mayDescribe
+  sizes-wrong w = rw q (descriptor-wrong n sizes t (sym (sizes-fine n (words t) r e h) ∙ w))
+
+  pub sizes-taken : r .fine ≡ true → (ns : List ℕ)
+      → _≡_ {A = Step × List ℕ} (record { wrong = 0; closes = false; field = f; number = 0 }, r .sizes) (stepped (described n f t) ns)
+  unfolding mayDescribe
+  sizes-taken w ns = let d = sizes-are n (words t) r e h w in rw (q, d .0, d .1)
 
 -- ---- the end of the header
 
--- what the state says of `hasNeeded`
-abbrev pub neededBy : State → Bool
-neededBy st =
-    let g : ℕ → Bool = λ f. getD (st .given) f false in
-    g dimension && (g type && (g encoding && (g sizes && (g endian || not (endianNeeded (st .sampletype) (st .encoding))))))
+-- what the flags and numbers say of `hasNeeded`
+abbrev pub neededBy : List Bool → List ℕ → Bool
+neededBy marks numbers =
+    let g : ℕ → Bool = λ f. getD marks f false in
+    let n : ℕ → ℕ = λ f. getD numbers f 0 in
+    g dimension && (g type && (g encoding && (g sizes && (g endian || not (endianNeeded (n type) (n encoding))))))
 
-module _ {st : State} {gs : List Given} (h : Holds st gs) where
-  -- the needed fields, sizes among them
-  pub needed-is : neededBy st ≡ hasNeeded gs
-  unfolding stateOf flags hasNeeded
-  needed-is = ap neededBy (h .is)
+pub needed-is : (gs : List Given) {marks : List Bool} {numbers : List ℕ} → marks ≡ flags gs → numbers ≡ numbersOf gs
+    → neededBy marks numbers ≡ hasNeeded gs
+unfolding each hasNeeded
+needed-is gs a b = rw (a, b)
 
-  pub needs-sizes : hasNeeded gs ≡ true → isGiven sizes gs ≡ true
-  needs-sizes e = needed-of gs e .has-sizes
+pub needs-sizes : (gs : List Given) → hasNeeded gs ≡ true → isGiven sizes gs ≡ true
+needs-sizes gs e = needed-of gs e .has-sizes
 
-  -- the sizes of the axes
-  pub sizes-of-axes : isGiven sizes gs ≡ true → take (st .dimension) (st .sizes) ≡ sizesOf gs
-  unfolding stateOf
-  sizes-of-axes e =
-      let n : st .dimension ≡ dimensionOf gs = ap (λ (s : State). s .dimension) (h .is) in
-      let z : st .sizes ≡ paddedSizes gs = ap (λ (s : State). s .sizes) (h .is) in
-      rw (n, z) (take-at (sizesOf gs) (replicate (maxAxes - length (sizesOf gs)) 0) (dimensionOf gs) (h .kept .sized e))
-
-  -- the extent
-  pub extent-is : isGiven sizes gs ≡ true
-      → capped (sampleBytes (st .sampletype) * capped (product (take (st .dimension) (st .sizes)))) ≡ capped (extentOf gs)
-  unfolding stateOf
-  extent-is e =
-      let t : st .sampletype ≡ typeOf gs = ap (λ (s : State). s .sampletype) (h .is) in
-      rw (sizes-of-axes e, times-capped, t, mul-comm (sampleBytes (typeOf gs)) (product (sizesOf gs)))
-
--- the reading by the state, with the extent x
-abbrev pub readingBy : State → ℕ → ℕ → ℕ → Reading
-readingBy st x bytes count =
+-- the reading by the flags, numbers and sizes, with the extent x
+abbrev pub readingBy : ℕ → List Bool → List ℕ → List ℕ → ℕ → ℕ → ℕ → Reading
+readingBy version marks numbers ns x bytes count =
+    let n : ℕ → ℕ = λ f. getD numbers f 0 in
     record {
-      version = st .version;
-      form = boolByte (getD (st .given) dataFile false);
-      dimension = st .dimension;
-      sampletype = st .sampletype;
-      encoding = st .encoding;
-      endian = st .endian;
-      sizes = st .sizes;
-      lineskip = st .lineskip;
-      byteskip = st .byteskip;
+      version = version;
+      form = boolByte (getD marks dataFile false);
+      dimension = n dimension;
+      sampletype = n type;
+      encoding = n encoding;
+      endian = n endian;
+      sizes = ns;
+      lineskip = n lineSkip;
+      byteskip = n byteSkip;
       extent = x;
       length = bytes;
       lines = count;
     }
 
--- the reading that the state makes
-pub reading-is : {st : State} {gs : List Given} → Holds st gs → (x bytes count : ℕ) → x ≡ extentOf gs
-    → readingBy st x bytes count ≡ readingAt (st .version) gs bytes count
-unfolding stateOf flags readingAt
-reading-is {st} {gs} h x bytes count e =
-    ap (λ (s : State). readingBy s x bytes count) (h .is) ∙ rw (e, form-of (isDetached gs))
-  where
-    form-of : (b : Bool) → boolByte b ≡ (if b then 1 else 0)
-    form-of true = refl
-    form-of false = refl
+module _ {marks : List Bool} {numbers ns : List ℕ} {gs : List Given} (h : Holds marks numbers ns gs) where
+  -- a number that is kept
+  pub number-at : (f : ℕ) → f < fieldCount → getD numbers f 0 ≡ numberOf f gs
+  number-at f l = rw (h .numbers-are) (each-at (λ g. numberOf g gs) 0 f l)
+
+  pub axes-at : getD numbers dimension 0 ≤ maxAxes
+  axes-at = rw (number-at dimension (omega arith)) (h .kept .axes)
+
+  -- the extent
+  pub extent-is : isGiven sizes gs ≡ true → extent (take (getD numbers dimension 0) ns) (getD numbers type 0) ≡ extentOf gs
+  extent-is e =
+      let s = take-at (sizesOf gs) (replicate (maxAxes - length (sizesOf gs)) 0) (dimensionOf gs) (h .kept .sized e) in
+      rw (number-at dimension (omega arith), number-at type (omega arith), h .sizes-are, s)
+
+  -- the reading that they make
+  pub reading-is : (version x bytes count : ℕ) → x ≡ extentOf gs → readingBy version marks numbers ns x bytes count ≡ readingAt version gs bytes count
+  unfolding each
+  reading-is version x bytes count e = rw (h .marks-are, h .numbers-are, h .sizes-are, e, form-of (isDetached gs))
+    where
+      form-of : (b : Bool) → boolByte b ≡ (if b then 1 else 0)
+      form-of true = refl
+      form-of false = refl
 
 module _ (version : ℕ) (gs : List Given) (bytes count : ℕ) where
   -- the answer: a field is missing, the extent is too large, or nothing is refused
@@ -311,7 +226,7 @@ module _ (version : ℕ) (gs : List Given) (bytes count : ℕ) where
 
 -- the reading of an accepted header, by its fields
 pub reading-at : (es : List Entry) (gs : List Given) → readingOf es gs ≡ readingAt (versionOf es) gs (headerLength es) (length es)
-unfolding readingOf readingAt
+unfolding readingOf
 reading-at es gs = refl
 
 -- ---- what the walk keeps
@@ -357,6 +272,25 @@ module _ (version : ℕ) {gs : List Given} (d : List ℕ) (k : Kept gs) where
         sized = λ e. rw (p, q) (k .sized (rw q at e));
       }
 
+-- ---- the field of a name is below their number
+
+abbrev Below : ℕ → Option ℕ → Type 0
+Below n none = Unit
+Below n (some f) = f < n
+
+row-below : (w : List ℕ) (rs : List (List String)) (i : ℕ) → Below (i + length rs) (rowFrom i w rs)
+unfolding rowFrom
+row-below w [] i = tt
+row-below w (r ∷ rs) i = go (isAny w r) (row-below w rs (i + 1))
+  where
+    go : (x : Bool) → Below (i + 1 + length rs) (rowFrom (i + 1) w rs)
+        → Below (i + suc (length rs)) (if x then some i else rowFrom (i + 1) w rs)
+    go true h = omega arith
+    go false h = let e : i + suc (length rs) ≡ i + 1 + length rs = omega arith in rw e h
+
+pub field-below : (name : List ℕ) (f : ℕ) → fieldNamed name ≡ some f → f < fieldCount
+field-below name f e = rw e at (row-below name (map namesOf fieldTable) 0)
+
 kept-field : (version : ℕ) {gs : List Given} {t : List ℕ} (f : ℕ) (d : List ℕ) → Kept gs → FieldLine version gs t f d → Kept (given f d ∷ gs)
 kept-field version {gs} {t} f d k h = go (eqb dimension f) refl (eqb sizes f) refl
   where
@@ -376,9 +310,34 @@ kept-next version gs t i k e = go i (judge-keeps version gs t e)
     go (pair x v) s = k
     go closing s = k
 
--- a state that is that of the fields given
-pub holds-of : (version : ℕ) {st : State} {gs : List Given} → st ≡ stateOf version gs → Kept gs → Holds st gs
-unfolding stateOf
-holds-of version {st} {gs} e k =
-    let v : st .version ≡ version = ap (λ (s : State). s .version) e in
-    record { is = e ∙ ap (λ (n : ℕ). stateOf n gs) (sym v); kept = k }
+-- ---- what is kept once a line is read
+
+-- no field is given
+pub holds-none : Holds (flags []) (numbersOf []) (padded []) []
+unfolding descriptorOf
+holds-none = record { marks-are = refl; numbers-are = refl; sizes-are = refl; kept = kept-none }
+
+-- what is kept once a line is read: the field of its step
+abbrev pub HoldsAfter : List Bool → List ℕ → List ℕ → List Given → Item → Type 0
+HoldsAfter marks numbers ns gs i =
+    Holds (keptAt (fieldGiven (fieldOf i)) true marks) (keptAt (fieldGiven (fieldOf i)) (numberGiven (fieldOf i)) numbers)
+    (sizesGiven (fieldOf i) ns) (afterItem i gs)
+
+pub holds-next : (version : ℕ) {marks : List Bool} {numbers ns : List ℕ} {gs : List Given} (t : List ℕ) (i : Item)
+    → Holds marks numbers ns gs → judge version gs t ≡ right i → HoldsAfter marks numbers ns gs i
+holds-next version {marks} {numbers} {ns} {gs} t i h e = go i (judge-keeps version gs t e)
+  where
+    go : (i : Item) → Keeps version gs t i → HoldsAfter marks numbers ns gs i
+    go (magic n) s = h
+    go comment s = h
+    go (pair x v) s = h
+    go closing s = h
+    go (field f d) s =
+        let b = field-below (s .name) f (s .named) in
+        let l = lt-ltb f fieldCount b in
+        record {
+          marks-are = rw (l, h .marks-are) (sym (flags-after f d gs b));
+          numbers-are = rw (l, h .numbers-are) (sym (numbers-after f d gs b));
+          sizes-are = rw (h .sizes-are) (sym (sizes-after f d gs));
+          kept = kept-field version f d (h .kept) s;
+        }

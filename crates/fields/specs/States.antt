@@ -1,45 +1,33 @@
--- The reader's state and steps, by the fields given so far.
+-- What the reader keeps of the fields given so far, and its steps.
 use Prim.Native.Nat.{ℕ, zero, suc, _+_, _-_, _≤_}
 use mathlib.Core.Path.{_≡_}
 use mathlib.Core.Bool.{Bool, true, false, not}
-use mathlib.Core.List.{List, [], _∷_, _++_}
+use mathlib.Core.List.{List, [], _∷_}
 use lib.Dec.{ltb, eqb}
-use lib.ListN.{length, replicate}
-use Rattle.format.specs.declared.Reading.{Reading}
+use lib.ListN.{length, set}
 use Rattle.format.specs.declared.ReadAnswer.{ReadAnswer}
 use Rattle.format.specs.Bytes.{if_then_else_}
 use Rattle.format.specs.Limits.{maxAxes, maxExtent}
 use Rattle.format.specs.Refusals.{badDescriptor, missingField, extentTooLarge, refusal, fine}
-use Rattle.format.specs.Fields.{Given, fieldCount, isGiven, dimension, sizes}
-use Rattle.format.specs.Descriptors.{dimensionOf, typeOf, encodingOf, endianOf, sizesOf, lineSkipOf, byteSkipOf, mayDescribe, hasNeeded, extentOf}
-use Rattle.format.specs.Header.{Judged, wrong, right, field, closes, afterItem, Outcome, refused, accepted, headerLength}
-use Rattle.format.specs.Calls.{noReading, formOf}
-use Rattle.fields.specs.declared.state.State.{State}
+use Rattle.format.specs.Fields.{Given, given, fieldCount, isGiven, dimension, sizes}
+use Rattle.format.specs.Descriptors.{numberSaid, numberOf, dimensionOf, sizesSaid, sizesOf, mayDescribe, hasNeeded, extentOf}
+use Rattle.format.specs.Header.{Item, Judged, wrong, right, field, closes, Outcome, refused, accepted, headerLength}
+use Rattle.format.specs.Rules.{fieldOf}
+use Rattle.format.specs.Calls.{noReading, padded, readingAt}
 use Rattle.fields.specs.declared.state.Step.{Step}
 
--- whether each of n fields from f on is given
-unfoldable pub flags : ℕ → ℕ → List Given → List Bool
-flags f zero gs = []
-flags f (suc n) gs = isGiven f gs ∷ flags (f + 1) n gs
+-- what v says of each of n fields from f on
+unfoldable pub each : {A : Type 0} → (ℕ → A) → ℕ → ℕ → List A
+each v f zero = []
+each v f (suc n) = v f ∷ each v (f + 1) n
 
--- the sizes, 0 past the last axis
-abbrev pub paddedSizes : List Given → List ℕ
-paddedSizes gs = sizesOf gs ++ replicate (maxAxes - length (sizesOf gs)) 0
+-- whether each field is given
+abbrev pub flags : List Given → List Bool
+flags gs = each (λ f. isGiven f gs) 0 fieldCount
 
--- what the fields given say
-unfoldable pub stateOf : ℕ → List Given → State
-stateOf version gs =
-    record {
-      version = version;
-      given = flags 0 fieldCount gs;
-      dimension = dimensionOf gs;
-      sampletype = typeOf gs;
-      encoding = encodingOf gs;
-      endian = endianOf gs;
-      sizes = paddedSizes gs;
-      lineskip = lineSkipOf gs;
-      byteskip = byteSkipOf gs;
-    }
+-- the number of each field
+abbrev pub numbersOf : List Given → List ℕ
+numbersOf gs = each (λ f. numberOf f gs) 0 fieldCount
 
 -- what the walk keeps of the fields given: the dimension is in its range, sizes come after it, and there is a size for each axis
 pub record Kept (gs : List Given) : Type 0 where
@@ -47,19 +35,53 @@ pub record Kept (gs : List Given) : Type 0 where
   pub ordered : isGiven sizes gs ≡ true → isGiven dimension gs ≡ true
   pub sized : isGiven sizes gs ≡ true → length (sizesOf gs) ≡ dimensionOf gs
 
--- the state is that of the fields given
-pub record Holds (st : State) (gs : List Given) : Type 0 where
-  pub is : st ≡ stateOf (st .version) gs
+-- the flags, the numbers and the sizes are those of the fields given
+pub record Holds (marks : List Bool) (numbers ns : List ℕ) (gs : List Given) : Type 0 where
+  pub marks-are : marks ≡ flags gs
+  pub numbers-are : numbers ≡ numbersOf gs
+  pub sizes-are : ns ≡ padded (sizesOf gs)
   pub kept : Kept gs
 
--- a field with the descriptor t, judged by its descriptor alone
-abbrev pub described : List Given → ℕ → List ℕ → Judged
-described gs f t = if not (mayDescribe gs f t) then wrong badDescriptor else right (field f t)
+-- what the judgement of a line has to know of the fields given: which they are, and the dimension
+pub record Known (marks : List Bool) (n : ℕ) (gs : List Given) : Type 0 where
+  pub marks-are : marks ≡ flags gs
+  pub dimension-is : n ≡ dimensionOf gs
+  pub axes : n ≤ maxAxes
 
--- a line's step, after the fields given, by what the line was judged to be
-abbrev pub stepOf : ℕ → List Given → Judged → Step
-stepOf version gs (wrong w) = record { wrong = w; closes = false; state = stateOf version gs }
-stepOf version gs (right i) = record { wrong = 0; closes = closes i; state = stateOf version (afterItem i gs) }
+-- a field with the descriptor t, judged by its descriptor alone, in a header of dimension n
+abbrev pub described : ℕ → ℕ → List ℕ → Judged
+described n f t = if not (mayDescribe n f t) then wrong badDescriptor else right (field f t)
+
+-- the field that a line gives, or the first number that is none, and the number that it says
+abbrev pub fieldGiven : List Given → ℕ
+fieldGiven [] = fieldCount
+fieldGiven (given f d ∷ gs) = f
+
+abbrev pub numberGiven : List Given → ℕ
+numberGiven [] = 0
+numberGiven (given f d ∷ gs) = numberSaid f d
+
+-- the sizes once the line is read
+abbrev pub sizesGiven : List Given → List ℕ → List ℕ
+sizesGiven [] ns = ns
+sizesGiven (given f d ∷ gs) ns = if eqb sizes f then padded (sizesSaid d) else ns
+
+-- a line's step by what the line was judged to be
+abbrev pub stepOf : Judged → Step
+stepOf (wrong w) = record { wrong = w; closes = false; field = fieldCount; number = 0 }
+stepOf (right i) = record { wrong = 0; closes = closes i; field = fieldGiven (fieldOf i); number = numberGiven (fieldOf i) }
+
+abbrev pub sizesAfter : Judged → List ℕ → List ℕ
+sizesAfter (wrong w) ns = ns
+sizesAfter (right i) ns = sizesGiven (fieldOf i) ns
+
+-- the step, and the sizes as it leaves them
+abbrev pub stepped : Judged → List ℕ → Step × List ℕ
+stepped j ns = (stepOf j, sizesAfter j ns)
+
+-- a list with x for the field f; past the last field nothing changes
+abbrev pub keptAt : {A : Type 0} → ℕ → A → List A → List A
+keptAt f x l = if ltb f fieldCount then set l f x else l
 
 -- the number of a refusal, 0 for none
 abbrev pub wrongOf : Judged → ℕ
@@ -72,24 +94,6 @@ completeNumber gs =
     if not (hasNeeded gs) then missingField
     else if ltb maxExtent (extentOf gs) then extentTooLarge
     else 0
-
--- the reading of a header of so many bytes and lines
-unfoldable pub readingAt : ℕ → List Given → ℕ → ℕ → Reading
-readingAt version gs bytes count =
-    record {
-      version = version;
-      form = formOf gs;
-      dimension = dimensionOf gs;
-      sampletype = typeOf gs;
-      encoding = encodingOf gs;
-      endian = endianOf gs;
-      sizes = paddedSizes gs;
-      lineskip = lineSkipOf gs;
-      byteskip = byteSkipOf gs;
-      extent = extentOf gs;
-      length = bytes;
-      lines = count;
-    }
 
 -- the answer at the header's end
 unfoldable pub finished : ℕ → List Given → ℕ → ℕ → ReadAnswer

@@ -1,5 +1,4 @@
 // One line after line 1: what it is, or the number of its refusal, 5 to 12 in order; and the end of the header.
-use crate::state::State;
 use crate::state::Step;
 use format::field;
 use text::lines::Mark;
@@ -7,29 +6,15 @@ use text::words::Row;
 ghost use mathlib.Core.Path.{_≡_};
 ghost use mathlib.Core.List.{List};
 ghost use mathlib.Core.Option.{some};
-ghost use Prim.Native.Nat.{_-_, _≤_, _<_};
+ghost use Prim.Native.Nat.{ℕ, _-_, _≤_, _<_};
 ghost use lib.ListN.{length};
+ghost use Rattle.format.specs.Limits.{maxAxes};
 ghost use Rattle.format.specs.Pairs.{mark};
 ghost use Rattle.format.specs.Fields.{Given, fieldCount, fieldNamed, inOrder};
-ghost use Rattle.format.specs.Descriptors.{isName, fromDescriptor, descriptor};
+ghost use Rattle.format.specs.Descriptors.{fromDescriptor, descriptor};
 ghost use Rattle.format.specs.Header.{wrong, onPair, onField, onMark, judge};
-ghost use Rattle.fields.specs.States.{wrongOf, flags, Holds, stepOf};
-
-// Whether the text is a name of one data file.
-pub(crate) fn is_name(t: &[u8]) -> bool
-    ensures { λ r. ⌜ r ≡ isName (now (t .entry)) ⌝ }
-{
-    if t.len() == 0 {
-        return false;
-    }
-    if text::bytes::is_same(t, b"LIST") {
-        return false;
-    }
-    if text::bytes::begins_with(b"LIST ", t) {
-        return false;
-    }
-    text::bytes::find_byte(t, b'%') == t.len()
-}
+ghost use Rattle.fields.specs.declared.state.Step.{Step};
+ghost use Rattle.fields.specs.States.{wrongOf, flags, Known, described, stepOf, stepped};
 
 // A pair: the number of its refusal, or 0.
 fn on_pair(version: u32, key: &[u8], value: &[u8]) -> u32
@@ -52,7 +37,7 @@ fn on_pair(version: u32, key: &[u8], value: &[u8]) -> u32
 
 // Whether the field may come here, by the fields given.
 fn is_in_order(f: usize, given: &[bool; 30]) -> bool
-    ensures { λ r. ⌜ ((gs : List Given) → now (given .entry) ≡ flags 0 fieldCount gs → r ≡ inOrder f gs) ⌝ }
+    ensures { λ r. ⌜ ((gs : List Given) → now (given .entry) ≡ flags gs → r ≡ inOrder f gs) ⌝ }
 {
     (!format_values::fields::needs_dimension(f) | given[field::DIMENSION])
         & (!format_values::fields::needs_space(f)
@@ -80,73 +65,130 @@ pub fn text_start(f: usize, rest: &[u8]) -> usize
 }
 
 // The step of a line that gives no field and does not close: the number of its refusal, 0 where it is right.
-fn refuse(state: State, number: u32) -> Step
-    ensures { λ r. ⌜ ((gs : List Given) → Holds state gs → r ≡ stepOf (state .version) gs (wrong number)) ⌝ }
+fn refuse(number: u32) -> Step
+    ensures { λ r. ⌜ r ≡ stepOf (wrong number) ⌝ }
 {
     Step {
         wrong: number,
         closes: false,
-        state: state,
+        field: field::COUNT,
+        number: 0,
+    }
+}
+
+// The field f with the descriptor t: bad descriptor 11. Of sizes the numbers are kept, of other fields at most one.
+fn take_field(f: usize, t: &[u8], dimension: u32, sizes: &mut [u64; 16]) -> Step
+    ensures { λ r. ⌜ (dimension ≤ maxAxes → _≡_ {A = Step × List ℕ} (r, now (sizes .exit)) (stepped (described dimension f (now (t .entry))) (now (sizes .entry)))) ⌝ }
+{
+    if f == field::SIZES {
+        let read = text::numbers::read_sizes(t, dimension as usize);
+        if !read.fine {
+            return refuse(format::BAD_DESCRIPTOR);
+        }
+        let said = read.sizes;
+        *sizes = said;
+        return Step {
+            wrong: 0,
+            closes: false,
+            field: f,
+            number: 0,
+        };
+    }
+    let x = read_descriptors::check(f, t, dimension);
+    if !x.fine {
+        return refuse(format::BAD_DESCRIPTOR);
+    }
+    Step {
+        wrong: 0,
+        closes: false,
+        field: f,
+        number: x.number,
     }
 }
 
 // A known field: not in this version 8, repeated 9, out of order 10, bad descriptor 11.
-fn on_known(state: State, f: usize, rest: &[u8]) -> Step
+fn on_known(
+    version: u32,
+    given: &[bool; 30],
+    dimension: u32,
+    f: usize,
+    rest: &[u8],
+    sizes: &mut [u64; 16],
+) -> Step
     requires { ⌜ f < fieldCount ⌝ }
-    ensures { λ r. ⌜ ((gs : List Given) → Holds state gs → r ≡ stepOf (state .version) gs (onField (state .version) gs (some f) (now (rest .entry)))) ⌝ }
+    ensures { λ r. ⌜ ((gs : List Given) → Known (now (given .entry)) dimension gs → _≡_ {A = Step × List ℕ} (r, now (sizes .exit)) (stepped (onField version gs (some f) (now (rest .entry))) (now (sizes .entry)))) ⌝ }
 {
-    if state.version < format_values::fields::since(f) {
-        return refuse(state, format::NOT_IN_VERSION);
+    if version < format_values::fields::since(f) {
+        return refuse(format::NOT_IN_VERSION);
     }
-    let given = state.given;
     if given[f] {
-        return refuse(state, format::REPEATED_FIELD);
+        return refuse(format::REPEATED_FIELD);
     }
-    if !is_in_order(f, &given) {
-        return refuse(state, format::OUT_OF_ORDER);
+    if !is_in_order(f, given) {
+        return refuse(format::OUT_OF_ORDER);
     }
-    crate::descriptors::take_field(state, f, descriptor_of(f, rest))
+    take_field(f, descriptor_of(f, rest), dimension, sizes)
 }
 
 // A field: unknown 7, not in this version 8, repeated 9, out of order 10, bad descriptor 11.
-fn on_field(state: State, name: &[u8], rest: &[u8]) -> Step
-    ensures { λ r. ⌜ ((gs : List Given) → Holds state gs → r ≡ stepOf (state .version) gs (onField (state .version) gs (fieldNamed (now (name .entry))) (now (rest .entry)))) ⌝ }
+fn on_field(
+    version: u32,
+    given: &[bool; 30],
+    dimension: u32,
+    name: &[u8],
+    rest: &[u8],
+    sizes: &mut [u64; 16],
+) -> Step
+    ensures { λ r. ⌜ ((gs : List Given) → Known (now (given .entry)) dimension gs → _≡_ {A = Step × List ℕ} (r, now (sizes .exit)) (stepped (onField version gs (fieldNamed (now (name .entry))) (now (rest .entry))) (now (sizes .entry)))) ⌝ }
 {
     let row = text::words::field_named(name);
     match row {
-        Row::Number(f) => on_known(state, f as usize, rest),
-        Row::Unknown => refuse(state, format::UNKNOWN_FIELD),
+        Row::Number(f) => on_known(version, given, dimension, f as usize, rest, sizes),
+        Row::Unknown => refuse(format::UNKNOWN_FIELD),
     }
 }
 
 // A line that is neither empty nor a comment, by its mark: no mark 6.
-fn on_mark(state: State, t: &[u8]) -> Step
-    ensures { λ r. ⌜ ((gs : List Given) → Holds state gs → r ≡ stepOf (state .version) gs (onMark (state .version) gs (mark (now (t .entry))))) ⌝ }
+fn on_mark(
+    version: u32,
+    given: &[bool; 30],
+    dimension: u32,
+    t: &[u8],
+    sizes: &mut [u64; 16],
+) -> Step
+    ensures { λ r. ⌜ ((gs : List Given) → Known (now (given .entry)) dimension gs → _≡_ {A = Step × List ℕ} (r, now (sizes .exit)) (stepped (onMark version gs (mark (now (t .entry)))) (now (sizes .entry)))) ⌝ }
 {
     let m = text::lines::find_mark(t);
     match m {
-        Mark::Field(i) => on_field(state, &t[..i], &t[i + 2..]),
-        Mark::Pair(i) => refuse(state, on_pair(state.version, &t[..i], &t[i + 2..])),
-        Mark::Nothing => refuse(state, format::NO_MARK),
+        Mark::Field(i) => on_field(version, given, dimension, &t[..i], &t[i + 2..], sizes),
+        Mark::Pair(i) => refuse(on_pair(version, &t[..i], &t[i + 2..])),
+        Mark::Nothing => refuse(format::NO_MARK),
     }
 }
 
-// One line after line 1, by its text.
-pub fn judge_line(state: State, t: &[u8]) -> Step
-    ensures { λ r. ⌜ ((gs : List Given) → Holds state gs → r ≡ stepOf (state .version) gs (judge (state .version) gs (now (t .entry)))) ⌝ }
+// One line after line 1, by its text, after the fields given, in a header of this dimension. A right sizes line changes the sizes.
+pub fn judge_line(
+    version: u32,
+    given: &[bool; 30],
+    dimension: u32,
+    t: &[u8],
+    sizes: &mut [u64; 16],
+) -> Step
+    ensures { λ r. ⌜ ((gs : List Given) → Known (now (given .entry)) dimension gs → _≡_ {A = Step × List ℕ} (r, now (sizes .exit)) (stepped (judge version gs (now (t .entry))) (now (sizes .entry)))) ⌝ }
 {
     if t.len() == 0 {
         return Step {
             wrong: 0,
             closes: true,
-            state: state,
+            field: field::COUNT,
+            number: 0,
         };
     }
     if t[0] == b'#' {
-        return refuse(state, 0);
+        return refuse(0);
     }
     if !text::bytes::is_plain(t) {
-        return refuse(state, format::BAD_BYTE);
+        return refuse(format::BAD_BYTE);
     }
-    on_mark(state, t)
+    on_mark(version, given, dimension, t, sizes)
 }

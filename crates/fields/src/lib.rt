@@ -1,4 +1,3 @@
-// What a header's lines say: the state that the fields given so far make, and the judgement of one line more.
-mod descriptors;
+// What a header's lines say: the judgement of one line, what is kept of the fields given so far, and the reading that they make.
 pub mod judge;
 pub mod state;

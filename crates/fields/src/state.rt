@@ -1,4 +1,4 @@
-// What the fields given so far say: the reader's state, by value.
+// What the reader keeps of the fields given so far: flags, numbers, sizes; and the answer that they make.
 use format::ReadAnswer;
 use format::Reading;
 use format::Refusal;
@@ -8,47 +8,54 @@ use format::types;
 ghost use mathlib.Core.Path.{_≡_};
 ghost use mathlib.Core.Bool.{true};
 ghost use mathlib.Core.List.{List, []};
+ghost use Prim.Native.Nat.{_≤_};
+ghost use lib.ListN.{take};
+ghost use Rattle.format.specs.Limits.{maxAxes};
 ghost use Rattle.format.specs.Refusals.{atLine};
-ghost use Rattle.format.specs.Fields.{Given, isGiven, sizes};
-ghost use Rattle.format.specs.Descriptors.{endianNeeded, hasNeeded, extentOf, capped};
+ghost use Rattle.format.specs.Fields.{Given};
+ghost use Rattle.format.specs.Descriptors.{endianNeeded, extent, hasNeeded, capped};
 ghost use Rattle.format.specs.Header.{refused};
-ghost use Rattle.format.specs.Calls.{readAnswer};
-ghost use Rattle.fields.specs.States.{stateOf, Holds, finished};
+ghost use Rattle.format.specs.Calls.{padded, readAnswer};
+ghost use Rattle.fields.specs.States.{flags, numbersOf, keptAt, Holds, finished};
 
-pub struct State {
-    pub version: u32,
-    // whether each field is given
-    pub given: [bool; 30],
-    pub dimension: u32,
-    pub sampletype: u32,
-    pub encoding: u32,
-    pub endian: u32,
-    pub sizes: [u64; 16],
-    pub lineskip: u64,
-    pub byteskip: u64,
-}
-
-// What a line comes to: the number of its refusal or 0, whether it closes the header, and the state after it.
+// What a line comes to: the number of its refusal or 0, whether it closes the header, and the field that it gives with its number; `field::COUNT` where it gives none.
 pub struct Step {
     pub wrong: u32,
     pub closes: bool,
-    pub state: State,
+    pub field: usize,
+    pub number: u32,
 }
 
-// No field is given.
-pub fn start(version: u32) -> State
-    ensures { λ r. ⌜ r ≡ stateOf version [] ⌝ }
+// No field is given: the flags.
+pub fn no_flags() -> [bool; 30]
+    ensures { λ r. ⌜ r ≡ flags [] ⌝ }
 {
-    State {
-        version: version,
-        given: [false; 30],
-        dimension: 0,
-        sampletype: 0,
-        encoding: 0,
-        endian: format::NO_ENDIAN,
-        sizes: [0u64; 16],
-        lineskip: 0,
-        byteskip: 0,
+    [false; 30]
+}
+
+// No field is given: the numbers.
+pub fn no_numbers() -> [u32; 30]
+    ensures { λ r. ⌜ r ≡ numbersOf [] ⌝ }
+{
+    let mut numbers = [0u32; 30];
+    numbers[field::ENDIAN] = format::NO_ENDIAN;
+    numbers
+}
+
+// No field is given: the sizes.
+pub fn no_sizes() -> [u64; 16]
+    ensures { λ r. ⌜ r ≡ padded [] ⌝ }
+{
+    [0u64; 16]
+}
+
+// Keeps that the field f is given, and its number; for `field::COUNT` nothing changes.
+pub fn keep(given: &mut [bool; 30], numbers: &mut [u32; 30], f: usize, number: u32)
+    ensures { λ r. ⌜ (now (given .exit) ≡ keptAt f true (now (given .entry))) × (now (numbers .exit) ≡ keptAt f number (now (numbers .entry))) ⌝ }
+{
+    if f < field::COUNT {
+        given[f] = true;
+        numbers[f] = number;
     }
 }
 
@@ -78,6 +85,12 @@ pub fn refuse(number: u32, line: u32) -> ReadAnswer
     }
 }
 
+fn wide(n: u32) -> u64
+    ensures { λ r. ⌜ r ≡ n ⌝ }
+{
+    n as u64
+}
+
 // Whether the order of a sample's bytes matters: raw or hex samples of several bytes.
 fn endian_needed(t: u32, e: u32) -> bool
     ensures { λ r. ⌜ r ≡ endianNeeded t e ⌝ }
@@ -86,57 +99,66 @@ fn endian_needed(t: u32, e: u32) -> bool
 }
 
 // Whether the fields that are needed are given.
-fn has_needed(state: State) -> bool
-    ensures { λ r. ⌜ ((gs : List Given) → Holds state gs → r ≡ hasNeeded gs) ⌝ }
+fn has_needed(given: &[bool; 30], numbers: &[u32; 30]) -> bool
+    ensures { λ r. ⌜ ((gs : List Given) → now (given .entry) ≡ flags gs → now (numbers .entry) ≡ numbersOf gs → r ≡ hasNeeded gs) ⌝ }
 {
-    let endian = state.given[field::ENDIAN] | !endian_needed(state.sampletype, state.encoding);
-    state.given[field::DIMENSION]
-        & (state.given[field::TYPE]
-            & (state.given[field::ENCODING] & (state.given[field::SIZES] & endian)))
+    let endian = given[field::ENDIAN]
+        | !endian_needed(numbers[field::TYPE], numbers[field::ENCODING]);
+    given[field::DIMENSION]
+        & (given[field::TYPE] & (given[field::ENCODING] & (given[field::SIZES] & endian)))
 }
 
 // The extent, or 2 to the 32 where it is above.
-fn extent(state: State) -> u64
-    ensures { λ r. ⌜ ((gs : List Given) → Holds state gs → isGiven sizes gs ≡ true → r ≡ capped (extentOf gs)) ⌝ }
+fn extent(dimension: u32, sampletype: u32, sizes: [u64; 16]) -> u64
+    ensures { λ r. ⌜ (dimension ≤ maxAxes → r ≡ capped (extent (take dimension sizes) sampletype)) ⌝ }
 {
-    let sizes = state.sizes;
-    let n = state.dimension as usize;
+    let n = dimension as usize;
     // no header has more axes
     if 16 < n {
         return 0;
     }
     products::times(
-        types::sample_bytes(state.sampletype as u64),
+        types::sample_bytes(sampletype as u64),
         products::product(&sizes[..n]),
     )
 }
 
 // The answer at the end of a header of so many bytes and lines.
-pub fn finish(state: State, bytes: usize, count: u32) -> ReadAnswer
-    ensures { λ r. ⌜ ((gs : List Given) → Holds state gs → r ≡ finished (state .version) gs bytes count) ⌝ }
+pub fn finish(
+    version: u32,
+    given: &[bool; 30],
+    numbers: &[u32; 30],
+    sizes: [u64; 16],
+    bytes: usize,
+    count: u32,
+) -> ReadAnswer
+    ensures { λ r. ⌜ ((gs : List Given) → Holds (now (given .entry)) (now (numbers .entry)) sizes gs → r ≡ finished version gs bytes count) ⌝ }
 {
-    if !has_needed(state) {
+    if !has_needed(given, numbers) {
         return refuse(format::MISSING_FIELD, 0);
     }
-    let x = extent(state);
+    let dimension = numbers[field::DIMENSION];
+    let sampletype = numbers[field::TYPE];
+    let x = extent(dimension, sampletype, sizes);
     if format::MAX_EXTENT < x {
         return refuse(format::EXTENT_TOO_LARGE, 0);
     }
-    let form = state.given[field::DATA_FILE] as u32;
+    let form = given[field::DATA_FILE] as u32;
+    let lineskip = wide(numbers[field::LINE_SKIP]);
+    let byteskip = wide(numbers[field::BYTE_SKIP]);
     let length = bytes as u64;
-    let sizes = state.sizes;
     ReadAnswer {
         refusal: Refusal { number: 0, line: 0 },
         reading: Reading {
-            version: state.version,
+            version: version,
             form: form,
-            dimension: state.dimension,
-            sampletype: state.sampletype,
-            encoding: state.encoding,
-            endian: state.endian,
+            dimension: dimension,
+            sampletype: sampletype,
+            encoding: numbers[field::ENCODING],
+            endian: numbers[field::ENDIAN],
             sizes: sizes,
-            lineskip: state.lineskip,
-            byteskip: state.byteskip,
+            lineskip: lineskip,
+            byteskip: byteskip,
             extent: x,
             length: length,
             lines: count,

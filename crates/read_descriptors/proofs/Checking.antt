@@ -6,12 +6,11 @@ use mathlib.Core.Path.{_≡_, refl, sym, ap, _∙_}
 use mathlib.Core.Bool.{Bool, true, false, not, _&&_, _||_}
 use mathlib.Core.List.{List, [], _∷_, _++_, map}
 use mathlib.Core.Option.{Option, none, some}
-use lib.Dec.{eqb, leb, eqb·zero-suc, eqb·suc-suc}
+use lib.Dec.{eqb, ltb, leb, eqb·zero-suc, eqb·suc-suc}
 use lib.ListN.{length, replicate}
 use borrow.Author.Tests.{le-leb, lt-leb, leb-true, leb-false, eqb-true, eqb-false, eq-eqb, ne-eqb, ltb-true}
 use Rattle.format.specs.Bytes.{bytes, PERCENT, isIn, isEmpty, isSome, orDefault, same, beginsWith, if_then_else_}
 use Rattle.format.specs.Limits.{maxAxes, maxSize}
-use Rattle.format.specs.Fields.{understood}
 use Rattle.format.specs.Descriptors.{isName, mayDescribe, sizesFine, valueOfNumber, within}
 use Rattle.text.specs.Numbers.{numberAnswer, noSizes, sizesAnswer}
 use Rattle.text.specs.Places.{before}
@@ -61,7 +60,7 @@ sizes-fine n ws r e h = go (sizesFine n ws) (rw (le-leb n maxAxes h) at e)
 pub carried : (n f : ℕ) (t : List ℕ) → 8 ≤ f → record { fine = true; number = 0 } ≡ checked n f t
 unfolding mayDescribe
 carried n f t h =
-    let d : (g : ℕ) → understood g ≡ true → eqb f g ≡ false = λ g u. ne-eqb f g (omega (arith, ltb-true)) in
+    let d : (g : ℕ) → ltb g 8 ≡ true → eqb f g ≡ false = λ g u. ne-eqb f g (omega (arith, ltb-true)) in
     rw (d 0 refl, d 1 refl, d 2 refl, d 3 refl, d 4 refl, d 5 refl, d 6 refl, d 7 refl)
 
 -- a number that is none of four is past them

@@ -2,16 +2,17 @@
 -- Assumes nothing.
 use mathlib.Core.Path.{_≡_, sym, _∙_}
 use mathlib.Core.Option.{none, some}
-use borrow.Author.Needs.{needs}
 use Rattle.format.specs.Fields.{fieldNamed}
-use Rattle.format.specs.Header.{onField}
-use Rattle.fields.proofs.Judging.{row-number, row-unknown, field-below}
+use Rattle.text.proofs.Rows.{row-is, row-unknown}
+use borrow.Author.Needs.{needs}
+use Rattle.fields.proofs.States.{field-below}
+use Rattle.fields.proofs.Judging.{refuses, field-unknown}
 use Rattle.fields.proofs.judge.on_field.Statement.{statement}
 use Rattle.fields.proofs.judge.on_field.Tie as tie
 
 -- what the look-up answered
 known : (c : tie.After-row) → fieldNamed (c .before .before .before .before .before .args .name .now) ≡ some (c .row .given .0 .0)
-known c = row-number _ _ (sym (c .row .given .1) ∙ c .before .before .field-named .ensures)
+known c = row-is _ _ (sym (c .row .given .1) ∙ c .before .before .field-named .ensures)
 
 unknown : (c : tie.After-enum-told) → fieldNamed (c .before .before .before .before .before .args .name .now) ≡ none
 unknown c = row-unknown _ (sym (c .enum-told .given .1) ∙ c .before .before .field-named .ensures)
@@ -26,7 +27,7 @@ cast-on-known : tie.Need-cast-on-known
 cast-on-known c = search needs
 
 on-known-requires : tie.Need-on-known-requires
-on-known-requires c κs = field-below _ _ (known (c .before))
+on-known-requires c κs = field-below _ _ (known (c .before .before))
 
 enum-told : tie.Need-enum-told
 enum-told c = search needs
@@ -35,11 +36,12 @@ refuse-requires : tie.Need-refuse-requires
 refuse-requires c κs = search needs
 
 returns : tie.Need-returns
-returns c = let e = known (c .before .before) in λ gs h. c .on-known .ensures gs h ∙ rw e
+returns c gs h = let e = known (c .before .before .before) in c .on-known .ensures gs h ∙ rw e
 
 returns-2 : tie.Need-returns-2
-unfolding onField
-returns-2 c = let e = unknown (c .before) in λ gs h. c .refuse .ensures gs h ∙ rw e
+returns-2 c gs h =
+    let a = c .before .before .before .before .before .before .args in
+    refuses (a .sizes .now) (c .refuse .ensures) (field-unknown (a .version) gs (a .rest .now) (unknown (c .before)))
 
 pub on-field-spec : {M : Type 1} → statement M
 on-field-spec =

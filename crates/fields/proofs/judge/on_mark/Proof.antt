@@ -2,17 +2,17 @@
 -- Assumes nothing.
 use Prim.Native.Nat.{ℕ, _+_, _≤_}
 use native.Mathlib.Omega.{arith}
-use mathlib.Core.Path.{_≡_, sym, ap, _∙_}
+use mathlib.Core.Path.{_≡_, refl, sym, ap, _∙_}
 use lib.ListN.{length}
 use lib.Seq.{length-take-le}
-use borrow.Author.Needs.{needs}
 use Rattle.format.specs.Pairs.{mark}
-use Rattle.format.specs.Header.{wrong}
+use Rattle.format.specs.Header.{Judged, wrong}
 use Rattle.text.specs.declared.lines.Mark.the-variants.{Field, Pair}
 use Rattle.text.specs.Places.{markPlace}
 use Rattle.text.proofs.Places.{mark-split-field, mark-split-pair}
-use Rattle.fields.specs.States.{stepOf}
-use Rattle.fields.proofs.Judging.{pair-step, marked-field, marked-pair, marked-nothing}
+use Rattle.fields.specs.States.{stepOf, stepped}
+use borrow.Author.Needs.{needs}
+use Rattle.fields.proofs.Judging.{refuses, pair-step, marked-field, marked-pair, marked-nothing}
 use Rattle.fields.proofs.judge.on_mark.Statement.{statement}
 use Rattle.fields.proofs.judge.on_mark.Tie as tie
 
@@ -88,28 +88,24 @@ refuse-requires-2 : tie.Need-refuse-requires-2
 refuse-requires-2 c κs = search needs
 
 returns : tie.Need-returns
-returns c =
-    let m = c .before .before .before .before in
-    let a = m .before .before .before .before .args in
-    let v = a .state .version in
-    λ gs h. c .on-field .ensures gs h ∙ ap (stepOf v gs) (sym (marked-field v gs (a .t .now) _ (field-found m)))
-
-returns-2 : tie.Need-returns-2
-returns-2 c =
+returns c gs h =
     let m = c .before .before .before .before .before in
     let a = m .before .before .before .before .args in
-    let v = a .state .version in
-    λ gs h.
-    c .refuse .ensures gs h
-    ∙ (ap (λ (n : ℕ). stepOf v gs (wrong n)) (c .before .on-pair .ensures)
-    ∙ (pair-step v gs _ _ ∙ ap (stepOf v gs) (sym (marked-pair v gs (a .t .now) _ (pair-found m)))))
+    c .on-field .ensures gs h ∙ ap (λ (j : Judged). stepped j (a .sizes .now)) (sym (marked-field (a .version) gs (a .t .now) _ (field-found m)))
+
+returns-2 : tie.Need-returns-2
+returns-2 c gs h =
+    let m = c .before .before .before .before .before in
+    let a = m .before .before .before .before .args in
+    let ns = a .sizes .now in
+    refuses ns (c .refuse .ensures ∙ ap (λ (n : ℕ). stepOf (wrong n)) (c .before .on-pair .ensures)) refl
+    ∙ (pair-step (a .version) ns _ _ ∙ ap (λ (j : Judged). stepped j ns) (sym (marked-pair (a .version) gs (a .t .now) _ (pair-found m))))
 
 returns-3 : tie.Need-returns-3
-returns-3 c =
+returns-3 c gs h =
     let a = c .before .before .before .before .before .args in
-    let v = a .state .version in
     let e = sym (c .before .enum-told .given .1) ∙ c .before .before .before .find-mark .ensures in
-    λ gs h. c .refuse2 .ensures gs h ∙ ap (stepOf v gs) (sym (marked-nothing v gs (a .t .now) e))
+    refuses (a .sizes .now) (c .refuse2 .ensures) (marked-nothing (a .version) gs (a .t .now) e)
 
 pub on-mark-spec : {M : Type 1} → statement M
 on-mark-spec =

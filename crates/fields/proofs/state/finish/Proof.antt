@@ -1,12 +1,12 @@
 -- `state::finish` meets its contract. Assumes nothing.
 use Prim.Native.Nat.{_≤_, _<_}
 use native.Mathlib.Omega.{arith}
-use mathlib.Core.Path.{_≡_, sym, _∙_}
+use mathlib.Core.Path.{_≡_, sym, ap, _∙_}
 use borrow.Author.Tests.{not-true, not-false}
 use Rattle.format.specs.Limits.{maxExtent}
-use Rattle.format.specs.Descriptors.{extentOf}
-use Rattle.fields.proofs.States.{needs-sizes, reading-is, finished-missing, finished-large, finished-fine}
+use Rattle.format.specs.Descriptors.{extentOf, capped}
 use borrow.Author.Needs.{needs}
+use Rattle.fields.proofs.States.{needs-sizes, axes-at, extent-is, reading-is, finished-missing, finished-large, finished-fine}
 use Rattle.fields.proofs.state.finish.Statement.{statement}
 use Rattle.fields.proofs.state.finish.Tie as tie
 
@@ -20,8 +20,14 @@ returns : tie.Need-returns
 returns c gs h =
     let a = c .before .before .before .args in
     let n = c .before .before .has-needed in
-    let e = sym (n .ensures gs h) ∙ not-true (n .result) (c .before .if1 .taken) in
-    c .refuse .ensures ∙ sym (finished-missing (a .t1 .version) gs (a .bytes) (a .count) e)
+    let e = sym (n .ensures gs (h .marks-are) (h .numbers-are)) ∙ not-true (n .result) (c .before .if1 .taken) in
+    c .refuse .ensures ∙ sym (finished-missing (a .version) gs (a .bytes) (a .count) e)
+
+element-copy-out-dimension : tie.Need-element-copy-out-dimension
+element-copy-out-dimension c = search needs
+
+element-copy-out-sampletype : tie.Need-element-copy-out-sampletype
+element-copy-out-sampletype c = search needs
 
 extent-requires : tie.Need-extent-requires
 extent-requires c κs = search needs
@@ -31,11 +37,12 @@ refuse-requires-2 c κs = search needs
 
 returns-2 : tie.Need-returns-2
 returns-2 c gs h =
-    let a = c .before .before .before .before .before .args in
-    let n = c .before .before .before .before .has-needed in
-    let e = sym (n .ensures gs h) ∙ not-false (n .result) (c .before .before .before .if1 .left) in
-    let l : maxExtent < extentOf gs = omega (arith, c .before .before .extent .ensures gs h (needs-sizes h e)) in
-    c .refuse2 .ensures ∙ sym (finished-large (a .t1 .version) gs (a .bytes) (a .count) e l)
+    let a = c .before .before .before .before .before .before .before .args in
+    let n = c .before .before .before .before .before .before .has-needed in
+    let e = sym (n .ensures gs (h .marks-are) (h .numbers-are)) ∙ not-false (n .result) (c .before .before .before .before .before .if1 .left) in
+    let m = c .before .before .extent .ensures (axes-at h) ∙ ap capped (extent-is h (needs-sizes gs e)) in
+    let l : maxExtent < extentOf gs = omega arith in
+    c .refuse2 .ensures ∙ sym (finished-large (a .version) gs (a .bytes) (a .count) e l)
 
 element-copy-out-form : tie.Need-element-copy-out-form
 element-copy-out-form c = search needs
@@ -43,16 +50,34 @@ element-copy-out-form c = search needs
 cast-form : tie.Need-cast-form
 cast-form c = search needs
 
+element-copy-out-wide : tie.Need-element-copy-out-wide
+element-copy-out-wide c = search needs
+
+wide-requires : tie.Need-wide-requires
+wide-requires c κs = search needs
+
+element-copy-out-wide-2 : tie.Need-element-copy-out-wide-2
+element-copy-out-wide-2 c = search needs
+
+wide-requires-2 : tie.Need-wide-requires-2
+wide-requires-2 c κs = search needs
+
+element-copy-out-t18 : tie.Need-element-copy-out-t18
+element-copy-out-t18 c = search needs
+
+element-copy-out-t32 : tie.Need-element-copy-out-t32
+element-copy-out-t32 c = search needs
+
 returns-3 : tie.Need-returns-3
 returns-3 c gs h =
-    let a = c .before .before .before .before .before .before .args in
-    let x = c .before .before .before .extent .result in
-    let n = c .before .before .before .before .before .has-needed in
-    let e = sym (n .ensures gs h) ∙ not-false (n .result) (c .before .before .before .before .if1 .left) in
-    let m = c .before .before .before .extent .ensures gs h (needs-sizes h e) in
+    let a = c .before .before .before .before .before .before .before .before .before .before .before .before .before .args in
+    let n = c .before .before .before .before .before .before .before .before .before .before .before .before .has-needed in
+    let x = c .before .before .before .before .before .before .before .before .extent .result in
+    let e = sym (n .ensures gs (h .marks-are) (h .numbers-are)) ∙ not-false (n .result) (c .before .before .before .before .before .before .before .before .before .before .before .if1 .left) in
+    let m = c .before .before .before .before .before .before .before .before .extent .ensures (axes-at h) ∙ ap capped (extent-is h (needs-sizes gs e)) in
     let l : extentOf gs ≤ maxExtent = omega arith in
     let k : x ≡ extentOf gs = omega arith in
-    rw (finished-fine (a .t1 .version) gs (a .bytes) (a .count) e l, ← reading-is h x (a .bytes) (a .count) k)
+    rw (finished-fine (a .version) gs (a .bytes) (a .count) e l, ← reading-is h (a .version) x (a .bytes) (a .count) k, c .before .before .before .before .wide .ensures, c .before .before .wide2 .ensures)
 
 pub finish-spec : {M : Type 1} → statement M
 finish-spec =
@@ -61,9 +86,17 @@ finish-spec =
     has-needed-requires
     refuse-requires
     returns
+    element-copy-out-dimension
+    element-copy-out-sampletype
     extent-requires
     refuse-requires-2
     returns-2
     element-copy-out-form
     cast-form
+    element-copy-out-wide
+    wide-requires
+    element-copy-out-wide-2
+    wide-requires-2
+    element-copy-out-t18
+    element-copy-out-t32
     returns-3)
