@@ -17,13 +17,13 @@ use Rattle.format.specs.declared.WriteAnswer.{WriteAnswer}
 use Rattle.format.specs.Bytes.{if_then_else_, over}
 use Rattle.format.specs.Refusals.{fine, refusal}
 use Rattle.format.specs.Descriptors.{sampleBytes}
-use Rattle.format.specs.Writer.{dataBytes, fileBytes, writeRefusal}
+use Rattle.format.specs.Writer.{dataBytes, fileBytes, writeRefusal, headerBytes}
 use Rattle.format.specs.Calls.{readHeaderCall, dataPlaceCall, writeAnswer}
 use Rattle.format.specs.Boundary.{wordBytes, numbersOf, samplesLent, lentSamples}
 use Rattle.format.specs.EntryPoints.{samplesEntry}
 use Rattle.format.proofs.Samples.{AllBytes}
 use Rattle.format.proofs.Boundary.{length-samples, samples-over, words-of-lent}
-use Rattle.roundtrip.specs.RoundTrip.{headerBytes, dataBack, ReadsBack}
+use Rattle.roundtrip.specs.RoundTrip.{dataBack, ReadsBack}
 use Rattle.roundtrip.proofs.Accepted.{accepted-is}
 use Rattle.roundtrip.proofs.ReadBack.{round-trips}
 use Rattle.callers.specs.Callers.{wholeSamples, countOfSamples, FileReadBack, WritesAreRead}

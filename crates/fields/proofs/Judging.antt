@@ -9,21 +9,17 @@ use mathlib.Core.Option.{Option, none, some}
 use lib.Dec.{ltb}
 use lib.ListN.{length, take, drop, getD, length-drop}
 use lib.Seq.{take-length}
-use borrow.Author.Tests.{eq-eqb, ne-eqb, lt-ltb, le-ltb}
-use Rattle.format.specs.Bytes.{if_then_else_, HASH, every, isSome}
-use Rattle.format.specs.Refusals.{badByte, noMark, unknownField, notInVersion, repeatedField, outOfOrder, badBackslash}
-use Rattle.format.specs.Pairs.{plain, mark, unescape}
-use Rattle.format.specs.Fields.{fieldCount, fieldNamed, pairsSince, fieldSince, Given, isGiven, needsDimension, needsSpace, inOrder}
+use borrow.Author.Tests.{lt-ltb, le-ltb}
+use Rattle.format.specs.Bytes.{if_then_else_, every, isSome}
+use Rattle.format.specs.Refusals.{badByte, noMark, notInVersion, repeatedField, outOfOrder, badBackslash}
+use Rattle.format.specs.Pairs.{plain, unmarked, pairMark, LineKind, otherLine, kindOf, unescape}
+use Rattle.format.specs.Fields.{pairsSince, fieldSince, Given, isGiven, needsDimension, needsSpace, inOrder}
 use Rattle.format.specs.Descriptors.{trimEnd, fromDescriptor, descriptor, dimensionOf}
-use Rattle.format.specs.Header.{comment, closing, Judged, wrong, right, unescaped, onPair, onField, onMark, judge}
+use Rattle.format.specs.Header.{Judged, wrong, right, unescaped, onPair, onField, onKind, judge}
 use Rattle.format.proofs.Descriptors.{drop-to-descriptor, take-trimmed}
-use Rattle.text.specs.declared.lines.Mark.the-variants.{Field, Pair, Nothing}
-use Rattle.text.specs.Places.{markPlace}
-use Rattle.text.proofs.Places.{mark-split-field, mark-split-pair, mark-split-nothing}
 use Rattle.fields.specs.declared.state.Step.{Step}
 use Rattle.fields.specs.States.{flags, described, stepOf, stepped, wrongOf}
 use Rattle.fields.proofs.States.{flags-at}
-
 
 -- ---- the fields given, by number
 
@@ -78,7 +74,7 @@ module _ (version : ℕ) (v : List ℕ) where
       go (some a) (some c) = refl
 
 -- a pair's step: it gives no field
-pub pair-step : (version : ℕ) (ns k v : List ℕ) → stepped (wrong (wrongOf (onPair version k v))) ns ≡ stepped (onPair version k v) ns
+pair-step : (version : ℕ) (ns k v : List ℕ) → stepped (wrong (wrongOf (onPair version k v))) ns ≡ stepped (onPair version k v) ns
 unfolding onPair
 pair-step version ns [] v = refl
 pair-step version ns (b ∷ k) v = go (ltb version pairsSince) (unescape (b ∷ k)) (unescape v)
@@ -95,11 +91,24 @@ pair-step version ns (b ∷ k) v = go (ltb version pairsSince) (unescape (b ∷ 
 pub refuses : {r : Step} {w : ℕ} {j : Judged} (ns : List ℕ) → r ≡ stepOf (wrong w) → j ≡ wrong w → _≡_ {A = Step × List ℕ} (r, ns) (stepped j ns)
 refuses ns e q = rw (e, q)
 
--- ---- a field along its tests
+-- the line of a pair, and a line with no mark: a byte that they may not hold comes first
+module _ (version : ℕ) (gs : List Given) (t ns : List ℕ) where
+  plain-step : (n : ℕ) (j : Judged) → stepped (wrong n) ns ≡ stepped j ns
+      → stepped (wrong (if every plain t then n else badByte)) ns ≡ stepped (if not (every plain t) then wrong badByte else j) ns
+  plain-step n j e = go (every plain t)
+    where
+      go : (x : Bool) → stepped (wrong (if x then n else badByte)) ns ≡ stepped (if not x then wrong badByte else j) ns
+      go true = e
+      go false = refl
 
-pub field-unknown : (version : ℕ) (gs : List Given) (rest : List ℕ) {o : Option ℕ} → o ≡ none → onField version gs o rest ≡ wrong unknownField
-unfolding onField
-field-unknown version gs rest e = rw e
+  pub pair-line : (k v : List ℕ)
+      → stepped (wrong (if every plain t then wrongOf (onPair version k v) else badByte)) ns ≡ stepped (onKind version gs t (otherLine (pairMark k v))) ns
+  pair-line k v = plain-step (wrongOf (onPair version k v)) (onPair version k v) (pair-step version ns k v)
+
+  pub unmarked-line : stepped (wrong (if every plain t then noMark else badByte)) ns ≡ stepped (onKind version gs t (otherLine unmarked)) ns
+  unmarked-line = plain-step noMark (wrong noMark) refl
+
+-- ---- a field along its tests
 
 module _ (version : ℕ) (gs : List Given) (f : ℕ) (rest : List ℕ) where
   pub field-old : version < fieldSince f → onField version gs (some f) rest ≡ wrong notInVersion
@@ -120,46 +129,12 @@ module _ (version : ℕ) (gs : List Given) (f : ℕ) (rest : List ℕ) where
     unfolding onField
     field-here g o = rw (le-ltb version (fieldSince f) n, g, o)
 
--- ---- a line by its mark
+-- ---- a line by its text
 
-module _ (version : ℕ) (gs : List Given) (t : List ℕ) where
-  -- all that stands from i on
-  to-end : (i : ℕ) → take (length t - i) (drop i t) ≡ drop i t
-  to-end i = rw (← length-drop i t, take-length)
+-- all that stands from i on
+pub to-end : (t : List ℕ) (i : ℕ) → take (length t - i) (drop i t) ≡ drop i t
+to-end t i = rw (← length-drop i t, take-length)
 
-  module _ (i : ℕ) where
-    pub marked-field : Field i ≡ markPlace (mark t)
-        → onMark version gs (mark t) ≡ onField version gs (fieldNamed (take i t)) (take (length t - (i + 2)) (drop (i + 2) t))
-    marked-field e = rw (to-end (i + 2), mark-split-field t i (sym e) .0)
-
-    pub marked-pair : Pair i ≡ markPlace (mark t)
-        → onMark version gs (mark t) ≡ onPair version (take i t) (take (length t - (i + 2)) (drop (i + 2) t))
-    marked-pair e = rw (to-end (i + 2), mark-split-pair t i (sym e) .0)
-
-  pub marked-nothing : Nothing ≡ markPlace (mark t) → onMark version gs (mark t) ≡ wrong noMark
-  marked-nothing e = rw (mark-split-nothing t (sym e))
-
--- ---- a line along its tests
-
-module _ (version : ℕ) (gs : List Given) where
-  pub line-empty : (t : List ℕ) → length t ≡ 0 → judge version gs t ≡ right closing
-  unfolding judge
-  line-empty [] h = refl
-  line-empty (b ∷ t) h = absurd (let z : ⊥ = omega arith in z)
-
-  pub line-comment : (t : List ℕ) → (length t ≡ 0 → ⊥) → getD t 0 0 ≡ HASH → judge version gs t ≡ right comment
-  unfolding judge
-  line-comment [] h e = absurd (h refl)
-  line-comment (b ∷ t) h e = rw (eq-eqb b HASH e)
-
-  pub line-bad : (t : List ℕ) → (length t ≡ 0 → ⊥) → (getD t 0 0 ≡ HASH → ⊥) → every plain t ≡ false
-      → judge version gs t ≡ wrong badByte
-  unfolding judge
-  line-bad [] h e p = absurd (h refl)
-  line-bad (b ∷ t) h e p = rw (ne-eqb b HASH e, p)
-
-  pub line-marked : (t : List ℕ) → (length t ≡ 0 → ⊥) → (getD t 0 0 ≡ HASH → ⊥) → every plain t ≡ true
-      → judge version gs t ≡ onMark version gs (mark t)
-  unfolding judge
-  line-marked [] h e p = absurd (h refl)
-  line-marked (b ∷ t) h e p = rw (ne-eqb b HASH e, p)
+pub line-is : (version : ℕ) (gs : List Given) (t ns : List ℕ) {k : LineKind} → kindOf t ≡ k → stepped (onKind version gs t k) ns ≡ stepped (judge version gs t) ns
+unfolding judge
+line-is version gs t ns e = rw e

@@ -4,7 +4,7 @@ use Prim.Native.Nat.{ℕ, zero, suc, _+_, _≤_, _<_, _-_}
 use Prim.Native.String.{String}
 use native.Mathlib.Nat.{add-zero, zero-add, not-suc-le-zero, le-of-suc-le-suc}
 use native.Mathlib.Omega.{arith}
-use mathlib.Core.Path.{_≡_, refl, sym, ap, _∙_}
+use mathlib.Core.Path.{_≡_, refl, sym, ap, subst, _∙_}
 use mathlib.Core.Bool.{Bool, true, false, not, _&&_, _||_, false≢true}
 use mathlib.Core.List.{List, [], _∷_, _++_, map}
 use mathlib.Core.Option.{Option, none, some}
@@ -19,11 +19,11 @@ use Rattle.format.specs.Limits.{maxAxes, maxSize, maxExtent}
 use Rattle.format.specs.Refusals.{badDescriptor, missingField, extentTooLarge, refusal, fine}
 use Rattle.format.specs.Fields.{namesOf, fieldTable, fieldAt, fieldCount, fieldNamed, Given, given, descriptorOf, isGiven, dimension, type, encoding, endian, sizes, lineSkip, byteSkip, dataFile}
 use Rattle.format.specs.Descriptors.{meaning, number, valueOfNumber, within, numbersIn, sizesFine, words, isDetached, mayDescribe, numberSaid, numberOf, dimensionOf, sizesSaid, sizesOf, endianNeeded, hasNeeded, extent, extentOf}
-use Rattle.format.specs.Header.{Item, magic, comment, field, pair, closing, Entry, wrong, right, judge, refused, afterItem, versionOf, headerLength}
-use Rattle.format.specs.Rules.{FieldLine, Keeps, fieldOf}
+use Rattle.format.specs.Header.{Item, field, fieldOf, Entry, wrong, right, judge, refused, withField, afterItem, versionOf, headerLength}
+use Rattle.format.specs.Rules.{FieldLine, Keeps}
 use Rattle.format.specs.Calls.{readAnswer, padded, readingAt, readingOf}
 use Rattle.format.proofs.Bytes.{and-left, and-right}
-use Rattle.format.proofs.Judged.{judge-keeps}
+use Rattle.format.proofs.Judged.{is-field, judge-keeps, after-cases}
 use Rattle.format.proofs.Rules.{needed-of}
 use Rattle.text.specs.Numbers.{noSizes, sizesAnswer}
 use Rattle.text.specs.declared.numbers.Sizes.{Sizes}
@@ -92,7 +92,7 @@ module _ (f : ℕ) (d : List ℕ) (gs : List Given) where
       each-set (λ g. numberOf g gs) (λ g. numberOf g (given f d ∷ gs)) (numberSaid f d) 0 fieldCount f f
       (λ g n. rw (other-descriptor g n)) (rw own-descriptor) (omega arith) h
 
-  sizes-after : padded (sizesOf (given f d ∷ gs)) ≡ sizesGiven (given f d ∷ []) (padded (sizesOf gs))
+  sizes-after : padded (sizesOf (given f d ∷ gs)) ≡ sizesGiven (some (given f d)) (padded (sizesOf gs))
   unfolding descriptorOf
   sizes-after = go (eqb sizes f)
     where
@@ -301,14 +301,7 @@ kept-field version {gs} {t} f d k h = go (eqb dimension f) refl (eqb sizes f) re
 
 -- one line more
 pub kept-next : (version : ℕ) (gs : List Given) (t : List ℕ) (i : Item) → Kept gs → judge version gs t ≡ right i → Kept (afterItem i gs)
-kept-next version gs t i k e = go i (judge-keeps version gs t e)
-  where
-    go : (i : Item) → Keeps version gs t i → Kept (afterItem i gs)
-    go (magic n) s = k
-    go comment s = k
-    go (field f d) s = kept-field version f d k s
-    go (pair x v) s = k
-    go closing s = k
+kept-next version gs t i k e = after-cases version gs t Kept e k (λ f d s. kept-field version f d k s)
 
 -- ---- what is kept once a line is read
 
@@ -317,22 +310,19 @@ pub holds-none : Holds (flags []) (numbersOf []) (padded []) []
 unfolding descriptorOf
 holds-none = record { marks-are = refl; numbers-are = refl; sizes-are = refl; kept = kept-none }
 
--- what is kept once a line is read: the field of its step
-abbrev pub HoldsAfter : List Bool → List ℕ → List ℕ → List Given → Item → Type 0
-HoldsAfter marks numbers ns gs i =
-    Holds (keptAt (fieldGiven (fieldOf i)) true marks) (keptAt (fieldGiven (fieldOf i)) (numberGiven (fieldOf i)) numbers)
-    (sizesGiven (fieldOf i) ns) (afterItem i gs)
+-- what is kept once a line is read, by the field that it gives
+abbrev pub HoldsAfter : List Bool → List ℕ → List ℕ → List Given → Option Given → Type 0
+HoldsAfter marks numbers ns gs o =
+    Holds (keptAt (fieldGiven o) true marks) (keptAt (fieldGiven o) (numberGiven o) numbers) (sizesGiven o ns) (withField o gs)
 
 pub holds-next : (version : ℕ) {marks : List Bool} {numbers ns : List ℕ} {gs : List Given} (t : List ℕ) (i : Item)
-    → Holds marks numbers ns gs → judge version gs t ≡ right i → HoldsAfter marks numbers ns gs i
-holds-next version {marks} {numbers} {ns} {gs} t i h e = go i (judge-keeps version gs t e)
+    → Holds marks numbers ns gs → judge version gs t ≡ right i → HoldsAfter marks numbers ns gs (fieldOf i)
+holds-next version {marks} {numbers} {ns} {gs} t i h j = go (fieldOf i) refl
   where
-    go : (i : Item) → Keeps version gs t i → HoldsAfter marks numbers ns gs i
-    go (magic n) s = h
-    go comment s = h
-    go (pair x v) s = h
-    go closing s = h
-    go (field f d) s =
+    go : (o : Option Given) → fieldOf i ≡ o → HoldsAfter marks numbers ns gs o
+    go none e = h
+    go (some (given f d)) e =
+        let s : FieldLine version gs t f d = subst (Keeps version gs t) (is-field i e) (judge-keeps version gs t j) in
         let b = field-below (s .name) f (s .named) in
         let l = lt-ltb f fieldCount b in
         record {
@@ -341,3 +331,7 @@ holds-next version {marks} {numbers} {ns} {gs} t i h e = go i (judge-keeps versi
           sizes-are = rw (h .sizes-are) (sym (sizes-after f d gs));
           kept = kept-field version f d (h .kept) s;
         }
+
+-- what the judgement of a line has to know
+pub known-of : {marks : List Bool} {numbers ns : List ℕ} {gs : List Given} → Holds marks numbers ns gs → Known marks (getD numbers dimension 0) gs
+known-of h = record { marks-are = h .marks-are; dimension-is = number-at h dimension (omega arith); axes = axes-at h }

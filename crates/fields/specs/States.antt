@@ -3,6 +3,7 @@ use Prim.Native.Nat.{ℕ, zero, suc, _+_, _-_, _≤_}
 use mathlib.Core.Path.{_≡_}
 use mathlib.Core.Bool.{Bool, true, false, not}
 use mathlib.Core.List.{List, [], _∷_}
+use mathlib.Core.Option.{Option, none, some}
 use lib.Dec.{ltb, eqb}
 use lib.ListN.{length, set}
 use Rattle.format.specs.declared.ReadAnswer.{ReadAnswer}
@@ -11,8 +12,7 @@ use Rattle.format.specs.Limits.{maxAxes, maxExtent}
 use Rattle.format.specs.Refusals.{badDescriptor, missingField, extentTooLarge, refusal, fine}
 use Rattle.format.specs.Fields.{Given, given, fieldCount, isGiven, dimension, sizes}
 use Rattle.format.specs.Descriptors.{numberSaid, numberOf, dimensionOf, sizesSaid, sizesOf, mayDescribe, hasNeeded, extentOf}
-use Rattle.format.specs.Header.{Item, Judged, wrong, right, field, closes, Outcome, refused, accepted, headerLength}
-use Rattle.format.specs.Rules.{fieldOf}
+use Rattle.format.specs.Header.{Item, Judged, wrong, right, field, fieldOf, closes, Outcome, refused, accepted, headerLength}
 use Rattle.format.specs.Calls.{noReading, padded, readingAt}
 use Rattle.fields.specs.declared.state.Step.{Step}
 
@@ -53,18 +53,18 @@ abbrev pub described : ℕ → ℕ → List ℕ → Judged
 described n f t = if not (mayDescribe n f t) then wrong badDescriptor else right (field f t)
 
 -- the field that a line gives, or the first number that is none, and the number that it says
-abbrev pub fieldGiven : List Given → ℕ
-fieldGiven [] = fieldCount
-fieldGiven (given f d ∷ gs) = f
+abbrev pub fieldGiven : Option Given → ℕ
+fieldGiven none = fieldCount
+fieldGiven (some (given f d)) = f
 
-abbrev pub numberGiven : List Given → ℕ
-numberGiven [] = 0
-numberGiven (given f d ∷ gs) = numberSaid f d
+abbrev pub numberGiven : Option Given → ℕ
+numberGiven none = 0
+numberGiven (some (given f d)) = numberSaid f d
 
 -- the sizes once the line is read
-abbrev pub sizesGiven : List Given → List ℕ → List ℕ
-sizesGiven [] ns = ns
-sizesGiven (given f d ∷ gs) ns = if eqb sizes f then padded (sizesSaid d) else ns
+abbrev pub sizesGiven : Option Given → List ℕ → List ℕ
+sizesGiven none ns = ns
+sizesGiven (some (given f d)) ns = if eqb sizes f then padded (sizesSaid d) else ns
 
 -- a line's step by what the line was judged to be
 abbrev pub stepOf : Judged → Step

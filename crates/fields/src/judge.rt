@@ -1,18 +1,20 @@
 // One line after line 1: what it is, or the number of its refusal, 5 to 12 in order; and the end of the header.
 use crate::state::Step;
 use format::field;
-use text::lines::Mark;
+use text::lines::Kind;
 use text::words::Row;
 ghost use mathlib.Core.Path.{_≡_};
 ghost use mathlib.Core.List.{List};
 ghost use mathlib.Core.Option.{some};
-ghost use Prim.Native.Nat.{ℕ, _-_, _≤_, _<_};
-ghost use lib.ListN.{length};
+ghost use Prim.Native.Nat.{ℕ, _+_, _-_, _≤_, _<_};
+ghost use lib.ListN.{length, take, drop};
+ghost use Rattle.format.specs.Bytes.{every, if_then_else_};
 ghost use Rattle.format.specs.Limits.{maxAxes};
-ghost use Rattle.format.specs.Pairs.{mark};
-ghost use Rattle.format.specs.Fields.{Given, fieldCount, fieldNamed, inOrder};
+ghost use Rattle.format.specs.Refusals.{badByte};
+ghost use Rattle.format.specs.Pairs.{plain, fieldMark, otherLine};
+ghost use Rattle.format.specs.Fields.{Given, fieldCount, inOrder};
 ghost use Rattle.format.specs.Descriptors.{fromDescriptor, descriptor};
-ghost use Rattle.format.specs.Header.{wrong, onPair, onField, onMark, judge};
+ghost use Rattle.format.specs.Header.{wrong, onPair, onField, onKind, judge};
 ghost use Rattle.fields.specs.declared.state.Step.{Step};
 ghost use Rattle.fields.specs.States.{wrongOf, flags, Known, described, stepOf, stepped};
 
@@ -130,43 +132,39 @@ fn on_known(
     take_field(f, descriptor_of(f, rest), dimension, sizes)
 }
 
-// A field: unknown 7, not in this version 8, repeated 9, out of order 10, bad descriptor 11.
+// The line t of a field whose mark stands at i: a byte that it may not hold 5, unknown 7, not in this version 8, repeated 9, out of order 10, bad descriptor 11.
 fn on_field(
     version: u32,
     given: &[bool; 30],
     dimension: u32,
-    name: &[u8],
-    rest: &[u8],
+    t: &[u8],
+    i: usize,
     sizes: &mut [u64; 16],
 ) -> Step
-    ensures { λ r. ⌜ ((gs : List Given) → Known (now (given .entry)) dimension gs → _≡_ {A = Step × List ℕ} (r, now (sizes .exit)) (stepped (onField version gs (fieldNamed (now (name .entry))) (now (rest .entry))) (now (sizes .entry)))) ⌝ }
+    requires { ⌜ i + 2 ≤ length (now t) ⌝ }
+    ensures { λ r. ⌜ ((gs : List Given) → Known (now (given .entry)) dimension gs → _≡_ {A = Step × List ℕ} (r, now (sizes .exit)) (stepped (onKind version gs (now (t .entry)) (otherLine (fieldMark (take i (now (t .entry))) (drop (i + 2) (now (t .entry)))))) (now (sizes .entry)))) ⌝ }
 {
-    let row = text::words::field_named(name);
+    if !text::bytes::is_plain(t) {
+        return refuse(format::BAD_BYTE);
+    }
+    let row = text::words::field_named(&t[..i]);
     match row {
-        Row::Number(f) => on_known(version, given, dimension, f as usize, rest, sizes),
+        Row::Number(f) => on_known(version, given, dimension, f as usize, &t[i + 2..], sizes),
         Row::Unknown => refuse(format::UNKNOWN_FIELD),
     }
 }
 
-// A line that is neither empty nor a comment, by its mark: no mark 6.
-fn on_mark(
-    version: u32,
-    given: &[bool; 30],
-    dimension: u32,
-    t: &[u8],
-    sizes: &mut [u64; 16],
-) -> Step
-    ensures { λ r. ⌜ ((gs : List Given) → Known (now (given .entry)) dimension gs → _≡_ {A = Step × List ℕ} (r, now (sizes .exit)) (stepped (onMark version gs (mark (now (t .entry)))) (now (sizes .entry)))) ⌝ }
+// The number of the refusal of a line: 5 before any other.
+fn plain_first(t: &[u8], number: u32) -> u32
+    ensures { λ r. ⌜ r ≡ (if every plain (now (t .entry)) then number else badByte) ⌝ }
 {
-    let m = text::lines::find_mark(t);
-    match m {
-        Mark::Field(i) => on_field(version, given, dimension, &t[..i], &t[i + 2..], sizes),
-        Mark::Pair(i) => refuse(on_pair(version, &t[..i], &t[i + 2..])),
-        Mark::Nothing => refuse(format::NO_MARK),
+    if text::bytes::is_plain(t) {
+        return number;
     }
+    format::BAD_BYTE
 }
 
-// One line after line 1, by its text, after the fields given, in a header of this dimension. A right sizes line changes the sizes.
+// One line after line 1, by its text, after the fields given, in a header of this dimension: with no mark 6. A right line of sizes changes the sizes.
 pub fn judge_line(
     version: u32,
     given: &[bool; 30],
@@ -176,19 +174,16 @@ pub fn judge_line(
 ) -> Step
     ensures { λ r. ⌜ ((gs : List Given) → Known (now (given .entry)) dimension gs → _≡_ {A = Step × List ℕ} (r, now (sizes .exit)) (stepped (judge version gs (now (t .entry))) (now (sizes .entry)))) ⌝ }
 {
-    if t.len() == 0 {
-        return Step {
+    match text::lines::kind_of(t) {
+        Kind::Empty => Step {
             wrong: 0,
             closes: true,
             field: field::COUNT,
             number: 0,
-        };
+        },
+        Kind::Comment => refuse(0),
+        Kind::Field(i) => on_field(version, given, dimension, t, i, sizes),
+        Kind::Pair(i) => refuse(plain_first(t, on_pair(version, &t[..i], &t[i + 2..]))),
+        Kind::Neither => refuse(plain_first(t, format::NO_MARK)),
     }
-    if t[0] == b'#' {
-        return refuse(0);
-    }
-    if !text::bytes::is_plain(t) {
-        return refuse(format::BAD_BYTE);
-    }
-    on_mark(version, given, dimension, t, sizes)
 }

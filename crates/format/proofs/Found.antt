@@ -2,7 +2,7 @@
 -- Assumes nothing.
 use Prim.Native.Nat.{ℕ, _+_, _-_, _<_}
 use native.Mathlib.Omega.{arith}
-use mathlib.Core.Path.{_≡_, refl, sym, ap, _∙_}
+use mathlib.Core.Path.{_≡_, refl, sym, ap, _∙_, subst}
 use mathlib.Core.Bool.{Bool, true, false, false≢true}
 use mathlib.Core.List.{List, [], _∷_, _++_, append-assoc}
 use mathlib.Core.Option.{Option, none, some}
@@ -17,12 +17,13 @@ use Rattle.format.specs.Lines.{Line, line, text, size, endingBytes, line
 use Rattle.format.specs.Pairs.{escape}
 use Rattle.format.specs.Fields.{Given, given, descriptorOf, isGiven}
 use Rattle.format.specs.Descriptors.{fromDescriptor, descriptor}
-use Rattle.format.specs.Header.{Item, magic, comment, field, pair, closing, Entry, entry, linesOf, right, judge, Outcome, refused, accepted, afterItem, header, valueIn, valueOf}
+use Rattle.format.specs.Header.{Item, magic, field, pair, pairOf, fieldOf, Entry, entry, linesOf, right, judge, Outcome, refused, accepted, withField, afterItem, header, valueFor, valueIn, valueOf}
 use Rattle.format.specs.Settings.{pairText}
-use Rattle.format.specs.Calls.{noPlace, foundAt, valuePlace, keyPlace, findKeyIn, findKeyCall, beforeDescriptor, fieldPlace, findFieldIn, findFieldCall}
+use Rattle.format.specs.Calls.{noPlace, foundAt, pairPlace, valuePlace, keyPlace, findKeyIn, findKeyCall, beforeDescriptor, givenPlace, fieldPlace, findFieldIn, findFieldCall}
 pub use Rattle.format.specs.Found.{HasAt, Finds, FindsField, escaped, FindsKey}
 use Rattle.format.specs.Rules.{FieldLine, Keeps}
 use Rattle.format.proofs.Marks.{field-of-first}
+use Rattle.format.proofs.Judged.{is-pair, is-field}
 use Rattle.format.proofs.Pairs.{pair-line}
 use Rattle.format.proofs.Descriptors.{drop-to-descriptor, take-trimmed}
 use Rattle.format.proofs.Header.{Fine, fine-cases, header-sound}
@@ -136,11 +137,14 @@ module _ (file : List ℕ) (f : ℕ) where
       → drop at file ≡ lineBytes l ++ z → judge version gs (text l) ≡ right i → Keeps version gs (text l) i
       → Field (fieldPlace f (at + size l) es) gs′ (descriptorOf f (afterItem i gs)) → Field (fieldPlace f at (entry l i ∷ es)) gs′ (descriptorOf f gs)
   unfolding fieldPlace
-  field-before version at gs l (magic n) es gs′ z h j s p = p
-  field-before version at gs l comment es gs′ z h j s p = p
-  field-before version at gs l (field g d) es gs′ z h j s p = field-given version at gs l g d es gs′ z h s p
-  field-before version at gs l (pair k v) es gs′ z h j s p = p
-  field-before version at gs l closing es gs′ z h j s p = p
+  field-before version at gs l i es gs′ z h j s = go (fieldOf i) refl
+    where
+      rest : FindAnswer
+      rest = fieldPlace f (at + size l) es
+
+      go : (o : Option Given) → fieldOf i ≡ o → Field rest gs′ (descriptorOf f (withField o gs)) → Field (givenPlace f at (text l) o rest) gs′ (descriptorOf f gs)
+      go none e p = p
+      go (some (given g d)) e p = field-given version at gs l g d es gs′ z h (subst (Keeps version gs (text l)) (is-field i e) s) p
 
   pub field-found : FindsField file f (header file) (findFieldCall file f)
   unfolding fieldPlace descriptorOf
@@ -163,15 +167,18 @@ module _ (file k : List ℕ) where
   KeyIn at i = Finds file (escaped (valueIn k i)) (if isSome (valueIn k i) then valuePlace at i else noPlace fine)
 
   key-in : (version at : ℕ) (gs : List Given) (l : Line) (i : Item) (z : List ℕ) → drop at file ≡ lineBytes l ++ z → judge version gs (text l) ≡ right i → KeyIn at i
-  key-in version at gs l (magic n) z h j = refl
-  key-in version at gs l comment z h j = refl
-  key-in version at gs l (field f d) z h j = refl
-  key-in version at gs (line t e) (pair m v) z h j = go (same k m)
+  key-in version at gs (line t e) i z h j = go (pairOf i) refl
     where
-      go : (x : Bool) → Finds file (escaped (if x then some v else none)) (if isSome (if x then some v else none) then valuePlace at (pair m v) else noPlace fine)
-      go true = value-here file at m v (endingBytes e ++ z) (h ∙ append-assoc t (endingBytes e) z ∙ rw (pair-line version gs t m v j .text-is))
-      go false = refl
-  key-in version at gs l closing z h j = refl
+      go : (o : Option (List ℕ × List ℕ)) → pairOf i ≡ o
+          → Finds file (escaped (valueFor k o)) (if isSome (valueFor k o) then pairPlace at o else noPlace fine)
+      go none q = refl
+      go (some p) q = here (same k (p .0))
+        where
+          here : (x : Bool) → Finds file (escaped (if x then some (p .1) else none)) (if isSome (if x then some (p .1) else none) then pairPlace at (some p) else noPlace fine)
+          here true =
+              value-here file at (p .0) (p .1) (endingBytes e ++ z)
+              (h ∙ append-assoc t (endingBytes e) z ∙ rw (pair-line version gs t (p .0) (p .1) (j ∙ ap right (is-pair i q)) .text-is))
+          here false = refl
 
   -- a line before others: they give the key its last value, or else the line does, or none
   key-before : (at : ℕ) (l : Line) (i : Item) (es : List Entry) → KeyIn at i → Key (at + size l) es → Key at (entry l i ∷ es)

@@ -16,10 +16,10 @@ use Rattle.format.specs.Refusals.{fileTooLong, missingField, extentTooLa
 use Rattle.format.specs.Lines.{Line, line, lf, crlf, eof, text, size, lines, unlines}
 use Rattle.format.specs.Fields.{Given}
 use Rattle.format.specs.Descriptors.{hasNeeded, extentOf, isDetached}
-use Rattle.format.specs.Header.{Item, magic, comment, field, pair, closing, Entry, entry, lineOf, linesOf, magicVersion, versionOfLine, Judged, wrong, right, judge, Outcome, refused, accepted, withEntry, closes, afterItem, complete, onJudged, walk, afterMagic, fromFirst, header, tableOf, headerLength}
+use Rattle.format.specs.Header.{Item, magic, closing, Entry, entry, lineOf, linesOf, magicVersion, versionOfLine, Judged, wrong, right, judge, Outcome, refused, accepted, withEntry, closes, afterItem, complete, onJudged, walk, afterMagic, fromFirst, header, tableOf, headerLength}
 use Rattle.format.specs.Rules.{Keeps, closed}
 use Rattle.format.proofs.Lines.{unlines-of-lines, unlines-append, length-unlines-cons, Shape, lf-line, crlf-line, eof-line, shape-of-lines, shape-before, shape-after, lines-of-parts, bytes-after, length-starts}
-use Rattle.format.proofs.Judged.{judge-keeps}
+use Rattle.format.proofs.Judged.{is-closing, judge-keeps}
 
 -- ---- what an accepted header is, the limits left out
 
@@ -279,11 +279,7 @@ length-table es = length-starts 0 (linesOf es) ∙ length-map es lineOf
 
 -- the line that closes the header gives no field
 pub after-closing : (i : Item) (gs : List Given) → closes i ≡ true → afterItem i gs ≡ gs
-after-closing (magic n) gs e = refl
-after-closing comment gs e = refl
-after-closing (field f d) gs e = absurd (false≢true e)
-after-closing (pair k v) gs e = refl
-after-closing closing gs e = refl
+after-closing i gs e = rw (is-closing i e)
 
 module _ (version : ℕ) where
   -- the first line of a fine header closes it, or the entries after that line are fine
@@ -317,11 +313,7 @@ shape-empty h (eof-line p n) m = absurd (omega (arith, ap length h))
 
 -- a line that closes the header is empty
 closes-empty : (version : ℕ) (gs : List Given) (t : List ℕ) (i : Item) → Keeps version gs t i → closes i ≡ true → t ≡ []
-closes-empty version gs t (magic n) s c = absurd s
-closes-empty version gs t comment s c = absurd (false≢true c)
-closes-empty version gs t (field f d) s c = absurd (false≢true c)
-closes-empty version gs t (pair k v) s c = absurd (false≢true c)
-closes-empty version gs t closing s c = s
+closes-empty version gs t i s c = subst (Keeps version gs t) (is-closing i c) s
 
 module _ (version : ℕ) where
   -- a line with an entry after it does not close the header, and the entries after it are fine

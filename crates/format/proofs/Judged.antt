@@ -1,21 +1,44 @@
--- A line is judged to be an item exactly when it keeps the rules of that item (specs/Rules.antt): `keeps-judge`, `judge-keeps`.
+-- A line is judged to be an item exactly when it keeps the rules of that item (specs/Rules.antt): `keeps-judge`, `judge-keeps`. No names follow in a header: `no-names-after`.
 -- Assumes nothing.
-use mathlib.Core.Path.{_≡_, refl, sym, subst}
+use mathlib.Core.Path.{_≡_, refl, sym, ap, subst}
 use Prim.Native.Nat.{ℕ, _≤_}
-use mathlib.Core.Bool.{Bool, true, false, not, _||_, false≢true}
+use mathlib.Core.Bool.{Bool, true, false, not, _&&_, _||_, false≢true}
 use mathlib.Core.List.{List, [], _∷_}
 use mathlib.Core.Option.{Option, none, some}
 use lib.Dec.{eqb, ltb}
-use borrow.Author.Tests.{ltb-false, le-ltb}
-use Rattle.format.specs.Bytes.{every, isEmpty, HASH, if_then_else_}
+use borrow.Author.Tests.{eqb-true, not-true, ltb-false, le-ltb}
+use Rattle.format.specs.Bytes.{every, isIn, isEmpty, PERCENT, if_then_else_}
 use Rattle.format.specs.Refusals.{badByte, notInVersion, repeatedField, outOfOrder, badDescriptor}
-use Rattle.format.specs.Pairs.{plain, Marked, unmarked, fieldMark, pairMark, mark, unescape}
-use Rattle.format.specs.Fields.{fieldNamed, pairsSince, fieldSince, Given, isGiven, needsDimension, needsSpace, inOrder, dimension, space, spaceDimension}
-use Rattle.format.specs.Descriptors.{descriptor, mayDescribe, dimensionOf}
-use Rattle.format.specs.Header.{Item, magic, comment, field, pair, closing, Judged, wrong, right, unescaped, onPair, onField, onMark, judge}
-use Rattle.format.specs.Rules.{isComment, OtherLine, Keeps}
+use Rattle.format.specs.Pairs.{plain, Marked, unmarked, fieldMark, pairMark, mark, LineKind, emptyLine, commentLine, otherLine, kindOf, isOther, unescape}
+use Rattle.format.specs.Fields.{fieldNamed, pairsSince, fieldSince, Given, given, descriptorOf, isGiven, needsDimension, needsSpace, inOrder, dimension, space, spaceDimension, dataFile}
+use Rattle.format.specs.Descriptors.{descriptor, meaning, isList, mayDescribe, dimensionOf, namesFollow}
+use Rattle.format.specs.Header.{Item, magic, comment, field, pair, closing, pairOf, fieldOf, closes, Judged, wrong, right, unescaped, onPair, onField, onMark, onKind, judge, withField, afterItem}
+use Rattle.format.specs.Rules.{OtherLine, FieldLine, Keeps}
 use Rattle.format.proofs.Bytes.{and-left, and-right}
-use Rattle.format.proofs.Marks.{first-of-field, first-of-pair, field-of-first, pair-of-first}
+use Rattle.format.proofs.Marks.{first-of-field, first-of-pair, field-of-first, pair-of-first, other-kind, mark-of-kind, empty-kind}
+
+-- ---- an item by its views
+
+pub is-pair : (i : Item) {p : List ℕ × List ℕ} → pairOf i ≡ some p → i ≡ pair (p .0) (p .1)
+is-pair (magic n) e = cc
+is-pair comment e = cc
+is-pair (field f d) e = cc
+is-pair (pair k v) e = cc
+is-pair closing e = cc
+
+pub is-field : (i : Item) {f : ℕ} {d : List ℕ} → fieldOf i ≡ some (given f d) → i ≡ field f d
+is-field (magic n) e = cc
+is-field comment e = cc
+is-field (field f d) e = cc
+is-field (pair k v) e = cc
+is-field closing e = cc
+
+pub is-closing : (i : Item) → closes i ≡ true → i ≡ closing
+is-closing (magic n) c = absurd (false≢true c)
+is-closing comment c = absurd (false≢true c)
+is-closing (field f d) c = absurd (false≢true c)
+is-closing (pair k v) c = absurd (false≢true c)
+is-closing closing c = refl
 
 -- ---- the order of fields
 
@@ -39,29 +62,23 @@ module _ (version : ℕ) (gs : List Given) where
 
   judge-other : (t : List ℕ) → OtherLine t → judge version gs t ≡ onMark version gs (mark t)
   unfolding judge
-  judge-other [] o = absurd (false≢true (sym (o .filled)))
-  judge-other (b ∷ t) o = rw (o .no-comment, o .all-plain)
+  judge-other t o = rw (other-kind t (o .other), o .all-plain)
 
   on-field-is : (f : ℕ) (rest : List ℕ) → fieldSince f ≤ version → isGiven f gs ≡ false → inOrder f gs ≡ true
       → mayDescribe (dimensionOf gs) f (descriptor f rest) ≡ true → onField version gs (some f) rest ≡ right (field f (descriptor f rest))
   unfolding onField
   on-field-is f rest s n o d = rw (le-ltb version (fieldSince f) s, n, o, d)
 
-  on-pair-is : (key value k v : List ℕ) → isEmpty key ≡ false → pairsSince ≤ version → unescape key ≡ some k → unescape value ≡ some v
+  pub on-pair-is : (key value k v : List ℕ) → isEmpty key ≡ false → pairsSince ≤ version → unescape key ≡ some k → unescape value ≡ some v
       → onPair version key value ≡ right (pair k v)
   unfolding onPair
   on-pair-is [] value k v h n i j = absurd (false≢true (sym h))
   on-pair-is (b ∷ key) value k v h n i j = rw (le-ltb version pairsSince n, i, j)
 
-  keeps-comment : (t : List ℕ) → isComment t ≡ true → judge version gs t ≡ right comment
-  unfolding judge
-  keeps-comment [] h = absurd (false≢true h)
-  keeps-comment (b ∷ t) h = rw h
-
   pub keeps-judge : (t : List ℕ) (i : Item) → Keeps version gs t i → judge version gs t ≡ right i
   unfolding judge
   keeps-judge t (magic n) k = absurd k
-  keeps-judge t comment k = keeps-comment t k
+  keeps-judge t comment k = rw k
   keeps-judge t (field f d) k =
       rw (judge-other t (k .other), field-of-first (k .marked), k .named, k .descriptor-is)
       (on-field-is f (k .rest) (k .since) (k .new) (in-order f gs (k .after-dimension) (k .after-space)) (rw (k .descriptor-is) at (k .described)))
@@ -137,17 +154,57 @@ module _ (version : ℕ) (gs : List Given) where
 
   keeps-right : (t : List ℕ) → KeepsRight t (judge version gs t)
   unfolding judge
-  keeps-right [] = refl
-  keeps-right (b ∷ t) = go (eqb b HASH) refl (every plain (b ∷ t)) refl (mark (b ∷ t)) refl
+  keeps-right t = go (kindOf t) refl
     where
-      go : (x : Bool) → eqb b HASH ≡ x → (y : Bool) → every plain (b ∷ t) ≡ y → (m : Marked) → mark (b ∷ t) ≡ m
-          → KeepsRight (b ∷ t) (if x then right comment else if not y then wrong badByte else onMark version gs m)
-      go true c y p m e = c
-      go false c false p m e = tt
-      go false c true p unmarked e = tt
-      go false c true p (fieldMark name rest) e =
-          field-keeps (b ∷ t) name rest (record { filled = refl; no-comment = c; all-plain = p }) e (fieldNamed name) refl
-      go false c true p (pairMark k v) e = pair-keeps (b ∷ t) k v (record { filled = refl; no-comment = c; all-plain = p }) e
+      marked : (m : Marked) → kindOf t ≡ otherLine m → every plain t ≡ true → KeepsRight t (onMark version gs m)
+      marked unmarked e p = tt
+      marked (fieldMark name rest) e p =
+          field-keeps t name rest (record { other = ap isOther e; all-plain = p }) (mark-of-kind t e) (fieldNamed name) refl
+      marked (pairMark k v) e p = pair-keeps t k v (record { other = ap isOther e; all-plain = p }) (mark-of-kind t e)
+
+      other : (m : Marked) → kindOf t ≡ otherLine m → (x : Bool) → every plain t ≡ x → KeepsRight t (if not x then wrong badByte else onMark version gs m)
+      other m e false p = tt
+      other m e true p = marked m e p
+
+      go : (k : LineKind) → kindOf t ≡ k → KeepsRight t (onKind version gs t k)
+      go emptyLine e = empty-kind t e
+      go commentLine e = e
+      go (otherLine m) e = other m e (every plain t) refl
 
   pub judge-keeps : (t : List ℕ) {i : Item} → judge version gs t ≡ right i → Keeps version gs t i
   judge-keeps t e = subst (KeepsRight t) e (keeps-right t)
+
+  -- what holds of the fields given holds of them once a line is read, where it holds of one field more
+  pub after-cases : (t : List ℕ) {i : Item} (P : List Given → Type 0) → judge version gs t ≡ right i → P gs
+      → ((f : ℕ) (d : List ℕ) → FieldLine version gs t f d → P (given f d ∷ gs)) → P (afterItem i gs)
+  after-cases t {i} P j p more = go (fieldOf i) refl
+    where
+      go : (o : Option Given) → fieldOf i ≡ o → P (withField o gs)
+      go none e = p
+      go (some (given f d)) e = more f d (subst (Keeps version gs t) (is-field i e) (judge-keeps t j))
+
+  -- ---- where no names follow, a line is judged by its text
+
+  pub judge-by-text : (t : List ℕ) → namesFollow gs ≡ false → judge version gs t ≡ onKind version gs t (kindOf t)
+  unfolding judge
+  judge-by-text t n = refl
+
+  -- a data file field whose descriptor has the form LIST is refused
+  field-no-names : (t : List ℕ) (f : ℕ) (d : List ℕ) → FieldLine version gs t f d → namesFollow gs ≡ false → namesFollow (given f d ∷ gs) ≡ false
+  unfolding namesFollow descriptorOf mayDescribe
+  field-no-names t f d w h = go (eqb dataFile f) refl
+    where
+      named : mayDescribe (dimensionOf gs) dataFile d ≡ true → isList d ≡ false
+      named e = not-true (isList d) (and-left (not (isList d)) (not (isIn PERCENT d)) (and-right (not (isEmpty d)) (not (isList d) && not (isIn PERCENT d)) e))
+
+      go : (x : Bool) → eqb dataFile f ≡ x → meaning false isList (if x then some d else descriptorOf dataFile gs) ≡ false
+      go true e = named (subst (λ g. mayDescribe (dimensionOf gs) g d ≡ true) (sym (eqb-true dataFile f e)) (w .described))
+      go false e = h
+
+  pub no-names-after : (t : List ℕ) {i : Item} → judge version gs t ≡ right i → namesFollow gs ≡ false → namesFollow (afterItem i gs) ≡ false
+  no-names-after t j h = after-cases t (λ gs. namesFollow gs ≡ false) j h (λ f d w. field-no-names t f d w h)
+
+-- before the first field none do
+pub no-names : namesFollow [] ≡ false
+unfolding namesFollow descriptorOf
+no-names = refl

@@ -1,16 +1,15 @@
--- Laws of the first mark of a line: what it parts, that it is the first (`FirstMark` in specs/Rules.antt), and where a text gets it.
+-- Laws of what a line is by its text, and of its first mark: what it parts, that it is the first (`FirstMark` in specs/Rules.antt), and where a text gets it.
 -- Assumes nothing.
 use mathlib.Core.Path.{_≡_, refl, sym, ap, _∙_}
 use Prim.Native.Nat.{ℕ, suc, _≤_}
 use native.Mathlib.Omega.{arith}
-use mathlib.Core.Bool.{Bool, true, false}
+use mathlib.Core.Bool.{Bool, true, false, false≢true}
 use mathlib.Core.List.{List, [], _∷_, _++_}
 use lib.Dec.{eqb}
 use lib.ListN.{length, getD}
-use borrow.Author.Tests.{eqb-true}
-use Rattle.format.specs.Bytes.{bytes, COLON, SPACE, EQUALS, if_then_else_}
-use Rattle.format.specs.Pairs.{Marked, unmarked, fieldMark, pairMark, afterColon, moreBefore, firstMark, mark}
-use Rattle.format.specs.Settings.{hasMark}
+use borrow.Author.Tests.{eqb-true, not-true}
+use Rattle.format.specs.Bytes.{bytes, isEmpty, HASH, COLON, SPACE, EQUALS, if_then_else_}
+use Rattle.format.specs.Pairs.{Marked, unmarked, fieldMark, pairMark, afterColon, moreBefore, firstMark, mark, hasMark, LineKind, emptyLine, commentLine, otherLine, kindOf, isOther, isUnmarked}
 use Rattle.format.specs.Rules.{FirstMark}
 
 -- ---- what the first mark parts
@@ -205,3 +204,49 @@ pair-of-first {t} {a} {b} f = go (mark t) (first-parted f (pair-by a b (f .parte
     go unmarked p = absurd p
     go (fieldMark c d) p = absurd (omega (arith, ap (λ s. getD s 1 0) (p .1)))
     go (pairMark c d) p = cc
+
+-- ---- what a line is
+
+-- a line that is neither empty nor a comment is so by its mark
+pub other-kind : (t : List ℕ) → isOther (kindOf t) ≡ true → kindOf t ≡ otherLine (mark t)
+other-kind [] h = absurd (false≢true h)
+other-kind (b ∷ t) h = go (eqb b HASH) h
+  where
+    go : (x : Bool) → isOther (if x then commentLine else otherLine (mark (b ∷ t))) ≡ true
+        → (if x then commentLine else otherLine (mark (b ∷ t))) ≡ otherLine (mark (b ∷ t))
+    go true h = absurd (false≢true h)
+    go false h = refl
+
+pub mark-of-kind : (t : List ℕ) {m : Marked} → kindOf t ≡ otherLine m → mark t ≡ m
+mark-of-kind t {m} e =
+    let p : otherLine (mark t) ≡ otherLine m = sym (other-kind t (ap isOther e)) ∙ e in
+    cc
+
+pub empty-kind : (t : List ℕ) → kindOf t ≡ emptyLine → t ≡ []
+empty-kind [] e = refl
+empty-kind (b ∷ t) e = go (eqb b HASH) e
+  where
+    go : (x : Bool) → (if x then commentLine else otherLine (mark (b ∷ t))) ≡ emptyLine → b ∷ t ≡ []
+    go true e = cc
+    go false e = cc
+
+pub unmarked-kind : (t : List ℕ) → isUnmarked (kindOf t) ≡ true → kindOf t ≡ otherLine unmarked
+unmarked-kind t = go (kindOf t)
+  where
+    go : (k : LineKind) → isUnmarked k ≡ true → k ≡ otherLine unmarked
+    go emptyLine h = absurd (false≢true h)
+    go commentLine h = absurd (false≢true h)
+    go (otherLine m) h = ap otherLine (unmarked-is m (not-true (hasMark m) h))
+
+pub other-filled : (t : List ℕ) → isOther (kindOf t) ≡ true → isEmpty t ≡ false
+other-filled [] h = absurd (false≢true h)
+other-filled (b ∷ t) h = refl
+
+-- what stands first in a line decides whether it is a comment
+pub other-front : (a r : List ℕ) → isEmpty a ≡ false → isOther (kindOf (a ++ r)) ≡ isOther (kindOf a)
+other-front [] r h = absurd (false≢true (sym h))
+other-front (b ∷ a) r h = go (eqb b HASH)
+  where
+    go : (x : Bool) → isOther (if x then commentLine else otherLine (mark (b ∷ a ++ r))) ≡ isOther (if x then commentLine else otherLine (mark (b ∷ a)))
+    go true = refl
+    go false = refl

@@ -5,16 +5,16 @@ use native.Mathlib.Omega.{arith}
 use mathlib.Core.Bool.{Bool, true, false, not}
 use mathlib.Core.List.{List, [], _∷_}
 use mathlib.Core.Option.{Option, none, some}
-use lib.Dec.{eqb, ltb}
+use lib.Dec.{ltb}
 use lib.ListN.{length}
-use Rattle.format.specs.Bytes.{if_then_else_, every, HASH}
+use Rattle.format.specs.Bytes.{if_then_else_, every}
 use Rattle.format.specs.Limits.{maxFile, maxHeader, maxLines, maxExtent}
 use Rattle.format.specs.Refusals.{fileTooLong, headerTooLong, tooManyLines, badByte, notInVersion, repeatedField, outOfOrder, badDescriptor, noEnd, missingField, extentTooLarge, atLine, refusal}
 use Rattle.format.specs.Lines.{Line, size, text, lines}
-use Rattle.format.specs.Pairs.{plain, Marked, unmarked, fieldMark, pairMark, mark, unescape}
+use Rattle.format.specs.Pairs.{plain, Marked, unmarked, fieldMark, pairMark, LineKind, emptyLine, commentLine, otherLine, kindOf, unescape}
 use Rattle.format.specs.Fields.{fieldNamed, pairsSince, fieldSince, Given, isGiven, inOrder}
 use Rattle.format.specs.Descriptors.{descriptor, mayDescribe, dimensionOf, hasNeeded, extentOf, isDetached}
-use Rattle.format.specs.Header.{Item, magic, comment, field, Entry, entry, versionOfLine, Judged, wrong, right, unescaped, onPair, onField, onMark, judge, Outcome, refused, accepted, withEntry, closes, afterItem, complete, onJudged, walk, afterMagic, fromFirst, header}
+use Rattle.format.specs.Header.{Item, magic, field, Entry, entry, versionOfLine, Judged, wrong, right, unescaped, onPair, onField, onMark, onKind, judge, Outcome, refused, accepted, withEntry, closes, afterItem, complete, onJudged, walk, afterMagic, fromFirst, header}
 
 -- ---- a line's
 
@@ -52,16 +52,18 @@ module _ (version : ℕ) (gs : List Given) where
 
   pub judge-numbered : (t : List ℕ) → Numbered (judge version gs t)
   unfolding judge
-  judge-numbered [] = tt
-  judge-numbered (b ∷ t) = go (eqb b HASH) (every plain (b ∷ t)) (mark (b ∷ t))
+  judge-numbered t = go (kindOf t)
     where
-      go : (x y : Bool) (m : Marked)
-          → Numbered (if x then right comment else if not y then wrong badByte else onMark version gs m)
-      go true y m = tt
-      go false false m = omega arith
-      go false true unmarked = omega arith
-      go false true (fieldMark name rest) = field-numbered (fieldNamed name) rest
-      go false true (pairMark k v) = pair-numbered k v
+      other : (x : Bool) (m : Marked) → Numbered (if not x then wrong badByte else onMark version gs m)
+      other false m = omega arith
+      other true unmarked = omega arith
+      other true (fieldMark name rest) = field-numbered (fieldNamed name) rest
+      other true (pairMark k v) = pair-numbered k v
+
+      go : (k : LineKind) → Numbered (onKind version gs t k)
+      go emptyLine = tt
+      go commentLine = tt
+      go (otherLine m) = other (every plain t) m
 
 -- ---- the reading's
 

@@ -1,24 +1,25 @@
 -- Laws of pair lines: escapes, the line that sets a key, and what the reader takes for a pair.
 -- Assumes nothing.
-use mathlib.Core.Path.{_≡_, refl, sym, _∙_}
+use mathlib.Core.Path.{_≡_, refl, sym, ap, _∙_}
 use Prim.Native.Nat.{ℕ, _+_, _≤_}
 use native.Mathlib.Omega.{arith}
-use mathlib.Core.Bool.{Bool, true, false, not, _&&_, false≢true}
+use mathlib.Core.Bool.{Bool, true, false, not, _&&_}
 use mathlib.Core.List.{List, [], _∷_, _++_}
 use mathlib.Core.Option.{none, some}
 use lib.Dec.{eqb}
 use lib.ListN.{length, length-append}
 use borrow.Author.Tests.{eqb-true, not-true}
-use Rattle.format.specs.Bytes.{bytes, every, onto, isEmpty, LF, HASH, BACKSLASH, if_then_else_}
-use Rattle.format.specs.Pairs.{plain, unmarked, pairMark, mark, escape, unescapeFrom, unescape}
+use Rattle.format.specs.Bytes.{bytes, every, onto, isEmpty, LF, BACKSLASH, if_then_else_}
+use Rattle.format.specs.Pairs.{plain, unmarked, pairMark, mark, otherLine, kindOf, isOther, escape, unescapeFrom, unescape}
 use Rattle.format.specs.Fields.{Given}
+use Rattle.format.specs.Descriptors.{namesFollow}
 use Rattle.format.specs.Header.{pair, right, judge}
-use Rattle.format.specs.Rules.{isComment, PairLine}
-use Rattle.format.specs.Settings.{settable, hasMark, beginsFine, keyFine, valueFine, pairText}
+use Rattle.format.specs.Rules.{PairLine}
+use Rattle.format.specs.Settings.{settable, keyFine, valueFine, pairText}
 use Rattle.format.proofs.Bytes.{and-left, and-right, every-append, every-left, every-right, every-weaker, onto-some}
 use Rattle.format.proofs.Lines.{notLF}
-use Rattle.format.proofs.Marks.{unmarked-is, mark-parts, mark-of-append, first-of-pair, pair-of-first}
-use Rattle.format.proofs.Judged.{judge-keeps, keeps-judge}
+use Rattle.format.proofs.Marks.{mark-parts, mark-of-append, pair-of-first, other-kind, mark-of-kind, unmarked-kind, other-filled, other-front}
+use Rattle.format.proofs.Judged.{judge-keeps, judge-by-text, on-pair-is}
 
 -- ---- escapes
 
@@ -117,39 +118,20 @@ plain-of-escape s h = plain-escape s ∙ h
 pub settable-of-plain : (s : List ℕ) → every plain (escape s) ≡ true → every settable s ≡ true
 settable-of-plain s h = sym (plain-escape s) ∙ h
 
--- an escaped text is empty or begins with `#` if and only if the text does
-pub begins-of-escape : (s : List ℕ) → beginsFine (escape s) ≡ beginsFine s
-unfolding escape
-begins-of-escape [] = refl
-begins-of-escape (b ∷ s) = go (eqb b LF) refl (eqb b BACKSLASH) refl
-  where
-    go : (x : Bool) → eqb b LF ≡ x → (y : Bool) → eqb b BACKSLASH ≡ y
-        → beginsFine (if x then bytes "\\n" ++ escape s else if y then bytes "\\\\" ++ escape s else b ∷ escape s) ≡ beginsFine (b ∷ s)
-    go true e y f = rw (eqb-true b LF e)
-    go false e true f = rw (eqb-true b BACKSLASH f)
-    go false e false f = refl
-
 -- ---- keys that can be set, and the line of a pair
 
 -- a key that can be set, by its parts
 pub record FineKey (k : List ℕ) : Type 0 where
-  pub begins : beginsFine k ≡ true
   pub bytes-fine : every settable k ≡ true
-  pub no-mark : mark (escape k) ≡ unmarked
+  pub kind : kindOf (escape k) ≡ otherLine unmarked
 
 pub fine-key : (k : List ℕ) → keyFine k ≡ true → FineKey k
 unfolding keyFine
-fine-key k h =
-    let rest : (every settable k && not (hasMark (mark (escape k)))) ≡ true = and-right (beginsFine k) _ h in
-    record {
-      begins = and-left (beginsFine k) _ h;
-      bytes-fine = and-left (every settable k) _ rest;
-      no-mark = unmarked-is (mark (escape k)) (not-true (hasMark (mark (escape k))) (and-right (every settable k) _ rest));
-    }
+fine-key k h = record { bytes-fine = and-left (every settable k) _ h; kind = unmarked-kind (escape k) (and-right (every settable k) _ h) }
 
 pub key-fine : (k : List ℕ) → FineKey k → keyFine k ≡ true
 unfolding keyFine
-key-fine k f = rw (f .begins, f .bytes-fine, f .no-mark)
+key-fine k f = rw (f .bytes-fine, f .kind)
 
 -- how long a set line's text is
 pub length-pair : (k v : List ℕ) → length (pairText k v) ≡ length (escape k) + 2 + length (escape v)
@@ -159,16 +141,17 @@ length-pair k v = simp length-append (omega arith)
 -- the first mark of a set line is its `:=`
 pub mark-of-pair : (k v : List ℕ) → keyFine k ≡ true → mark (pairText k v) ≡ pairMark (escape k) (escape v)
 unfolding pairText
-mark-of-pair k v h = mark-of-append (escape k) (escape v) (fine-key k h .no-mark)
+mark-of-pair k v h = mark-of-append (escape k) (escape v) (mark-of-kind (escape k) (fine-key k h .kind))
 
-begins-append : (a r : List ℕ) → beginsFine a ≡ true → beginsFine (a ++ r) ≡ true
-begins-append [] r h = absurd (false≢true h)
-begins-append (b ∷ a) r h = h
+key-filled : (k : List ℕ) → keyFine k ≡ true → isEmpty (escape k) ≡ false
+key-filled k h = other-filled (escape k) (ap isOther (fine-key k h .kind))
 
--- a set line is neither empty nor a comment
-pub begins-of-pair : (k v : List ℕ) → keyFine k ≡ true → beginsFine (pairText k v) ≡ true
+-- what a set line is by its text
+pub kind-of-pair : (k v : List ℕ) → keyFine k ≡ true → kindOf (pairText k v) ≡ otherLine (pairMark (escape k) (escape v))
 unfolding pairText
-begins-of-pair k v h = begins-append (escape k) (bytes ":=" ++ escape v) (begins-of-escape k ∙ fine-key k h .begins)
+kind-of-pair k v h =
+    let o = other-front (escape k) (bytes ":=" ++ escape v) (key-filled k h) ∙ ap isOther (fine-key k h .kind) in
+    other-kind (pairText k v) o ∙ ap otherLine (mark-of-pair k v h)
 
 pub plain-of-pair : (k v : List ℕ) → keyFine k ≡ true → valueFine v ≡ true → every plain (pairText k v) ≡ true
 unfolding pairText valueFine every
@@ -177,31 +160,13 @@ plain-of-pair k v h i =
 
 -- ---- what the reader takes for a pair
 
--- a text that is not empty and does not begin with `#`
-begins-other : (t : List ℕ) → beginsFine t ≡ true → (isEmpty t ≡ false) × (isComment t ≡ false)
-begins-other [] h = absurd (false≢true h)
-begins-other (b ∷ t) h = (refl, not-true (eqb b HASH) h)
-
--- and the other way round, of the first part of a text
-other-begins : (a r : List ℕ) → isEmpty a ≡ false → isComment (a ++ r) ≡ false → beginsFine a ≡ true
-other-begins [] r h c = absurd (false≢true (sym h))
-other-begins (b ∷ a) r h c = rw c
-
--- the line that sets k to v is read as the pair of k and v
-pub judge-of-pair : (version : ℕ) (gs : List Given) (k v : List ℕ) → 2 ≤ version → keyFine k ≡ true → valueFine v ≡ true
+-- the line that sets k to v is read as the pair of k and v, where no names follow
+pub judge-of-pair : (version : ℕ) (gs : List Given) (k v : List ℕ) → namesFollow gs ≡ false → 2 ≤ version → keyFine k ≡ true → valueFine v ≡ true
     → judge version gs (pairText k v) ≡ right (pair k v)
-judge-of-pair version gs k v n h i =
-    let o = begins-other (pairText k v) (begins-of-pair k v h) in
-    keeps-judge version gs (pairText k v) (pair k v) record {
-      other = record { filled = o .0; no-comment = o .1; all-plain = plain-of-pair k v h i };
-      key = escape k;
-      value = escape v;
-      marked = first-of-pair (pairText k v) (mark-of-pair k v h);
-      key-filled = begins-other (escape k) (begins-of-escape k ∙ fine-key k h .begins) .0;
-      since = n;
-      key-is = unescape-of-escape k;
-      value-is = unescape-of-escape v;
-    }
+judge-of-pair version gs k v names n h i =
+    judge-by-text version gs (pairText k v) names
+    ∙ rw (kind-of-pair k v h, plain-of-pair k v h i)
+    (on-pair-is version gs (escape k) (escape v) k v (key-filled k h) n (unescape-of-escape k) (unescape-of-escape v))
 
 -- of a line t of that version: it is the line that sets k to v, and both can be set
 pub record SetLine (version : ℕ) (t k v : List ℕ) : Type 0 where
@@ -219,11 +184,11 @@ set-line {version} {t} {k} {v} p =
     let plain-value = every-right plain (p .key) (bytes ":=" ++ p .value) all in
     let i : escape k ≡ p .key = escape-of-plain (p .key) k plain-key (p .key-is) in
     let j : escape v ≡ p .value = escape-of-plain (p .value) v plain-value (p .value-is) in
-    let begins = other-begins (p .key) (bytes ":=" ++ p .value) (p .key-filled) (rw (q .0) at (p .other .no-comment)) in
+    let other = sym (other-front (p .key) (bytes ":=" ++ p .value) (p .key-filled)) ∙ rw (q .0) at (p .other .other) in
     record {
       since = p .since;
       text-is = rw (i, j) (q .0);
-      key = key-fine k record { begins = sym (begins-of-escape k) ∙ rw i begins; bytes-fine = settable-of-plain k (rw i plain-key); no-mark = rw i (q .1) };
+      key = key-fine k record { bytes-fine = settable-of-plain k (rw i plain-key); kind = rw i (other-kind (p .key) other ∙ ap otherLine (q .1)) };
       value = settable-of-plain v (rw j plain-value);
     }
 

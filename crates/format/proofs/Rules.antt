@@ -5,17 +5,17 @@ use Prim.Native.Nat.{ℕ}
 use native.Mathlib.Omega.{arith}
 use mathlib.Core.Bool.{Bool, true, false, not, _&&_, _||_, false≢true}
 use mathlib.Core.List.{List, [], _∷_, _++_, cons≢nil, append-assoc, append-nil, map-append}
-use mathlib.Core.Option.{some, Option·none-ne-some}
+use mathlib.Core.Option.{Option, none, some, Option·none-ne-some}
 use lib.ListN.{length}
 use Rattle.format.specs.declared.Refusal.{Refusal}
 use Rattle.format.specs.Lines.{Line, line, lf, crlf, eof, text, ending, lines}
 use Rattle.format.specs.Fields.{Given, isGiven, dimension, type, encoding, endian, sizes, dataFile}
 use Rattle.format.specs.Descriptors.{endianNeeded, typeOf, encodingOf, hasNeeded}
-use Rattle.format.specs.Header.{Item, magic, comment, field, pair, closing, Entry, entry, linesOf, magicVersion, versionOfLine, Outcome, refused, accepted, closes, afterItem, header}
-use Rattle.format.specs.Rules.{Keeps, hasEnding, fieldOf, fieldsOf, closed, Needed, KeepsRules}
+use Rattle.format.specs.Header.{Item, magic, closing, fieldOf, closes, Entry, entry, linesOf, magicVersion, versionOfLine, Outcome, refused, accepted, withField, afterItem, header}
+use Rattle.format.specs.Rules.{Keeps, hasEnding, fieldsOf, closed, Needed, KeepsRules}
 use Rattle.format.proofs.Bytes.{and-left, and-right}
 use Rattle.format.proofs.Lines.{Shape, lf-line, crlf-line, eof-line, shape-of-lines, shape-after}
-use Rattle.format.proofs.Judged.{keeps-judge}
+use Rattle.format.proofs.Judged.{is-closing, keeps-judge}
 use Rattle.format.proofs.Header.{Complete, FineBy, Fine, fine-cases, fine-complete, after-closing, header-sound, header-fine}
 
 -- ---- the needed fields
@@ -70,12 +70,12 @@ none-among [] e after h = cons≢nil (sym h)
 none-among (b ∷ before) e after h = cons≢nil (sym h)
 
 -- the fields given once a line is read
-after-item : (i : Item) (gs : List Given) → fieldOf i ++ gs ≡ afterItem i gs
-after-item (magic n) gs = refl
-after-item comment gs = refl
-after-item (field f d) gs = refl
-after-item (pair k v) gs = refl
-after-item closing gs = refl
+after-item : (i : Item) (gs : List Given) → afterItem i [] ++ gs ≡ afterItem i gs
+after-item i gs = go (fieldOf i)
+  where
+    go : (o : Option Given) → withField o [] ++ gs ≡ withField o gs
+    go none = refl
+    go (some g) = refl
 
 fields-next : (l : Line) (i : Item) (es : List Entry) (gs : List Given) → fieldsOf (entry l i ∷ es) ++ gs ≡ fieldsOf es ++ afterItem i gs
 unfolding fieldsOf
@@ -85,13 +85,6 @@ closed-next : (l : Line) (i : Item) (es : List Entry) → closes i ≡ false →
 unfolding closed
 closed-next l i [] c = c
 closed-next l i (e ∷ es) c = refl
-
-is-closing : (i : Item) → closes i ≡ true → i ≡ closing
-is-closing (magic n) c = absurd (false≢true c)
-is-closing comment c = absurd (false≢true c)
-is-closing (field f d) c = absurd (false≢true c)
-is-closing (pair k v) c = absurd (false≢true c)
-is-closing closing c = refl
 
 module _ (version : ℕ) (gs′ : List Given) where
   lined-nil : (gs : List Given) → gs′ ≡ gs → Lined version gs [] gs′

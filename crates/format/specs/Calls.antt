@@ -23,9 +23,9 @@ use Rattle.format.specs.Limits.{maxAxes}
 use Rattle.format.specs.Refusals.{lentTooShort, badCoordinates, refusal, fine}
 use Rattle.format.specs.Lines.{text, size}
 use Rattle.format.specs.Pairs.{Marked, unmarked, fieldMark, pairMark, mark, escape}
-use Rattle.format.specs.Fields.{Given}
+use Rattle.format.specs.Fields.{Given, given}
 use Rattle.format.specs.Descriptors.{fromDescriptor, isDetached, dimensionOf, typeOf, encodingOf, endianOf, sizesOf, lineSkipOf, byteSkipOf, extentOf, sampleBytes, numberKind, product}
-use Rattle.format.specs.Header.{Item, magic, comment, field, pair, closing, Entry, entry, Outcome, refused, accepted, header, versionOf, valueOf, valueIn, tableOf, headerLength}
+use Rattle.format.specs.Header.{Item, pairOf, fieldOf, Entry, entry, Outcome, refused, accepted, header, versionOf, valueOf, valueIn, tableOf, headerLength}
 use Rattle.format.specs.Data.{Place, nowhere, part, placeOf, partOf}
 use Rattle.format.specs.Samples.{Decoded, samplesOf}
 use Rattle.format.specs.Axes.{inside, sampleNumber}
@@ -94,12 +94,12 @@ abbrev pub foundAt : ℕ → ℕ → FindAnswer
 foundAt at n = record { refusal = fine; found = true; start = at; length = n }
 
 -- the value's text of a pair, in a line that starts at `at`: it follows the key's text and `:=`
+abbrev pub pairPlace : ℕ → Option (List ℕ × List ℕ) → FindAnswer
+pairPlace at none = noPlace fine
+pairPlace at (some p) = foundAt (at + (length (escape (p .0)) + 2)) (length (escape (p .1)))
+
 abbrev pub valuePlace : ℕ → Item → FindAnswer
-valuePlace at (magic n) = noPlace fine
-valuePlace at comment = noPlace fine
-valuePlace at (field f d) = noPlace fine
-valuePlace at (pair k v) = foundAt (at + (length (escape k) + 2)) (length (escape v))
-valuePlace at closing = noPlace fine
+valuePlace at i = pairPlace at (pairOf i)
 
 -- the place of the value's text in the last line with the key, in entries that start at `at`
 unfoldable pub keyPlace : List ℕ → ℕ → List Entry → FindAnswer
@@ -127,12 +127,12 @@ abbrev pub beforeDescriptor : ℕ → List ℕ → ℕ
 beforeDescriptor f t = length t - length (fromDescriptor f (afterMark (mark t)))
 
 -- the place of the descriptor that a line gives the field f, or what the lines after it say
+abbrev pub givenPlace : ℕ → ℕ → List ℕ → Option Given → FindAnswer → FindAnswer
+givenPlace f at t none rest = rest
+givenPlace f at t (some (given g d)) rest = if eqb f g then foundAt (at + beforeDescriptor f t) (length d) else rest
+
 abbrev pub descriptorPlace : ℕ → ℕ → List ℕ → Item → FindAnswer → FindAnswer
-descriptorPlace f at t (magic n) rest = rest
-descriptorPlace f at t comment rest = rest
-descriptorPlace f at t (field g d) rest = if eqb f g then foundAt (at + beforeDescriptor f t) (length d) else rest
-descriptorPlace f at t (pair k v) rest = rest
-descriptorPlace f at t closing rest = rest
+descriptorPlace f at t i rest = givenPlace f at t (fieldOf i) rest
 
 unfoldable pub fieldPlace : ℕ → ℕ → List Entry → FindAnswer
 fieldPlace f at [] = noPlace fine

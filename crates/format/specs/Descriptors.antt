@@ -238,9 +238,18 @@ isDetached gs = isGiven dataFile gs
 abbrev pub sizesFine : ℕ → List (List ℕ) → Bool
 sizesFine n ws = eqb (length ws) n && numbersIn 1 maxSize ws
 
+-- a data file descriptor of the form LIST, after which names stand on lines of their own
+abbrev pub isList : List ℕ → Bool
+isList t = same t (bytes "LIST") || beginsWith (bytes "LIST ") t
+
 -- a name is not empty, not `LIST`, does not start with `LIST `, and has no `%`
 abbrev pub isName : List ℕ → Bool
-isName t = not (isEmpty t) && (not (same t (bytes "LIST")) && (not (beginsWith (bytes "LIST ") t) && not (isIn PERCENT t)))
+isName t = not (isEmpty t) && (not (isList t) && not (isIn PERCENT t))
+
+-- Whether the lines after these fields are names, whatever their text is. In a header that is accepted it is never so,
+-- since `isName` refuses the form (law `no-names-after`, proofs/Judged.antt).
+unfoldable pub namesFollow : List Given → Bool
+namesFollow gs = meaning false isList (descriptorOf dataFile gs)
 
 -- the field may have the descriptor t in a header of dimension n; a carried field may have any
 unfoldable pub mayDescribe : ℕ → ℕ → List ℕ → Bool

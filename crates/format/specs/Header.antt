@@ -4,14 +4,14 @@ use Prim.Native.Nat.{ℕ, _+_}
 use mathlib.Core.Bool.{Bool, true, false, not}
 use mathlib.Core.List.{List, [], _∷_, map}
 use mathlib.Core.Option.{Option, none, some}
-use lib.Dec.{eqb, ltb}
+use lib.Dec.{ltb}
 use lib.ListN.{length}
 use Rattle.format.specs.declared.Refusal.{Refusal}
-use Rattle.format.specs.Bytes.{if_then_else_, bytes, every, same, orElse, HASH}
+use Rattle.format.specs.Bytes.{if_then_else_, bytes, every, same, orElse}
 use Rattle.format.specs.Limits.{maxFile, maxHeader, maxLines, maxExtent}
 use Rattle.format.specs.Refusals.{fileTooLong, noMagic, headerTooLong, tooManyLines, badByte, noMark, unknownField, notInVersion, repeatedField, outOfOrder, badDescriptor, badBackslash, noEnd, missingField, extentTooLarge, atLine, refusal}
 use Rattle.format.specs.Lines.{Line, line, lf, crlf, eof, text, size, lines, unlines, starts}
-use Rattle.format.specs.Pairs.{plain, Marked, unmarked, fieldMark, pairMark, mark, unescape}
+use Rattle.format.specs.Pairs.{plain, Marked, unmarked, fieldMark, pairMark, LineKind, emptyLine, commentLine, otherLine, kindOf, unescape}
 use Rattle.format.specs.Fields.{fieldNamed, pairsSince, fieldSince, Given, given, isGiven, inOrder}
 use Rattle.format.specs.Descriptors.{descriptor, mayDescribe, dimensionOf, hasNeeded, extentOf, isDetached}
 
@@ -27,6 +27,38 @@ pub data Item : Type 0 where
   pair : List ℕ → List ℕ → Item
   -- the empty line that closes the header
   closing : Item
+
+-- Views of an item. What is said of items is said over these four, so that a new kind of line costs a clause in each of them and none elsewhere.
+
+-- the key and the value of a pair
+abbrev pub pairOf : Item → Option (List ℕ × List ℕ)
+pairOf (magic n) = none
+pairOf comment = none
+pairOf (field f d) = none
+pairOf (pair k v) = some (k, v)
+pairOf closing = none
+
+-- the field that it gives
+abbrev pub fieldOf : Item → Option Given
+fieldOf (magic n) = none
+fieldOf comment = none
+fieldOf (field f d) = some (given f d)
+fieldOf (pair k v) = none
+fieldOf closing = none
+
+abbrev pub closes : Item → Bool
+closes (magic n) = false
+closes comment = false
+closes (field f d) = false
+closes (pair k v) = false
+closes closing = true
+
+abbrev pub versionOfItem : Item → ℕ
+versionOfItem (magic n) = n
+versionOfItem comment = 0
+versionOfItem (field f d) = 0
+versionOfItem (pair k v) = 0
+versionOfItem closing = 0
 
 -- a line of the header, and what it is
 pub data Entry : Type 0 where
@@ -92,13 +124,15 @@ onMark version gs unmarked = wrong noMark
 onMark version gs (fieldMark name rest) = onField version gs (fieldNamed name) rest
 onMark version gs (pairMark k v) = onPair version k v
 
--- a line by its text; of a file's lines an empty one always has its ending (law `shape-of-lines`)
+-- a line with the text t, by what it is by that text; of a file's lines an empty one always has its ending (law `shape-of-lines`)
+abbrev pub onKind : ℕ → List Given → List ℕ → LineKind → Judged
+onKind version gs t emptyLine = right closing
+onKind version gs t commentLine = right comment
+onKind version gs t (otherLine m) = if not (every plain t) then wrong badByte else onMark version gs m
+
+-- a line with the text t, after the fields given
 unfoldable pub judge : ℕ → List Given → List ℕ → Judged
-judge version gs [] = right closing
-judge version gs (b ∷ t) =
-    if eqb b HASH then right comment
-    else if not (every plain (b ∷ t)) then wrong badByte
-    else onMark version gs (mark (b ∷ t))
+judge version gs t = onKind version gs t (kindOf t)
 
 -- ---- the walk over the lines
 
@@ -111,20 +145,13 @@ abbrev pub withEntry : Entry → Outcome → Outcome
 withEntry e (refused r) = refused r
 withEntry e (accepted es gs ls) = accepted (e ∷ es) gs ls
 
-abbrev pub closes : Item → Bool
-closes (magic n) = false
-closes comment = false
-closes (field f d) = false
-closes (pair k v) = false
-closes closing = true
+abbrev pub withField : Option Given → List Given → List Given
+withField none gs = gs
+withField (some g) gs = g ∷ gs
 
 -- the fields given once the line is read
 abbrev pub afterItem : Item → List Given → List Given
-afterItem (magic n) gs = gs
-afterItem comment gs = gs
-afterItem (field f d) gs = given f d ∷ gs
-afterItem (pair k v) gs = gs
-afterItem closing gs = gs
+afterItem i gs = withField (fieldOf i) gs
 
 -- the header is at its end, before the lines ls
 unfoldable pub complete : List Given → List Line → Outcome
@@ -159,25 +186,18 @@ header file = if ltb maxFile (length file) then refused (refusal fileTooLong) el
 
 -- ---- the reading: version, form (`isDetached`), each field's descriptor (`descriptorOf`), each key's value
 
-abbrev pub versionOfItem : Item → ℕ
-versionOfItem (magic n) = n
-versionOfItem comment = 0
-versionOfItem (field f d) = 0
-versionOfItem (pair k v) = 0
-versionOfItem closing = 0
-
 -- the version is that of line 1
 abbrev pub versionOf : List Entry → ℕ
 versionOf [] = 0
 versionOf (e ∷ es) = versionOfItem (itemOf e)
 
--- the value that a line gives the key k
+-- the value that a pair gives the key k
+abbrev pub valueFor : List ℕ → Option (List ℕ × List ℕ) → Option (List ℕ)
+valueFor k none = none
+valueFor k (some p) = if same k (p .0) then some (p .1) else none
+
 abbrev pub valueIn : List ℕ → Item → Option (List ℕ)
-valueIn k (magic n) = none
-valueIn k comment = none
-valueIn k (field f d) = none
-valueIn k (pair j v) = if same k j then some v else none
-valueIn k closing = none
+valueIn k i = valueFor k (pairOf i)
 
 -- the value of a key is that of its last pair
 unfoldable pub valueOf : List ℕ → List Entry → Option (List ℕ)

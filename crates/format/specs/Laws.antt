@@ -13,7 +13,7 @@ use Rattle.format.specs.Limits.{maxFile}
 use Rattle.format.specs.Lines.{Line, line, lf, crlf, eof, lines, unlines, starts}
 use Rattle.format.specs.Pairs.{pairMark, mark, escape, unescape}
 use Rattle.format.specs.Fields.{Given}
-use Rattle.format.specs.Descriptors.{NumberKind, signed, number}
+use Rattle.format.specs.Descriptors.{NumberKind, signed, number, namesFollow}
 use Rattle.format.specs.Header.{Entry, linesOf, right, judge, pair, refused, accepted, header, headerLength}
 use Rattle.format.specs.Rules.{closed, KeepsRules}
 use Rattle.format.specs.Samples.{inType, sampleValue, valueBytes, hexRun, hexBytes, tokenValue, samplesOf}
@@ -75,9 +75,9 @@ pub record Laws : Type 0 where
   pub unescape-of-escape : (s : List ℕ) → unescape (escape s) ≡ some s
   pub escape-of-unescape : (t s : List ℕ) → NoLF t → unescape t ≡ some s → escape s ≡ t
   pub escape-injective : (a b : List ℕ) → escape a ≡ escape b → a ≡ b
-  -- the first mark of a set line is its `:=`, and the reader takes the line for that pair; every pair that it takes can be set
+  -- the first mark of a set line is its `:=`, and the reader takes the line for that pair where no names follow; every pair that it takes can be set
   pub mark-of-pair : (k v : List ℕ) → keyFine k ≡ true → mark (pairText k v) ≡ pairMark (escape k) (escape v)
-  pub judge-of-pair : (version : ℕ) (gs : List Given) (k v : List ℕ) → 2 ≤ version → keyFine k ≡ true → valueFine v ≡ true → judge version gs (pairText k v) ≡ right (pair k v)
+  pub judge-of-pair : (version : ℕ) (gs : List Given) (k v : List ℕ) → namesFollow gs ≡ false → 2 ≤ version → keyFine k ≡ true → valueFine v ≡ true → judge version gs (pairText k v) ≡ right (pair k v)
   pub pair-key-fine : (version : ℕ) (gs : List Given) (t k v : List ℕ) → judge version gs t ≡ right (pair k v) → keyFine k ≡ true
   pub pair-value-fine : (version : ℕ) (gs : List Given) (t k v : List ℕ) → judge version gs t ≡ right (pair k v) → valueFine v ≡ true
   -- a header is accepted exactly when it keeps the rules, and `header` then answers these lines and fields; a file is refused exactly when no lines of it keep them

@@ -3,7 +3,7 @@ use Prim.Native.Nat.{ℕ}
 use Prim.Native.String.{String}
 use mathlib.Core.Bool.{false}
 use mathlib.Core.List.{List, [], _∷_, _++_}
-use mathlib.Core.Option.{none}
+use mathlib.Core.Option.{Option, none, some}
 use lib.Dec.{eqb, ltb}
 use lib.ListN.{length}
 use Rattle.format.specs.declared.Refusal.{Refusal}
@@ -14,7 +14,7 @@ use Rattle.format.specs.Refusals.{lentTooShort, refusal}
 use Rattle.format.specs.Pairs.{escape}
 use Rattle.format.specs.Fields.{Given}
 use Rattle.format.specs.Descriptors.{isDetached, typeOf, typeAt, typeName, encodings, encodingOf, endians, endianOf, noEndian, sizesOf, extentOf}
-use Rattle.format.specs.Header.{Item, magic, comment, field, pair, closing, Entry, entry, Outcome, refused, accepted, header, versionOf, headerLength}
+use Rattle.format.specs.Header.{Item, pairOf, Entry, entry, Outcome, refused, accepted, header, versionOf, headerLength}
 use Rattle.format.specs.Data.{Place, nowhere, part, placeOf}
 use Rattle.format.specs.Writer.{decimal, spaced, nameAt}
 use Rattle.format.specs.Settings.{hasKey}
@@ -32,12 +32,12 @@ abbrev pub shownKey : List ℕ → List ℕ → List ℕ
 shownKey k v = shown "key" (escape k ++ EQUALS ∷ escape v)
 
 -- the key of a line that is the last one with that key
+abbrev pub shownPair : Option (List ℕ × List ℕ) → List Entry → List ℕ
+shownPair none later = []
+shownPair (some p) later = if hasKey (p .0) later then [] else shownKey (p .0) (p .1)
+
 abbrev pub shownItem : Item → List Entry → List ℕ
-shownItem (magic n) later = []
-shownItem comment later = []
-shownItem (field f d) later = []
-shownItem (pair k v) later = if hasKey k later then [] else shownKey k v
-shownItem closing later = []
+shownItem i later = shownPair (pairOf i) later
 
 -- each key with its value, in the order of their last lines
 unfoldable pub shownKeys : List Entry → List ℕ

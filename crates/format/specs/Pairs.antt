@@ -1,10 +1,10 @@
--- What a line is by its marks, and the escapes of key pairs (document 01, "Lines and headers", points 3 and 6).
+-- What a line is by its text, and the escapes of key pairs (document 01, "Lines and headers", points 3 and 6).
 use Prim.Native.Nat.{ℕ}
-use mathlib.Core.Bool.{Bool, true, false, _||_}
+use mathlib.Core.Bool.{Bool, true, false, not, _||_}
 use mathlib.Core.List.{List, [], _∷_, _++_}
 use mathlib.Core.Option.{Option, none, some}
 use lib.Dec.{eqb}
-use Rattle.format.specs.Bytes.{if_then_else_, bytes, between, TAB, LF, SPACE, COLON, EQUALS, BACKSLASH, onto}
+use Rattle.format.specs.Bytes.{if_then_else_, bytes, between, TAB, LF, SPACE, HASH, COLON, EQUALS, BACKSLASH, onto}
 
 -- the bytes that a line other than an empty one or a comment may hold: tab, and 32 to 126 (refusal 5)
 abbrev pub plain : ℕ → Bool
@@ -38,6 +38,34 @@ firstMark (pairMark k v) m = pairMark k v
 unfoldable pub mark : List ℕ → Marked
 mark [] = unmarked
 mark (b ∷ s) = firstMark (if eqb b COLON then afterColon s else unmarked) (moreBefore b (mark s))
+
+abbrev pub hasMark : Marked → Bool
+hasMark unmarked = false
+hasMark (fieldMark n d) = true
+hasMark (pairMark k v) = true
+
+-- ---- what a line is by its text alone; after fields that names follow it is not that (`Descriptors.namesFollow`)
+
+-- empty; a comment, whose first byte is `#`; or any other line, by its mark
+pub data LineKind : Type 0 where
+  emptyLine commentLine : LineKind
+  otherLine : Marked → LineKind
+
+abbrev pub kindOf : List ℕ → LineKind
+kindOf [] = emptyLine
+kindOf (b ∷ s) = if eqb b HASH then commentLine else otherLine (mark (b ∷ s))
+
+-- neither empty nor a comment
+abbrev pub isOther : LineKind → Bool
+isOther emptyLine = false
+isOther commentLine = false
+isOther (otherLine m) = true
+
+-- and without a mark
+abbrev pub isUnmarked : LineKind → Bool
+isUnmarked emptyLine = false
+isUnmarked commentLine = false
+isUnmarked (otherLine m) = not (hasMark m)
 
 -- ---- escapes: `\n` means LF and `\\` a backslash, in keys and in values
 

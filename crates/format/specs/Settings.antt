@@ -1,16 +1,16 @@
 -- Setting a key (document 01, "Setting a key"); lists of settings are in Calls.antt.
 -- A setting's refusals in order: 22 (the used length), the reading's, 8, 24, 25, 26, and of the new file 3, 4, 1, 22.
 use Prim.Native.Nat.{ℕ, _-_, max}
-use mathlib.Core.Bool.{Bool, true, false, not, _&&_, _||_}
+use mathlib.Core.Bool.{Bool, not, _&&_, _||_}
 use mathlib.Core.List.{List, [], _∷_, _++_}
 use lib.Dec.{eqb, ltb, leb}
 use lib.ListN.{length, take, drop, replicate}
 use Rattle.format.specs.declared.Refusal.{Refusal}
-use Rattle.format.specs.Bytes.{if_then_else_, bytes, between, every, same, isSome, over, TAB, LF, HASH}
+use Rattle.format.specs.Bytes.{if_then_else_, bytes, between, every, same, isSome, over, TAB, LF}
 use Rattle.format.specs.Limits.{maxFile, maxHeader, maxLines}
 use Rattle.format.specs.Refusals.{fileTooLong, headerTooLong, tooManyLines, notInVersion, lentTooShort, badKey, badValue, wrongTable, refusal}
 use Rattle.format.specs.Lines.{Line, line, ending, unlines, starts}
-use Rattle.format.specs.Pairs.{Marked, unmarked, fieldMark, pairMark, mark, escape}
+use Rattle.format.specs.Pairs.{kindOf, isUnmarked, escape}
 use Rattle.format.specs.Fields.{pairsSince}
 use Rattle.format.specs.Header.{Entry, entry, linesOf, Outcome, refused, accepted, header, versionOf, valueIn, valueOf, tableOf}
 
@@ -20,19 +20,9 @@ use Rattle.format.specs.Header.{Entry, entry, linesOf, Outcome, refused,
 abbrev pub settable : ℕ → Bool
 settable b = eqb b TAB || (eqb b LF || between 32 126 b)
 
-abbrev pub hasMark : Marked → Bool
-hasMark unmarked = false
-hasMark (fieldMark n d) = true
-hasMark (pairMark k v) = true
-
--- not empty, and its first byte is not `#`
-abbrev pub beginsFine : List ℕ → Bool
-beginsFine [] = false
-beginsFine (b ∷ s) = not (eqb b HASH)
-
--- a key that a line can hold: its bytes are settable, and its escaped text has no mark
+-- a key that a line can hold: its bytes are settable, and its escaped text is not empty, does not begin with `#`, and has no mark
 unfoldable pub keyFine : List ℕ → Bool
-keyFine k = beginsFine k && (every settable k && not (hasMark (mark (escape k))))
+keyFine k = every settable k && isUnmarked (kindOf (escape k))
 
 -- a value that a line can hold
 unfoldable pub valueFine : List ℕ → Bool

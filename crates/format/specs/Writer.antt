@@ -98,8 +98,11 @@ headerLines version sizes t e endian =
     ∷ fieldLine "encoding" (nameAt encodings e)
     ∷ (endianLines t e endian ++ line [] lf ∷ [])
 
+abbrev pub headerBytes : ℕ → List ℕ → ℕ → ℕ → ℕ → List ℕ
+headerBytes version sizes t e endian = unlines (headerLines version sizes t e endian)
+
 unfoldable pub fileBytes : ℕ → List ℕ → ℕ → ℕ → ℕ → List ℤ → List ℕ
-fileBytes version sizes t e endian zs = unlines (headerLines version sizes t e endian) ++ dataBytes e (sampleBytes t) endian zs
+fileBytes version sizes t e endian zs = headerBytes version sizes t e endian ++ dataBytes e (sampleBytes t) endian zs
 
 -- ---- refusals
 

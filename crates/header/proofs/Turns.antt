@@ -14,17 +14,17 @@ use Rattle.format.specs.Bytes.{if_then_else_}
 use Rattle.format.specs.Limits.{maxHeader, maxLines, maxExtent}
 use Rattle.format.specs.Refusals.{noEnd, missingField, extentTooLarge, headerTooLong, tooManyLines, atLine, refusal, fine}
 use Rattle.format.specs.Lines.{Line, line, size, lines, unlines}
-use Rattle.format.specs.Fields.{Given}
+use Rattle.format.specs.Fields.{Given, dimension, dataFile}
 use Rattle.format.specs.Descriptors.{hasNeeded, extentOf, isDetached}
 use Rattle.format.specs.Header.{Item, entry, Judged, wrong, right, judge, Outcome, refused, accepted, withEntry, closes, afterItem, complete, onJudged, walk, headerLength}
-use Rattle.format.specs.Calls.{noReading, readAnswer}
+use Rattle.format.specs.Calls.{noReading, padded, readingAt, readAnswer}
 use Rattle.format.proofs.Lines.{lines-none, length-unlines-cons}
+use Rattle.format.proofs.Judged.{is-closing}
 use Rattle.format.proofs.Numbered.{Numbered, judge-numbered}
-use Rattle.fields.specs.declared.state.State.{State}
 use Rattle.fields.specs.declared.state.Step.{Step}
-use Rattle.fields.specs.States.{flags, stateOf, Kept, Holds, stepOf, readingAt, completeNumber, finished, answerFrom}
+use Rattle.fields.specs.States.{flags, numbersOf, Holds, Known, stepped, keptAt, completeNumber, finished, answerFrom}
 use Rattle.header.specs.Spans.{LineAt, PastAt}
-use Rattle.fields.proofs.States.{kept-none, kept-next}
+use Rattle.fields.proofs.States.{given-at, holds-none, holds-next, known-of}
 
 -- ---- answers
 
@@ -98,145 +98,160 @@ module _ (file : List ℕ) (version : ℕ) (gs : List Given) (n at : ℕ) where
     judged h j e = rw (w .cut, not-past, le-ltb maxLines n h, e, w .bytes)
 
     -- a step, by what the line was judged to be
-    module _ (few : n ≤ maxLines) (some : 1 ≤ n) (s : Step) (is : s ≡ stepOf version gs (judge version gs (take (textEnd - at) (drop at file)))) where
+    module _ (few : n ≤ maxLines) (some : 1 ≤ n) (s : Step) (ns ns′ : List ℕ)
+        (is : _≡_ {A = Step × List ℕ} (s, ns′) (stepped (judge version gs (take (textEnd - at) (drop at file))) ns)) where
       -- the line is refused
       pub turn-wrong : (s .wrong ≡ 0 → ⊥) → answerAt file version gs n at ≡ refusedAt (s .wrong) n
       unfolding t
       turn-wrong h = go (judge version gs t) refl is
         where
-          go : (j : Judged) → judge version gs t ≡ j → s ≡ stepOf version gs j → answerAt file version gs n at ≡ refusedAt (s .wrong) n
+          go : (j : Judged) → judge version gs t ≡ j → _≡_ {A = Step × List ℕ} (s, ns′) (stepped j ns) → answerAt file version gs n at ≡ refusedAt (s .wrong) n
           go (wrong v) e q = judged few (wrong v) e ∙ rw q
-          go (right i) e q = absurd (h (ap (λ (x : Step). x .wrong) q))
+          go (right i) e q = absurd (h (ap (λ (x : Step × List ℕ). x .0 .wrong) q))
 
       module _ (fine : s .wrong ≡ 0) where
+        -- the line is right
+        pub record Right : Type 0 where
+          pub item : Item
+          pub is-right : judge version gs (take (textEnd - at) (drop at file)) ≡ right item
+          pub stepped-is : _≡_ {A = Step × List ℕ} (s, ns′) (stepped (right item) ns)
+
+        right-of : Right
+        unfolding t
+        right-of = go (judge version gs t) refl is (judge-numbered version gs t)
+          where
+            go : (j : Judged) → judge version gs t ≡ j → _≡_ {A = Step × List ℕ} (s, ns′) (stepped j ns) → Numbered j → Right
+            go (wrong v) e q b = absurd (let f : ⊥ = omega (arith, ap (λ (x : Step × List ℕ). x .0 .wrong) q) in f)
+            go (right i) e q b = record { item = i; is-right = e; stepped-is = q }
+
+        -- what is kept once it is read
+        kept-after : {marks : List Bool} {numbers : List ℕ} → Holds marks numbers ns gs
+            → Holds (keptAt (s .field) true marks) (keptAt (s .field) (s .number) numbers) ns′ (afterItem (right-of .item) gs)
+        kept-after h =
+            let q = right-of .stepped-is in
+            rw (ap (λ (x : Step × List ℕ). x .0 .field) q, ap (λ (x : Step × List ℕ). x .0 .number) q, ap (λ (x : Step × List ℕ). x .1) q)
+            (holds-next version (take (textEnd - at) (drop at file)) (right-of .item) h (right-of .is-right))
+
         -- the line closes the header
         pub turn-closes : s .closes ≡ true → answerAt file version gs n at ≡ finished version gs next n
         unfolding t
-        turn-closes h = go (judge version gs t) refl is (judge-numbered version gs t)
-          where
-            go : (j : Judged) → judge version gs t ≡ j → s ≡ stepOf version gs j → Numbered j
-                → answerAt file version gs n at ≡ finished version gs next n
-            go (wrong v) e q b = absurd (let f : ⊥ = omega (arith, ap (λ (x : Step). x .wrong) q) in f)
-            go (right i) e q b =
-                let c : closes i ≡ true = ap (λ (x : Step). x .closes) (sym q) ∙ h in
-                let m : n + 1 - 1 ≡ n = omega arith in
-                judged few (right i) e
-                ∙ rw (
-                  c,
-                  answer-entry version n at (line t (w .ending)) i (complete gs (lines (drop next file))) some,
-                  w .bytes,
-                  answer-complete version (n + 1) next gs (lines (drop next file)),
-                  m,
-                )
+        turn-closes h =
+            let i = right-of .item in
+            let c : closes i ≡ true = ap (λ (x : Step × List ℕ). x .0 .closes) (sym (right-of .stepped-is)) ∙ h in
+            let m : n + 1 - 1 ≡ n = omega arith in
+            judged few (right i) (right-of .is-right)
+            ∙ rw (
+              c,
+              answer-entry version n at (line t (w .ending)) i (complete gs (lines (drop next file))) some,
+              w .bytes,
+              answer-complete version (n + 1) next gs (lines (drop next file)),
+              m,
+            )
+
+        -- it gives no field
+        pub holds-closed : s .closes ≡ true → {marks : List Bool} {numbers : List ℕ} → Holds marks numbers ns gs → Holds marks numbers ns′ gs
+        holds-closed h k =
+            let q = right-of .stepped-is in
+            let c = is-closing (right-of .item) (ap (λ (x : Step × List ℕ). x .0 .closes) (sym q) ∙ h) in
+            rw (ap (λ (x : Step × List ℕ). x .1) q, c) k
 
         -- the header goes on, with the fields gs′
-        pub record Next : Type 0 where
+        pub record Next (marks : List Bool) (numbers : List ℕ) : Type 0 where
           pub gs′ : List Given
-          pub state : s .state ≡ stateOf version gs′
-          pub kept : Kept gs′
+          pub holds : Holds (keptAt (s .field) true marks) (keptAt (s .field) (s .number) numbers) ns′ gs′
           pub answer : answerAt file version gs n at ≡ answerAt file version gs′ (n + 1) next
 
-        pub turn-next : s .closes ≡ false → Kept gs → Next
+        pub turn-next : s .closes ≡ false → {marks : List Bool} {numbers : List ℕ} → Holds marks numbers ns gs → Next marks numbers
         unfolding t
-        turn-next h k = go (judge version gs t) refl is (judge-numbered version gs t)
-          where
-            go : (j : Judged) → judge version gs t ≡ j → s ≡ stepOf version gs j → Numbered j → Next
-            go (wrong v) e q b = absurd (let f : ⊥ = omega (arith, ap (λ (x : Step). x .wrong) q) in f)
-            go (right i) e q b =
-                let c : closes i ≡ false = ap (λ (x : Step). x .closes) (sym q) ∙ h in
-                record {
-                  gs′ = afterItem i gs;
-                  state = ap (λ (x : Step). x .state) q;
-                  kept = kept-next version gs t i k e;
-                  answer =
-                      judged few (right i) e
-                      ∙ rw (c, answer-entry version n at (line t (w .ending)) i (walk version (n + 1) next (afterItem i gs) (lines (drop next file))) some, w .bytes);
-                }
+        turn-next h k =
+            let i = right-of .item in
+            let c : closes i ≡ false = ap (λ (x : Step × List ℕ). x .0 .closes) (sym (right-of .stepped-is)) ∙ h in
+            record {
+              gs′ = afterItem i gs;
+              holds = kept-after k;
+              answer =
+                  judged few (right i) (right-of .is-right)
+                  ∙ rw (c, answer-entry version n at (line t (w .ending)) i (walk version (n + 1) next (afterItem i gs) (lines (drop next file))) some, w .bytes);
+            }
 
 -- ---- the loop over the lines after line 1, which ends at `from`
 
--- line n, which starts at `at`, is to be read in this state: the answer from there on is the whole answer
-pub record Going (file : List ℕ) (version from : ℕ) (state : State) (at n : ℕ) : Type 0 where
+-- line n, which starts at `at`, is to be read, with this kept of the fields given: the answer from there on is the whole answer
+pub record Going (file : List ℕ) (version from : ℕ) (marks : List Bool) (numbers ns : List ℕ) (at n : ℕ) : Type 0 where
   pub gs : List Given
-  pub holds : Holds state gs
-  pub same : answerAt file (state .version) gs n at ≡ answerAt file version [] 2 from
+  pub holds : Holds marks numbers ns gs
+  pub same : answerAt file version gs n at ≡ answerAt file version [] 2 from
   pub within : at ≤ length file
   pub short : at ≤ maxHeader
   pub low : 2 ≤ n
   pub high : n ≤ maxLines + 1
 
--- the version of the state of these fields
-version-is : (version : ℕ) (gs : List Given) (state : State) → state ≡ stateOf version gs → version ≡ state .version
-unfolding stateOf
-version-is version gs state e = sym (ap (λ (x : State). x .version) e)
-
--- the state holds these fields
-holds-of : (version : ℕ) (gs : List Given) (state : State) → state ≡ stateOf version gs → Kept gs → Holds state gs
-holds-of version gs state e k = record { is = e ∙ ap (λ (v : ℕ). stateOf v gs) (version-is version gs state e); kept = k }
-
 -- the first of those lines
-pub going-start : (file : List ℕ) (version from : ℕ) (state : State) → state ≡ stateOf version [] → from ≤ length file → from ≤ maxHeader
-    → Going file version from state from 2
-going-start file version from state e h k =
+pub going-start : (file : List ℕ) (version from : ℕ) {marks : List Bool} {numbers ns : List ℕ} → marks ≡ flags [] → numbers ≡ numbersOf [] → ns ≡ padded []
+    → from ≤ length file → from ≤ maxHeader → Going file version from marks numbers ns from 2
+going-start file version from a b c h k =
     record {
       gs = [];
-      holds = holds-of version [] state e kept-none;
-      same = rw (← version-is version [] state e);
+      holds = rw (a, b, c) holds-none;
+      same = refl;
       within = h;
       short = k;
       low = omega arith;
       high = omega arith;
     }
 
-module _ {file : List ℕ} {version from : ℕ} {state : State} {at n : ℕ} (g : Going file version from state at n) where
+module _ {file : List ℕ} {version from : ℕ} {marks : List Bool} {numbers ns : List ℕ} {at n : ℕ} (g : Going file version from marks numbers ns at n) where
   -- the flag of data file
-  detached : getD (state .given) 7 false ≡ isDetached (g .gs)
-  unfolding stateOf flags
-  detached = ap (λ (x : State). getD (x .given) 7 false) (g .holds .is)
+  detached : getD marks dataFile false ≡ isDetached (g .gs)
+  detached = given-at (known-of (g .holds)) dataFile (omega arith)
 
   -- at the end of the bytes
-  pub going-end : length file ≤ at → getD (state .given) 7 false ≡ true → finished (state .version) (g .gs) at (n - 1) ≡ answerAt file version [] 2 from
-  going-end h e = sym (turn-end file (state .version) (g .gs) n at h (sym detached ∙ e)) ∙ g .same
+  pub going-end : length file ≤ at → getD marks dataFile false ≡ true → finished version (g .gs) at (n - 1) ≡ answerAt file version [] 2 from
+  going-end h e = sym (turn-end file version (g .gs) n at h (sym detached ∙ e)) ∙ g .same
 
-  pub going-no-end : length file ≤ at → getD (state .given) 7 false ≡ false → refusedAt noEnd 0 ≡ answerAt file version [] 2 from
-  going-no-end h e = sym (turn-no-end file (state .version) (g .gs) n at h (sym detached ∙ e)) ∙ g .same
+  pub going-no-end : length file ≤ at → getD marks dataFile false ≡ false → refusedAt noEnd 0 ≡ answerAt file version [] 2 from
+  going-no-end h e = sym (turn-no-end file version (g .gs) n at h (sym detached ∙ e)) ∙ g .same
 
   -- the line ends past the limit
   pub going-past : PastAt file at → refusedAt headerTooLong n ≡ answerAt file version [] 2 from
-  going-past w = sym (turn-past file (state .version) (g .gs) n at w) ∙ g .same
+  going-past w = sym (turn-past file version (g .gs) n at w) ∙ g .same
 
   module _ {textEnd next : ℕ} (w : LineAt file at textEnd next) where
     -- it is a line too many
     pub going-many : maxLines < n → refusedAt tooManyLines n ≡ answerAt file version [] 2 from
-    going-many h = sym (turn-many file (state .version) (g .gs) n at textEnd next w h) ∙ g .same
+    going-many h = sym (turn-many file version (g .gs) n at textEnd next w h) ∙ g .same
 
-    module _ (few : n ≤ maxLines) (s : Step)
-        (is : (gs : List Given) → Holds state gs → s ≡ stepOf (state .version) gs (judge (state .version) gs (take (textEnd - at) (drop at file)))) where
+    module _ (few : n ≤ maxLines) {s : Step} {ns′ : List ℕ}
+        (is : (gs : List Given) → Known marks (getD numbers dimension 0) gs
+        → _≡_ {A = Step × List ℕ} (s, ns′) (stepped (judge version gs (take (textEnd - at) (drop at file))) ns)) where
       past-one : 1 ≤ n
       past-one = omega (arith, g .low)
 
+      here : _≡_ {A = Step × List ℕ} (s, ns′) (stepped (judge version (g .gs) (take (textEnd - at) (drop at file))) ns)
+      here = is (g .gs) (known-of (g .holds))
+
       -- the line is refused
       pub going-wrong : (s .wrong ≡ 0 → ⊥) → refusedAt (s .wrong) n ≡ answerAt file version [] 2 from
-      going-wrong h =
-          sym (turn-wrong file (state .version) (g .gs) n at textEnd next w few past-one s (is (g .gs) (g .holds)) h) ∙ g .same
+      going-wrong h = sym (turn-wrong file version (g .gs) n at textEnd next w few past-one s ns ns′ here h) ∙ g .same
 
       module _ (fine : s .wrong ≡ 0) where
         -- the line closes the header
-        pub going-closes : s .closes ≡ true → finished (state .version) (g .gs) next n ≡ answerAt file version [] 2 from
-        going-closes h =
-            sym (turn-closes file (state .version) (g .gs) n at textEnd next w few past-one s (is (g .gs) (g .holds)) fine h) ∙ g .same
+        pub going-closes : s .closes ≡ true → finished version (g .gs) next n ≡ answerAt file version [] 2 from
+        going-closes h = sym (turn-closes file version (g .gs) n at textEnd next w few past-one s ns ns′ here fine h) ∙ g .same
+
+        pub going-closed : s .closes ≡ true → Holds marks numbers ns′ (g .gs)
+        going-closed h = holds-closed file version (g .gs) n at textEnd next w few past-one s ns ns′ here fine h (g .holds)
 
         -- the header goes on
-        pub going-next : s .closes ≡ false → Going file version from (s .state) next (n + 1)
-        going-next h =
-            let x = turn-next file (state .version) (g .gs) n at textEnd next w few past-one s (is (g .gs) (g .holds)) fine h (g .holds .kept) in
+        pub going-next : s .closes ≡ false → {marks′ : List Bool} {numbers′ : List ℕ}
+            → marks′ ≡ keptAt (s .field) true marks → numbers′ ≡ keptAt (s .field) (s .number) numbers
+            → Going file version from marks′ numbers′ ns′ next (n + 1)
+        going-next h a b =
+            let x = turn-next file version (g .gs) n at textEnd next w few past-one s ns ns′ here fine h (g .holds) in
             record {
               gs = x .gs′;
-              holds = holds-of (state .version) (x .gs′) (s .state) (x .state) (x .kept);
-              same =
-                  ap (λ (v : ℕ). answerAt file v (x .gs′) (n + 1) next) (sym (version-is (state .version) (x .gs′) (s .state) (x .state)))
-                  ∙ sym (x .answer)
-                  ∙ g .same;
+              holds = rw (a, b) (x .holds);
+              same = sym (x .answer) ∙ g .same;
               within = w .within;
               short = w .short;
               low = omega (arith, g .low);

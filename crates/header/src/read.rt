@@ -1,6 +1,7 @@
 // The reading of a header: line 1, the lines after it, and the table of lines.
 use crate::lines::Span;
 use format::ReadAnswer;
+use format::field;
 ghost use mathlib.Core.Path.{_≡_};
 ghost use mathlib.Core.List.{List, []};
 ghost use Prim.Native.Nat.{ℕ, _≤_};
@@ -44,7 +45,9 @@ fn read_lines(file: &[u8], from: usize, version: u32) -> ReadAnswer
     requires { ⌜ (from ≤ length (now file)) × (from ≤ maxHeader) ⌝ }
     ensures { λ r. ⌜ r ≡ answerFrom version 2 from (walk version 2 from [] (lines (drop from (now (file .entry))))) ⌝ }
 {
-    let mut state = fields::state::start(version);
+    let mut given = fields::state::no_flags();
+    let mut numbers = fields::state::no_numbers();
+    let mut sizes = fields::state::no_sizes();
     let mut at = from;
     let mut n: u32 = 2;
     while at < file.len() {
@@ -56,21 +59,28 @@ fn read_lines(file: &[u8], from: usize, version: u32) -> ReadAnswer
                 if format::MAX_LINES < n {
                     return fields::state::refuse(format::TOO_MANY_LINES, n);
                 }
-                let step = fields::judge::judge_line(state, &file[at..text_end]);
+                let dimension = numbers[field::DIMENSION];
+                let step = fields::judge::judge_line(
+                    version,
+                    &given,
+                    dimension,
+                    &file[at..text_end],
+                    &mut sizes,
+                );
                 if step.wrong != 0 {
                     return fields::state::refuse(step.wrong, n);
                 }
                 if step.closes {
-                    return fields::state::finish(state, next, n);
+                    return fields::state::finish(version, &given, &numbers, sizes, next, n);
                 }
-                state = step.state;
+                fields::state::keep(&mut given, &mut numbers, step.field, step.number);
                 at = next;
                 n += 1;
             }
         }
     }
-    if state.given[format::field::DATA_FILE] {
-        return fields::state::finish(state, at, n - 1);
+    if given[field::DATA_FILE] {
+        return fields::state::finish(version, &given, &numbers, sizes, at, n - 1);
     }
     fields::state::refuse(format::NO_END, 0)
 }

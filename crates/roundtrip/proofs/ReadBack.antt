@@ -20,9 +20,9 @@ use Rattle.format.specs.Header.{Entry, lineOf, accepted, header, headerLength}
 use Rattle.format.specs.Data.{Place, nowhere, part, skipLines, skipBytes, placeOf, partOf}
 use Rattle.format.specs.Samples.{Decoded, samplesOf}
 use Rattle.format.specs.Calls.{readingOf, countOf, decoded, checkSamplesCall, seenIn}
-use Rattle.format.specs.Writer.{headerLines, fileBytes, dataBytes}
+use Rattle.format.specs.Writer.{headerLines, fileBytes, dataBytes, headerBytes}
 use Rattle.format.proofs.Writer.{data-read-back}
-use Rattle.roundtrip.specs.RoundTrip.{headerBytes, countBack, ReadsBack, RoundTrips}
+use Rattle.roundtrip.specs.RoundTrip.{countBack, ReadsBack, RoundTrips}
 use Rattle.roundtrip.proofs.Names.{sample-bytes}
 use Rattle.roundtrip.proofs.Accepted.{Accepted, accepted-is}
 use Rattle.roundtrip.proofs.Data.{data-length, data-any-order}

@@ -12,14 +12,9 @@ use Rattle.format.specs.declared.CountAnswer.{CountAnswer}
 use Rattle.format.specs.Bytes.{if_then_else_, over}
 use Rattle.format.specs.Limits.{maxAxes}
 use Rattle.format.specs.Refusals.{fine}
-use Rattle.format.specs.Lines.{unlines}
 use Rattle.format.specs.Descriptors.{endianNeeded, noEndian, sampleBytes, extent}
-use Rattle.format.specs.Writer.{headerLines, dataBytes, fileBytes, writeRefusal}
+use Rattle.format.specs.Writer.{headerLines, dataBytes, headerBytes, fileBytes, writeRefusal}
 use Rattle.format.specs.Calls.{readHeaderCall, dataPlaceCall, dataCall, samplesCall}
-
--- the header that is written
-abbrev pub headerBytes : ℕ → List ℕ → ℕ → ℕ → ℕ → List ℕ
-headerBytes version sizes t e endian = unlines (headerLines version sizes t e endian)
 
 -- the numbers of a written file's reading: those that went in; the endian where it has to be written, none elsewhere
 abbrev pub readBack : ℕ → List ℕ → ℕ → ℕ → ℕ → ReadAnswer

@@ -4,7 +4,7 @@ use Prim.Native.Nat.{ℕ, zero, suc, _+_, _≤_, _<_, _-_}
 use native.Mathlib.Nat.{zero-add, add-zero, le-of-suc-le-suc, not-suc-le-zero}
 use native.Mathlib.Numerals.{add-one, one-add}
 use native.Mathlib.Omega.{arith}
-use mathlib.Core.Path.{_≡_, refl, sym, ap, _∙_}
+use mathlib.Core.Path.{_≡_, refl, sym, ap, _∙_, subst}
 use mathlib.Core.Bool.{Bool, true, false, _&&_, _||_, and-assoc, false≢true}
 use mathlib.Core.List.{List, [], _∷_, _++_}
 use lib.Dec.{eqb}
@@ -13,13 +13,13 @@ use lib.Seq.{drop-cons, take-length, length-take-le, take-suc, take-at, drop-app
 use borrow.Author.Tests.{eq-eqb, ne-eqb, eqb-true}
 use Rattle.format.specs.Bytes.{LF, CR, TAB, SPACE, COLON, EQUALS, spaceOrTab, every, same, beginsWith, if_then_else_}
 use Rattle.format.specs.Lines.{lf, crlf, eof, line, size, extend, lines}
-use Rattle.format.specs.Pairs.{Marked, unmarked, fieldMark, pairMark, moreBefore, firstMark, mark}
+use Rattle.format.specs.Pairs.{Marked, unmarked, fieldMark, pairMark, moreBefore, firstMark, mark, LineKind, emptyLine, commentLine, otherLine, kindOf}
 use Rattle.format.specs.Descriptors.{trimFront, trimByte, trimEnd}
 use Rattle.format.proofs.Lines.{NoLF, no-lf-nil, no-lf-cons, no-lf-head, no-lf-tail, lines-eof}
-use Rattle.format.proofs.Marks.{Parts, mark-parts}
-use Rattle.text.specs.declared.lines.Mark.{Mark}
-use Rattle.text.specs.declared.lines.Mark.the-variants.{Field, Pair, Nothing}
-use Rattle.text.specs.Places.{before, withoutCR, endingAt, markPlace}
+use Rattle.format.proofs.Marks.{Parts, mark-parts, mark-of-kind}
+use Rattle.text.specs.declared.lines.Kind.{Kind}
+use Rattle.text.specs.declared.lines.Kind.the-variants.{Empty, Comment, Field, Pair, Neither}
+use Rattle.text.specs.Places.{before, withoutCR, endingAt, markPlace, kindPlace}
 
 -- the text from i on: what stands at i, and the text from i + 1 on
 pub drop-next : (s : List ℕ) (i : ℕ) → i < length s → drop i s ≡ getD s i 0 ∷ drop (i + 1) s
@@ -259,8 +259,8 @@ lines-to-end s h e = lines-eof s (rw (e, take-length) at (no-lf-before s)) h
 -- ---- `mark` by index
 
 -- the answer for a mark of the text from i on
-abbrev pub markFrom : ℕ → Marked → Mark
-markFrom i unmarked = Nothing
+abbrev pub markFrom : ℕ → Marked → Kind
+markFrom i unmarked = Neither
 markFrom i (fieldMark n d) = Field (i + length n)
 markFrom i (pairMark k v) = Pair (i + length k)
 
@@ -287,7 +287,7 @@ mark-short (b ∷ c ∷ s) h = absurd (let f : ⊥ = omega arith in f)
 
 module _ (s : List ℕ) (i : ℕ) where
   -- at most one byte is left
-  pub mark-none : length s - i ≤ 1 → markFrom i (mark (drop i s)) ≡ Nothing
+  pub mark-none : length s - i ≤ 1 → markFrom i (mark (drop i s)) ≡ Neither
   mark-none h = rw (mark-short (drop i s) (rw length-drop h))
 
   module _ (h : 1 < length s - i) where
@@ -333,33 +333,26 @@ around n d s a b i e h = (
   rw (e, length-append, h) (omega arith),
 )
 
-pub mark-split-field : (s : List ℕ) (i : ℕ) → markPlace (mark s) ≡ Field i
-    → (mark s ≡ fieldMark (take i s) (drop (i + 2) s)) × (i + 2 ≤ length s)
-mark-split-field s i = go (mark s) (mark-parts s)
-  where
-    go : (m : Marked) → Parts s m → markPlace m ≡ Field i
-        → (m ≡ fieldMark (take i s) (drop (i + 2) s)) × (i + 2 ≤ length s)
-    go unmarked p e = let z : false ≡ true = cc in absurd (false≢true z)
-    go (fieldMark n d) p e = let t = around n d s COLON SPACE i (p .0) (cc) in (rw (t .0, t .1), t .2)
-    go (pairMark k v) p e = let z : false ≡ true = cc in absurd (false≢true z)
+-- what the answer r tells of a line s, whose kind is k: a mark parts it
+abbrev pub KindAt : List ℕ → LineKind → Kind → Type 0
+KindAt s k Empty = k ≡ emptyLine
+KindAt s k Comment = k ≡ commentLine
+KindAt s k (Field i) = (k ≡ otherLine (fieldMark (take i s) (drop (i + 2) s))) × (i + 2 ≤ length s)
+KindAt s k (Pair i) = (k ≡ otherLine (pairMark (take i s) (drop (i + 2) s))) × (i + 2 ≤ length s)
+KindAt s k Neither = k ≡ otherLine unmarked
 
-pub mark-split-pair : (s : List ℕ) (i : ℕ) → markPlace (mark s) ≡ Pair i
-    → (mark s ≡ pairMark (take i s) (drop (i + 2) s)) × (i + 2 ≤ length s)
-mark-split-pair s i = go (mark s) (mark-parts s)
+pub kind-told : (s : List ℕ) {r : Kind} → r ≡ kindPlace (kindOf s) → KindAt s (kindOf s) r
+kind-told s e = subst (KindAt s (kindOf s)) (sym e) (go (kindOf s) refl)
   where
-    go : (m : Marked) → Parts s m → markPlace m ≡ Pair i
-        → (m ≡ pairMark (take i s) (drop (i + 2) s)) × (i + 2 ≤ length s)
-    go unmarked p e = let z : false ≡ true = cc in absurd (false≢true z)
-    go (fieldMark n d) p e = let z : false ≡ true = cc in absurd (false≢true z)
-    go (pairMark k v) p e = let t = around k v s COLON EQUALS i (p .0) (cc) in (rw (t .0, t .1), t .2)
+    marked : (m : Marked) → Parts s m → KindAt s (otherLine m) (markPlace m)
+    marked unmarked p = refl
+    marked (fieldMark n d) p = let t = around n d s COLON SPACE (length n) (p .0) refl in (rw (t .0, t .1), t .2)
+    marked (pairMark k v) p = let t = around k v s COLON EQUALS (length k) (p .0) refl in (rw (t .0, t .1), t .2)
 
-pub mark-split-nothing : (s : List ℕ) → markPlace (mark s) ≡ Nothing → mark s ≡ unmarked
-mark-split-nothing s = go (mark s)
-  where
-    go : (m : Marked) → markPlace m ≡ Nothing → m ≡ unmarked
-    go unmarked e = refl
-    go (fieldMark n d) e = cc
-    go (pairMark k v) e = cc
+    go : (k : LineKind) → kindOf s ≡ k → KindAt s k (kindPlace k)
+    go emptyLine e = refl
+    go commentLine e = refl
+    go (otherLine m) e = marked m (subst (Parts s) (mark-of-kind s e) (mark-parts s))
 
 -- ---- spaces and tabs, by two tests
 

@@ -5,9 +5,9 @@ use lib.Dec.{eqb}
 use lib.ListN.{length}
 use Rattle.format.specs.Bytes.{if_then_else_, CR}
 use Rattle.format.specs.Lines.{Ending, lf, crlf}
-use Rattle.format.specs.Pairs.{Marked, unmarked, fieldMark, pairMark}
-use Rattle.text.specs.declared.lines.Mark.{Mark}
-use Rattle.text.specs.declared.lines.Mark.the-variants.{Field, Pair, Nothing}
+use Rattle.format.specs.Pairs.{Marked, unmarked, fieldMark, pairMark, LineKind, emptyLine, commentLine, otherLine}
+use Rattle.text.specs.declared.lines.Kind.{Kind}
+use Rattle.text.specs.declared.lines.Kind.the-variants.{Empty, Comment, Field, Pair, Neither}
 
 -- how many bytes stand before the first b, or all of them where there is none
 unfoldable pub before : ℕ → List ℕ → ℕ
@@ -26,8 +26,13 @@ endingAt [] = lf
 endingAt (b ∷ []) = if eqb b CR then crlf else lf
 endingAt (b ∷ c ∷ s) = endingAt (c ∷ s)
 
--- the kind of the mark, and how many bytes stand before it
-abbrev pub markPlace : Marked → Mark
-markPlace unmarked = Nothing
+-- what a line is, and how many bytes stand before its mark
+abbrev pub markPlace : Marked → Kind
+markPlace unmarked = Neither
 markPlace (fieldMark n d) = Field (length n)
 markPlace (pairMark k v) = Pair (length k)
+
+abbrev pub kindPlace : LineKind → Kind
+kindPlace emptyLine = Empty
+kindPlace commentLine = Comment
+kindPlace (otherLine m) = markPlace m

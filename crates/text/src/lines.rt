@@ -1,11 +1,10 @@
-// Parts of a line: its text, its mark, its descriptor.
+// What a line is, and its parts: its text, its mark, its descriptor.
 ghost use mathlib.Core.Path.{_≡_};
 ghost use Prim.Native.Nat.{_≤_, _-_};
 ghost use lib.ListN.{length};
-ghost use Rattle.format.specs.Pairs.{mark};
+ghost use Rattle.format.specs.Pairs.{mark, kindOf};
 ghost use Rattle.format.specs.Descriptors.{trimFront, trimEnd};
-ghost use Rattle.format.specs.Settings.{beginsFine};
-ghost use Rattle.text.specs.Places.{withoutCR, markPlace};
+ghost use Rattle.text.specs.Places.{withoutCR, markPlace, kindPlace};
 
 // How long the bytes before an LF are without one CR at their end.
 pub fn without_cr(s: &[u8]) -> usize
@@ -18,43 +17,48 @@ pub fn without_cr(s: &[u8]) -> usize
     if s[n - 1] == b'\r' { n - 1 } else { n }
 }
 
-// Whether a text is not empty and does not begin as a comment.
-pub fn begins(t: &[u8]) -> bool
-    ensures { λ r. ⌜ r ≡ beginsFine (now (t .entry)) ⌝ }
-{
-    if t.len() == 0 {
-        return false;
-    }
-    t[0] != b'#'
-}
-
-// The place and the kind of a line's mark.
-pub enum Mark {
+// What a line is by its text. Of a field and a pair the place of their mark is told; a line with no mark is neither.
+pub enum Kind {
+    Empty,
+    Comment,
     Field(usize),
     Pair(usize),
-    Nothing,
+    Neither,
 }
 
-// The first place of `: ` or `:=` in the line decides.
-pub fn find_mark(s: &[u8]) -> Mark
+// In a line that is neither empty nor a comment the first place of `: ` or `:=` decides.
+fn find_mark(s: &[u8]) -> Kind
     ensures { λ r. ⌜ r ≡ markPlace (mark (now (s .entry))) ⌝ }
 {
     let mut i: usize = 0;
     let m = loop {
         if s.len() - i <= 1 {
-            break Mark::Nothing;
+            break Kind::Neither;
         }
         if s[i] == b':' {
             if s[i + 1] == b' ' {
-                break Mark::Field(i);
+                break Kind::Field(i);
             }
             if s[i + 1] == b'=' {
-                break Mark::Pair(i);
+                break Kind::Pair(i);
             }
         }
         i = i + 1;
     };
     m
+}
+
+// What a line with the text t is, where no names follow the fields before it.
+pub fn kind_of(t: &[u8]) -> Kind
+    ensures { λ r. ⌜ r ≡ kindPlace (kindOf (now (t .entry))) ⌝ }
+{
+    if t.len() == 0 {
+        return Kind::Empty;
+    }
+    if t[0] == b'#' {
+        return Kind::Comment;
+    }
+    find_mark(t)
 }
 
 // How many spaces and tabs stand at the front.

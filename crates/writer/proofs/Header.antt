@@ -11,9 +11,8 @@ use lib.Seq.{sets}
 use Rattle.format.specs.Bytes.{if_then_else_, bytes, LF, SPACE}
 use Rattle.format.specs.Descriptors.{typeAt, typeName, encodings, endians, endianNeeded, raw, hex}
 use Rattle.format.specs.Lines.{line, lf, unlines}
-use Rattle.format.specs.Writer.{decimal, spaced, nameAt, fieldLine, endianLines, headerLines}
+use Rattle.format.specs.Writer.{decimal, spaced, nameAt, fieldLine, endianLines, headerLines, headerBytes}
 use Rattle.writer.specs.Stored.{valueLine, afterSpace, endianText, topText, restText}
-use Rattle.roundtrip.specs.RoundTrip.{headerBytes}
 use Rattle.format.proofs.Stores.{sets-then}
 
 -- ---- a line

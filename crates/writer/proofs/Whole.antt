@@ -14,9 +14,8 @@ use borrow.Author.Tests.{ne-eqb, ltb-false, lt-leb, leb-true, leb-false}
 use Rattle.format.specs.Bytes.{if_then_else_, between, isIn, over}
 use Rattle.format.specs.Limits.{maxFile, maxExtent, maxVersion}
 use Rattle.format.specs.Descriptors.{sampleBytes, numberKind, isFloating, product, extent}
-use Rattle.format.specs.Writer.{dataBytes, fileBytes, allInType, writable, writeRefusal}
+use Rattle.format.specs.Writer.{dataBytes, fileBytes, allInType, writable, writeRefusal, headerBytes}
 use Rattle.format.specs.Calls.{writeCall, writeAnswer}
-use Rattle.roundtrip.specs.RoundTrip.{headerBytes}
 use Rattle.format.proofs.Stores.{sets-then}
 use Rattle.writable.specs.Refused.{earlyRefusal, lateRefusal}
 use Rattle.writable.proofs.Refuse.{early-11}

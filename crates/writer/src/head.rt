@@ -6,8 +6,7 @@ ghost use lib.ListN.{length};
 ghost use lib.Seq.{sets};
 ghost use Rattle.format.specs.Bytes.{bytes};
 ghost use Rattle.format.specs.Descriptors.{typeAt, typeName, encodings, endianNeeded};
-ghost use Rattle.format.specs.Writer.{decimal, nameAt};
-ghost use Rattle.roundtrip.specs.RoundTrip.{headerBytes};
+ghost use Rattle.format.specs.Writer.{decimal, nameAt, headerBytes};
 ghost use Rattle.writable.specs.Refused.{Numbers};
 ghost use Rattle.writer.specs.Stored.{valueLine, afterSpace, endianText, topText, restText};
 

@@ -7,8 +7,7 @@ use native.Mathlib.Omega.{arith}
 use denote.Ref.{now}
 use lib.ListN.{length, take}
 use Rattle.format.specs.Descriptors.{numberKind}
-use Rattle.format.specs.Writer.{allInType}
-use Rattle.roundtrip.specs.RoundTrip.{headerBytes}
+use Rattle.format.specs.Writer.{allInType, headerBytes}
 use Rattle.writable.specs.Refused.{chosen}
 use Rattle.format.proofs.TypeLaws.{type-width}
 use Rattle.words.proofs.WidthLaws.{width-le}
