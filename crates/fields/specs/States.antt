@@ -1,4 +1,4 @@
--- The reader's state and steps, by the fields given so far.
+-- Internal to the library. The reader's state and steps, by the fields given so far.
 use Prim.Native.Nat.{ℕ, zero, suc, _+_, _-_, _≤_}
 use mathlib.Core.Path.{_≡_}
 use mathlib.Core.Bool.{Bool, true, false, not}
