@@ -1,4 +1,4 @@
--- The bytes of a sample as the loops make them. The law `low-data` of proofs/ ties them to the definitions of `format`.
+-- Internal to this crate. The bytes of a sample as the loops make them. The law `low-data` of proofs/ ties them to the definitions of `format`.
 use Prim.Native.Nat.{ℕ}
 use mathlib.Core.List.{List}
 use lib.IntN.{ℤ}

@@ -1,4 +1,4 @@
--- What the reader keeps of the fields given so far, and its steps.
+-- Internal to the library. What the reader keeps of the fields given so far, and its steps.
 use Prim.Native.Nat.{ℕ, zero, suc, _+_, _-_, _≤_}
 use mathlib.Core.Path.{_≡_}
 use mathlib.Core.Bool.{Bool, true, false, not}

@@ -1,4 +1,4 @@
--- An accepted header: how many lines it has, and what they were judged to be.
+-- Internal to the library. An accepted header: how many lines it has, and what they were judged to be.
 use Prim.Native.Nat.{ℕ}
 use mathlib.Core.Path.{_≡_}
 use mathlib.Core.List.{List, [], _∷_}

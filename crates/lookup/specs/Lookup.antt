@@ -1,4 +1,4 @@
--- The look-up of a key and of a field: a second pass over the lines of an accepted header.
+-- Internal to this crate. The look-up of a key and of a field: a second pass over the lines of an accepted header.
 use Prim.Native.Nat.{ℕ, _+_, _≤_}
 use mathlib.Core.Path.{_≡_}
 use mathlib.Core.Bool.{Bool, false}

@@ -1,4 +1,4 @@
--- The lines of a reading, all but those of its keys, by its numbers.
+-- Internal to the library. The lines of a reading, all but those of its keys, by its numbers.
 use Prim.Native.Nat.{ℕ}
 use mathlib.Core.List.{List, _++_}
 use lib.Dec.{eqb, ltb}

@@ -1,4 +1,4 @@
--- Numbers between bytes and samples, for the contracts of the functions below the public ones.
+-- Internal to this crate. Numbers between bytes and samples, for the contracts of the functions below the public ones.
 use Prim.Native.Nat.{ℕ, zero, suc, _+_, _*_, _-_, _%_, _<_}
 use mathlib.Core.Path.{_≡_}
 use mathlib.Core.Bool.{Bool, true, false}

@@ -1,4 +1,4 @@
--- What the parts of the sample calls need and answer.
+-- Internal to this crate. What the parts of the sample calls need and answer.
 use Prim.Native.Nat.{ℕ, _+_, _*_, _≤_}
 use mathlib.Core.Path.{_≡_}
 use mathlib.Core.Bool.{true, false}

@@ -1,4 +1,4 @@
--- An edit of a file's bytes.
+-- Internal to the library. An edit of a file's bytes.
 use Prim.Native.Nat.{ℕ}
 use mathlib.Core.List.{List, _++_}
 use lib.ListN.{take, drop}

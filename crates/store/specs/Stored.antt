@@ -1,4 +1,4 @@
--- What the functions store, in the words of their contracts. Each is tied to the definitions of `format` by a law of proofs/.
+-- Internal to the library. What the functions store, in the words of their contracts. Each is tied to the definitions of `format` by a law of proofs/.
 use Prim.Native.Nat.{ℕ, zero, suc, _-_, _/_, _%_}
 use mathlib.Core.List.{List, [], _∷_, _++_}
 use lib.Dec.{ltb}

@@ -1,4 +1,4 @@
--- What an escaped text means, as the functions on escapes answer it.
+-- Internal to the library. What an escaped text means, as the functions on escapes answer it.
 use Prim.Native.Nat.{ℕ, _+_, _≤_}
 use mathlib.Core.Path.{_≡_}
 use mathlib.Core.Bool.{Bool, true, false}

@@ -1,4 +1,4 @@
--- The answers of the functions on numbers.
+-- Internal to the library. The answers of the functions on numbers.
 use Prim.Native.Nat.{ℕ, _-_}
 use mathlib.Core.Bool.{true, false, _&&_}
 use mathlib.Core.List.{List, [], _∷_, _++_, map}

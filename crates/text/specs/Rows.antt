@@ -1,4 +1,4 @@
--- Names with the rows that they stand in, as the tables of the code hold them, and the answers of the look-ups.
+-- Internal to the library. Names with the rows that they stand in, as the tables of the code hold them, and the answers of the look-ups.
 use Prim.Native.Nat.{ℕ}
 use mathlib.Core.List.{List, [], _∷_, _++_}
 use mathlib.Core.Option.{Option, none, some}

@@ -1,4 +1,4 @@
--- Text samples as the code reads them: by position, and over the two bounds of a type.
+-- Internal to this crate. Text samples as the code reads them: by position, and over the two bounds of a type.
 use Prim.Native.Nat.{ℕ, zero, suc, _+_, _*_, _^_, _≤_, _<_, min}
 use mathlib.Core.Path.{_≡_}
 use mathlib.Core.Bool.{Bool, true, false, _||_}

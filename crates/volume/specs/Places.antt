@@ -1,4 +1,4 @@
--- What the parts of the data call and of the coordinates call answer.
+-- Internal to the library. What the parts of the data call and of the coordinates call answer.
 use Prim.Native.Nat.{ℕ, _-_, _≤_}
 use mathlib.Core.Path.{_≡_}
 use mathlib.Core.Bool.{Bool, true}

@@ -1,4 +1,4 @@
--- A number that is known to fit its bytes.
+-- Internal to the library. A number that is known to fit its bytes.
 use Prim.Native.Nat.{ℕ, _^_, _<_}
 use mathlib.Core.Path.{_≡_}
 

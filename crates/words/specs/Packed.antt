@@ -1,4 +1,4 @@
--- Samples in lent bytes, 8 for each.
+-- Internal to the library. Samples in lent bytes, 8 for each.
 use Prim.Native.Nat.{ℕ}
 use mathlib.Core.List.{List}
 use lib.IntN.{ℤ}

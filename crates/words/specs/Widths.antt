@@ -1,4 +1,4 @@
--- The widths, kinds and endians of `format`, and whether there are as many samples as are asked for.
+-- Internal to the library. The widths, kinds and endians of `format`, and whether there are as many samples as are asked for.
 use Prim.Native.Nat.{ℕ, _*_}
 use mathlib.Core.Bool.{Bool, _&&_}
 use lib.Dec.{leb}

@@ -1,4 +1,4 @@
--- The samples of a call, and what is refused, in the words of the contracts. Each is tied to the definitions of `format` by a law of proofs/.
+-- Internal to the library. The samples of a call, and what is refused, in the words of the contracts. Each is tied to the definitions of `format` by a law of proofs/.
 use mathlib.Core.Path.{_≡_}
 use Prim.Native.Nat.{ℕ, _+_, _*_, _^_, _≤_, _<_}
 use mathlib.Core.Bool.{Bool, true, not, _&&_}

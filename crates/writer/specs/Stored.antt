@@ -1,4 +1,4 @@
--- What the writer's parts store, in the words of their contracts. Each is tied to the definitions of `format` by a law of proofs/.
+-- Internal to this crate. What the writer's parts store, in the words of their contracts. Each is tied to the definitions of `format` by a law of proofs/.
 use Prim.Native.Nat.{ℕ}
 use mathlib.Core.List.{List, [], _∷_, _++_, flatMap}
 use Rattle.format.specs.Bytes.{if_then_else_, bytes, LF, SPACE}
