@@ -109,6 +109,7 @@ void put_refusal(struct text *t, craneholt_refusal refusal)
 {
     put_number(t, refusal.number);
     put_number(t, refusal.line);
+    put_number(t, 0); /* the byte, as long as refusals have none */
 }
 
 /* ---- a program's input */

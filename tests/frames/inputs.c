@@ -103,6 +103,7 @@ enum { OPERATIONS = sizeof operations / sizeof operations[0], MOST_VECTORS = 100
 
 static struct json *vectors[MOST_VECTORS];
 static size_t vector_count;
+static int was_put[OPERATIONS];
 static const char *vectors_folder, *headers_folder, *crates;
 
 static const struct operation *operation_named(const char *name)
@@ -135,6 +136,7 @@ static void read_vectors(void)
 static void put_vectors(const char *name)
 {
     const struct operation *operation = operation_named(name);
+    was_put[operation - operations] = 1;
     start_group(operation->group);
     for (size_t i = 0; i < vector_count; i++)
         if (strcmp(name_of(vectors[i]), name) == 0)
@@ -210,6 +212,8 @@ int main(int arguments, char **argument)
         end_program(crates, programs[i].name);
     }
     put_sweep_listing("listing");
+    for (size_t i = 0; i < OPERATIONS; i++)
+        ensure(was_put[i] || operations[i].group == NULL, "an operation has a group that no program runs");
     while (vector_count > 0)
         json_free(vectors[--vector_count]);
     return 0;
