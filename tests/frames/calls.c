@@ -655,8 +655,6 @@ static void tokens(void)
     }
 }
 
-#define BYTES(string) {(uint8_t *)(string), sizeof(string) - 1}
-
 static void bad_tokens(void)
 {
     static const struct bytes bad[] = {
@@ -665,7 +663,7 @@ static void bad_tokens(void)
         BYTES("\0" "7"), BYTES("\262"), BYTES("7\240")};
     static struct text area;
     for (uint64_t t = 0; t <= UINT64; t += UINT64)
-        for (size_t i = 0; i < sizeof bad / sizeof bad[0]; i++) {
+        for (size_t i = 0; i < COUNT(bad); i++) {
             text_case(t, 1, bad[i]);
             area.length = 0;
             put(&area, bad[i]);
@@ -687,7 +685,7 @@ static void texts(void)
         text_case(UINT8, 1, (struct bytes){area + 1, 1});
         text_case(UINT8, 2, (struct bytes){area, 3});
     }
-    for (size_t i = 0; i < sizeof areas / sizeof areas[0]; i++)
+    for (size_t i = 0; i < COUNT(areas); i++)
         text_case(UINT8, 2, areas[i]);
 }
 
@@ -947,7 +945,7 @@ static void files(void)
     for (uint64_t i = 0; i < 48; i++)
         written_kind(i / 6, i / 2 % 3, i % 2);
     for (uint64_t e = RAW; e <= HEX; e++)
-        for (size_t i = 0; i < sizeof samples / sizeof samples[0]; i++) {
+        for (size_t i = 0; i < COUNT(samples); i++) {
             struct volume one = {4, LIST(1), INT64, e, 1, LIST((uint64_t)samples[i])};
             written_freely(&one);
         }
@@ -1167,7 +1165,7 @@ void put_call_groups(void)
         {"shapes of coordinates", coordinates},  {"shapes of written files", files},
         {"orders of refusal in files", orders},  {"orders of refusal in the writer", writer_orders},
     };
-    for (size_t i = 0; i < sizeof groups / sizeof groups[0]; i++) {
+    for (size_t i = 0; i < COUNT(groups); i++) {
         start_group(groups[i].name);
         groups[i].put();
         end_group();

@@ -15,8 +15,11 @@ struct text {
     uint8_t at[1 << 18];
 };
 
-/* The bytes of a string literal, zeros in it included. */
-#define LITERAL(string) ((struct bytes){(uint8_t *)(string), sizeof(string) - 1})
+/* The bytes of a string literal, zeros in it included: as an initializer, and as a value. */
+#define BYTES(string) {(uint8_t *)(string), sizeof(string) - 1}
+#define LITERAL(string) ((struct bytes)BYTES(string))
+
+#define COUNT(list) (sizeof(list) / sizeof(list)[0])
 
 struct bytes view(struct text *t);
 struct bytes part(struct bytes b, size_t from, size_t to);

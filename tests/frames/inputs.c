@@ -99,7 +99,7 @@ static const struct operation {
     {"listing", "listing calls", put_listing_vector},
 };
 
-enum { OPERATIONS = sizeof operations / sizeof operations[0], MOST_VECTORS = 100000 };
+enum { OPERATIONS = COUNT(operations), MOST_VECTORS = 100000 };
 
 static struct json *vectors[MOST_VECTORS];
 static size_t vector_count;
@@ -206,7 +206,7 @@ int main(int arguments, char **argument)
     headers_folder = argument[2];
     crates = argument[3];
     read_vectors();
-    for (size_t i = 0; i < sizeof programs / sizeof programs[0]; i++) {
+    for (size_t i = 0; i < COUNT(programs); i++) {
         start_program(programs[i].longest);
         programs[i].put();
         end_program(crates, programs[i].name);

@@ -174,14 +174,12 @@ const uint32_t *put_settings(struct lent *first, const struct setting *settings,
 
 /* ---- files and lists */
 
-#define BYTES(string) {(uint8_t *)(string), sizeof(string) - 1}
 #define SET(key, value) {BYTES(key), BYTES(value)}
 #define UTC "utc offset"
 #define RIG "rig"
-#define COUNT(list) (sizeof(list) / sizeof(list)[0])
+#define FIELDS "type: uint8", "dimension: 2", "sizes: 4 3", "encoding: raw"
 
 static const struct bytes DATA = BYTES("\0\n\r\n\377data:=x\n\n#");
-static const char *const FIELDS[] = {"type: uint8", "dimension: 2", "sizes: 4 3", "encoding: raw"};
 
 /* A file in a buffer with so many bytes more, and its table with so many entries more. */
 static struct lent *lend(struct bytes file, size_t slack, size_t slots)
@@ -255,9 +253,9 @@ static void attached_lists(const char *end)
 
 static void detached_lists(const char *end)
 {
-    static const char *const lines[] = {"type: uint8", "dimension: 2", "sizes: 4 3", "encoding: raw", UTC ":=36",
+    static const char *const lines[] = {FIELDS, UTC ":=36",
                                         "# sweep", RIG ":=7", UTC ":=37", "data file: d.raw", NULL};
-    static const char *const last_pair[] = {"type: uint8", "dimension: 2", "sizes: 4 3", "encoding: raw",
+    static const char *const last_pair[] = {FIELDS,
                                             "data file: d.raw", UTC ":=36", "# sweep", RIG ":=7", UTC ":=37", NULL};
     static struct text file;
     size_t length = header(&file, "NRRD0004", lines, end, 1).length;
@@ -271,7 +269,7 @@ static void detached_lists(const char *end)
 
 static void chosen_lists(void)
 {
-    static const char *const lines[] = {"type: uint8", "dimension: 2", "sizes: 4 3", "encoding: raw", NULL};
+    static const char *const lines[] = {FIELDS, NULL};
     static const struct setting mixed[] = {SET(RIG, "22"), SET(UTC, "0"), SET(RIG, "")};
     static struct text file, rest;
     for (int i = 0; i < 2; i++) {
@@ -295,7 +293,7 @@ enum form { ATTACHED, OPEN, UNENDED, FORMS };
 /* A header of so many bytes, filled by its last comment; an unended one has no ending there. */
 static struct bytes filled_header(size_t length, enum form form, const char *end)
 {
-    static const char *const lines[] = {UTC ":=37", "type: uint8", "dimension: 2", "sizes: 4 3", "encoding: raw", NULL};
+    static const char *const lines[] = {UTC ":=37", FIELDS, NULL};
     static struct text file;
     size_t after = form == ATTACHED ? 2 * strlen(end) : form == OPEN ? strlen(end) : 0;
     header(&file, "NRRD0004", lines, end, 0);
@@ -353,7 +351,7 @@ static void room_limits(enum form form, const char *end)
 /* A header of so many lines, most of them comments, its closing line included. */
 static struct bytes lined_header(size_t lines, const char *end)
 {
-    static const char *const fields[] = {"type: uint8", "dimension: 2", "sizes: 4 3", "encoding: raw", UTC ":=37", NULL};
+    static const char *const fields[] = {FIELDS, UTC ":=37", NULL};
     static const char *all[CRANEHOLT_MAX_LINES + 8];
     static struct text file;
     size_t comments = lines - 7;
@@ -394,7 +392,7 @@ static void limit_lists(void)
 
 static void moving_lists(void)
 {
-    static const char *const lines[] = {UTC ":=37", "type: uint8", "dimension: 2", "sizes: 4 3", "encoding: raw", NULL};
+    static const char *const lines[] = {UTC ":=37", FIELDS, NULL};
     static const size_t lengths[] = {0, 1, 4095, 4096, 4097, 8192, 12289, 40000};
     static const size_t values[] = {3, 2, 1, 0, 100, 99, 4200, 10, 2, 700, 0};
     static char value[4200], other[10];
@@ -459,10 +457,11 @@ enum { MOST_LINES = 16 };
 /* The fields, which keep their order since sizes come after dimension, and lines among them. */
 static size_t drawn_lines(struct bytes *lines, int detached)
 {
+    static const char *const fields[] = {FIELDS};
     static const struct bytes others[] = {BYTES("# c"), BYTES("#"), BYTES("\t:="), {NULL, 0}, {NULL, 0}, {NULL, 0}};
     size_t count = 0;
-    for (; count < 4; count++)
-        lines[count] = (struct bytes){(uint8_t *)FIELDS[count], strlen(FIELDS[count])};
+    for (; count < COUNT(fields); count++)
+        lines[count] = (struct bytes){(uint8_t *)fields[count], strlen(fields[count])};
     if (detached)
         lines[count++] = LITERAL("data file: d.raw");
     for (uint64_t left = below(&draw, 9); left > 0; left--) {
@@ -618,10 +617,10 @@ static void wrong_lengths(struct bytes file)
 
 static void refused_lists(void)
 {
-    static const char *const lines[] = {"type: uint8", "dimension: 2", "sizes: 4 3", "encoding: raw", UTC ":=37", NULL};
-    static const char *const unknown[] = {"what: is this", "type: uint8", "dimension: 2", "sizes: 4 3", "encoding: raw", NULL};
-    static const char *const no_mark[] = {"type: uint8", "dimension: 2", "sizes: 4 3", "encoding: raw", "no mark", NULL};
-    static const char *const fields[] = {"type: uint8", "dimension: 2", "sizes: 4 3", "encoding: raw", NULL};
+    static const char *const lines[] = {FIELDS, UTC ":=37", NULL};
+    static const char *const unknown[] = {"what: is this", FIELDS, NULL};
+    static const char *const no_mark[] = {FIELDS, "no mark", NULL};
+    static const char *const fields[] = {FIELDS, NULL};
     static struct text file;
     header(&file, "NRRD0004", lines, LF, 1);
     put(&file, DATA);
