@@ -1,6 +1,7 @@
 # make            proves the library and makes its archive, target/staticlib/libcraneholt.a
 # make list FILE=examples/sweep.nrrd   lists a file
 # make check      the tests from C, over the archive
+# make inputs     makes the input of the programs that the gate runs, and what they must print
 # make peers      lets teem-unu, where it is installed, read files that we write
 # make install    header, archive and pkg-config file under PREFIX
 # make bench      times the calls beside plain C, and beside libteem where it is installed; RUNS=5: the median of five runs; ONLY=hex: these tables
@@ -22,7 +23,7 @@ STRICT  = -std=c99 -Wall -Wextra -pedantic -Werror
 SANITIZE = -O1 -g -fsanitize=address,undefined -fno-sanitize-recover=all
 SOURCES = crates.txt $(shell find crates -name '*.rt' -o -name '*.antt')
 
-.PHONY: all list check peers teem-unu install uninstall bench clean
+.PHONY: all list check inputs peers teem-unu install uninstall bench clean
 all: $(ARCHIVE)
 
 # rt tells what it proves; only a failure is shown
@@ -42,19 +43,20 @@ list: $(LISTING)
 
 # ---- Tests from C
 
-TESTS = include/craneholt.h tests/bytes.h tests/calls.h tests/model.h tests/generate.h tests/json.h tests/said.h $(ARCHIVE)
+HEADERS = include/craneholt.h $(wildcard tests/*.h)
+TESTS = $(HEADERS) $(ARCHIVE)
 
 $(BUILD)/vectors: tests/vectors.c tests/bytes.c tests/json.c tests/model.c $(TESTS)
 	@mkdir -p $(BUILD)
 	$(CC) $(STRICT) $(SANITIZE) -Iinclude $(filter %.c %.a,$^) -o $@
 
 # the implementation that the library is compared with has to agree with the vectors too
-$(BUILD)/vectors_model: tests/vectors.c tests/bytes.c tests/json.c tests/model.c $(TESTS)
+$(BUILD)/vectors_model: tests/vectors.c tests/bytes.c tests/json.c tests/model.c $(HEADERS)
 	@mkdir -p $(BUILD)
 	$(CC) $(STRICT) $(SANITIZE) -DUSE_MODEL -Iinclude $(filter %.c,$^) -o $@
 
 # runs the listing program; the model is for the files that it makes
-$(BUILD)/listing: tests/listing.c tests/bytes.c tests/json.c tests/model.c $(TESTS)
+$(BUILD)/listing: tests/listing.c tests/bytes.c tests/json.c tests/model.c $(HEADERS)
 	@mkdir -p $(BUILD)
 	$(CC) $(STRICT) $(SANITIZE) -Iinclude $(filter %.c,$^) -o $@
 
@@ -75,13 +77,24 @@ $(BUILD)/empty: tests/empty.c $(TESTS)
 	@mkdir -p $(BUILD)
 	$(CC) $(STRICT) $(SANITIZE) -Iinclude tests/empty.c $(ARCHIVE) -o $@
 
+# the input of the programs that the gate runs
+$(BUILD)/inputs: $(wildcard tests/frames/*.c) tests/bytes.c tests/json.c tests/model.c $(wildcard tests/frames/*.h) $(HEADERS)
+	@mkdir -p $(BUILD)
+	$(CC) $(STRICT) $(SANITIZE) -Iinclude $(filter %.c,$^) -o $@
+
+# their answers are the model's, so that it has to agree with the vectors first
+inputs: $(BUILD)/vectors_model $(BUILD)/inputs
+	$(BUILD)/vectors_model tests/vectors
+	$(BUILD)/inputs tests/vectors tests/frames crates
+
 $(BUILD)/%: examples/%.c examples/files.h include/craneholt.h $(ARCHIVE)
 	@mkdir -p $(BUILD)
 	$(CC) $(STRICT) $(CFLAGS) -Iinclude $< $(ARCHIVE) -o $@
 
-check: $(BUILD)/vectors $(BUILD)/vectors_model $(BUILD)/listing $(LISTING) $(BUILD)/peers $(BUILD)/empty $(BUILD)/random $(BUILD)/tokens $(BUILD)/correct $(BUILD)/merge
+check: $(BUILD)/vectors $(BUILD)/vectors_model $(BUILD)/inputs $(BUILD)/listing $(LISTING) $(BUILD)/peers $(BUILD)/empty $(BUILD)/random $(BUILD)/tokens $(BUILD)/correct $(BUILD)/merge
 	$(BUILD)/vectors tests/vectors
 	$(BUILD)/vectors_model tests/vectors
+	sh tests/frames/compare.sh $(BUILD)
 	$(BUILD)/listing $(LISTING) tests/vectors $(BUILD)
 	$(BUILD)/peers tests/peers
 	$(BUILD)/empty

@@ -16,14 +16,22 @@ int same(struct bytes a, struct bytes b)
     return a.length == b.length && memcmp(a.at, b.at, a.length) == 0;
 }
 
+static unsigned hex_digit(char digit)
+{
+    static const char digits[] = "0123456789abcdef";
+    const char *place = digit == '\0' ? NULL : strchr(digits, digit);
+    if (place == NULL) {
+        fprintf(stderr, "no hexadecimal digit: %c\n", digit);
+        exit(2);
+    }
+    return (unsigned)(place - digits);
+}
+
 struct bytes of_hex(const char *text, size_t length)
 {
     struct bytes b = filled(length / 2);
-    for (size_t i = 0; i < b.length; i++) {
-        unsigned byte = 0;
-        sscanf(text + 2 * i, "%2x", &byte);
-        b.at[i] = (uint8_t)byte;
-    }
+    for (size_t i = 0; i < b.length; i++)
+        b.at[i] = (uint8_t)(16 * hex_digit(text[2 * i]) + hex_digit(text[2 * i + 1]));
     return b;
 }
 

@@ -142,3 +142,44 @@ const struct json *json_member(const struct json *object, const char *name)
         item = item->next;
     return item;
 }
+
+/* ---- what the members of a vector hold */
+
+/* The member; ends the program if there is none. */
+static const struct json *needed(const struct json *v, const char *name)
+{
+    const struct json *item = json_member(v, name);
+    if (item == NULL)
+        fail(name);
+    return item;
+}
+
+uint64_t number_member(const struct json *v, const char *name)
+{
+    return needed(v, name)->number;
+}
+
+struct bytes of_text(const struct json *text)
+{
+    return of_hex(text->text, text->length);
+}
+
+struct bytes hex_member(const struct json *v, const char *name)
+{
+    return of_text(needed(v, name));
+}
+
+struct bytes of_numbers(const struct json *list, size_t width)
+{
+    struct bytes b = filled(list->length * width);
+    size_t at = 0;
+    for (const struct json *item = list->first; item != NULL; item = item->next)
+        for (size_t i = 0; i < width; i++)
+            b.at[at++] = (uint8_t)(item->number >> 8 * i);
+    return b;
+}
+
+struct bytes numbers_member(const struct json *v, const char *name, size_t width)
+{
+    return of_numbers(needed(v, name), width);
+}

@@ -2,8 +2,7 @@
 #ifndef JSON_H
 #define JSON_H
 
-#include <stddef.h>
-#include <stdint.h>
+#include "bytes.h"
 
 struct json {
     char *name;                /* of a member of an object */
@@ -21,5 +20,17 @@ void json_free(struct json *value);
 
 /* The member of an object, or NULL. */
 const struct json *json_member(const struct json *object, const char *name);
+
+/* ---- what the members of a vector hold */
+
+uint64_t number_member(const struct json *v, const char *name);
+
+/* The bytes of a string of hexadecimal digits. */
+struct bytes of_text(const struct json *text);
+struct bytes hex_member(const struct json *v, const char *name);
+
+/* The bytes of a list of numbers, each in so many, low byte first. */
+struct bytes of_numbers(const struct json *list, size_t width);
+struct bytes numbers_member(const struct json *v, const char *name, size_t width);
 
 #endif

@@ -37,32 +37,6 @@ static int holds(struct bytes b, struct bytes want)
     return want.length <= b.length && memcmp(b.at, want.at, want.length) == 0 && untouched(b, want.length);
 }
 
-static struct bytes of_text(const struct json *text)
-{
-    return of_hex(text->text, text->length);
-}
-
-/* The bytes of a list of numbers, low byte first. */
-static struct bytes of_numbers(const struct json *list, size_t width)
-{
-    struct bytes b = filled(list->length * width);
-    size_t at = 0;
-    for (const struct json *item = list->first; item != NULL; item = item->next)
-        for (size_t i = 0; i < width; i++)
-            b.at[at++] = (uint8_t)(item->number >> 8 * i);
-    return b;
-}
-
-static struct bytes hex_member(const struct json *v, const char *name)
-{
-    return of_text(json_member(v, name));
-}
-
-static uint64_t number_member(const struct json *v, const char *name)
-{
-    return json_member(v, name)->number;
-}
-
 /* ---- what is expected */
 
 /* The item of "expect" by its index. */
@@ -319,34 +293,48 @@ static int run_listing(const struct json *v)
 
 /* ---- files and counts */
 
-static struct {
+/* Each operation of the vectors, and what runs one. */
+static struct operation {
     const char *name;
     int (*run)(const struct json *);
     int passed, total;
-} ops[] = {
-    {"read", run_read, 0, 0},       {"data", run_data, 0, 0},   {"samples", run_samples, 0, 0},
-    {"coords", run_coords, 0, 0},   {"write", run_write, 0, 0}, {"set", run_set, 0, 0},
-    {"listing", run_listing, 0, 0}, {"listing files", NULL, 0, 0},
+} operations[] = {
+    {"read", run_read, 0, 0},
+    {"data", run_data, 0, 0},
+    {"samples", run_samples, 0, 0},
+    {"coords", run_coords, 0, 0},
+    {"write", run_write, 0, 0},
+    {"set", run_set, 0, 0},
+    {"listing", run_listing, 0, 0},
 };
 
-enum { OPS = sizeof ops / sizeof ops[0], LISTING_FILES = OPS - 1 };
+enum { OPERATIONS = sizeof operations / sizeof operations[0] };
 
-static void count(int op, int passed, const char *where, int number)
+static struct operation listing_files = {"listing files", NULL, 0, 0};
+
+/* The operation; ends the program if there is none of this name. */
+static struct operation *operation_named(const char *name)
 {
-    ops[op].total++;
-    ops[op].passed += passed;
+    for (int i = 0; i < OPERATIONS; i++)
+        if (strcmp(operations[i].name, name) == 0)
+            return &operations[i];
+    fprintf(stderr, "vectors: no operation has the name %s\n", name);
+    exit(2);
+}
+
+static void count(struct operation *operation, int passed, const char *where, int number)
+{
+    operation->total++;
+    operation->passed += passed;
     if (!passed)
-        printf("failed: %s, %s %d\n", ops[op].name, where, number);
+        printf("failed: %s, %s %d\n", operation->name, where, number);
 }
 
 static void run_line(const char *text, int number)
 {
     struct json *v = json_read(text);
-    const char *name = json_member(v, "op")->text;
-    int op = 0;
-    while (op < LISTING_FILES && strcmp(ops[op].name, name) != 0)
-        op++;
-    count(op, op < LISTING_FILES && ops[op].run(v), "line", number);
+    struct operation *operation = operation_named(json_member(v, "op")->text);
+    count(operation, operation->run(v), "line", number);
     json_free(v);
 }
 
@@ -373,26 +361,30 @@ static int run_listing_file(const char *folder, int number)
         return 0;
     snprintf(name, sizeof name, "listing/%03d.out", number);
     out = load(folder, name);
-    count(LISTING_FILES, out.at != NULL && listing_is_right(in, out), "file", number);
+    count(&listing_files, out.at != NULL && listing_is_right(in, out), "file", number);
     free(in.at);
     free(out.at);
     return 1;
 }
 
+/* Prints the counts; true if there is a vector of this kind, and all passed. */
+static int tell(const struct operation *operation)
+{
+    printf("%s: %d of %d\n", operation->name, operation->passed, operation->total);
+    /* a kind of vector of which there is none was not run */
+    return operation->total > 0 && operation->passed == operation->total;
+}
+
 int main(int arguments, char **argument)
 {
     const char *folder = arguments > 1 ? argument[1] : "tests/vectors";
-    int passed = 0, total = 0, kinds = 0;
+    int right;
     run_calls(folder);
     for (int number = 0; run_listing_file(folder, number); number++)
         continue;
-    for (int op = 0; op < OPS; op++) {
-        printf("%s: %d of %d\n", ops[op].name, ops[op].passed, ops[op].total);
-        passed += ops[op].passed;
-        total += ops[op].total;
-        kinds += ops[op].total > 0;
-    }
-    printf("%d passed, %d failed\n", passed, total - passed);
-    /* a kind of vector of which there is none was not run */
-    return passed == total && kinds == OPS ? 0 : 1;
+    right = tell(&listing_files);
+    for (int i = 0; i < OPERATIONS; i++)
+        right = tell(&operations[i]) && right;
+    printf("vectors %s\n", right ? "passed" : "failed");
+    return right ? 0 : 1;
 }

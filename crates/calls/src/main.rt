@@ -3,20 +3,20 @@
 //
 // A case has at most 131,072 bytes:
 //   0    which call: 0 data, 1 samples, 2 coordinates, 3 writer
-//   4    the number and the line of the refusal, both 0 where the call accepts; with a refusal what is expected besides is 0 or empty
+//   4    the refusal, zeros where the call accepts; with a refusal what is expected besides is 0 or empty
 // then, of a case for the data:
-//   12   1 where the data lies in the second file, else 0; its start; its length
-//   24   a run, the header's file; a run, the second file
+//   16   1 where the data lies in the second file, else 0; its start; its length
+//   28   a run, the header's file; a run, the second file
 // for samples:
-//   12   the room, a wide number: how many entries the lent list has
-//   20   a run, the header's file; a run, the second file; a run, the samples as wide numbers
+//   16   the room, a wide number: how many entries the lent list has
+//   24   a run, the header's file; a run, the second file; a run, the samples as wide numbers
 // for coordinates:
-//   12   the number of the sample
-//   16   a run, the file; a run, at most 32 coordinates as wide numbers
+//   16   the number of the sample
+//   20   a run, the file; a run, at most 32 coordinates as wide numbers
 // for the writer:
-//   12   the room: how many bytes the lent buffer has
-//   16   version, type, encoding, endian, as wide numbers
-//   48   a run, at most 32 sizes as wide numbers; a run, at most 1,024 samples as wide numbers; a run, the file that is written
+//   16   the room: how many bytes the lent buffer has
+//   20   version, type, encoding, endian, as wide numbers
+//   52   a run, at most 32 sizes as wide numbers; a run, at most 1,024 samples as wide numbers; a run, the file that is written
 //
 // `check_samples` is asked with the room itself; `samples` is lent at most 1,024 entries.
 // The list and the buffer are filled before the call; every entry and byte past those written must still be so.
@@ -97,16 +97,16 @@ fn first_samples(list: &[i64], n: usize) -> &[i64] {
 // Whether the answer is the place of the data at the front of the case.
 fn place_right(a: DataAnswer, s: &[u8]) -> bool {
     let told = a.refusal;
-    let holder = a.second == (number_at(s, 12) == 1);
-    let place = (a.start == number_at(s, 16) as u64) & (a.length == number_at(s, 20) as u64);
+    let holder = a.second == (number_at(s, 16) == 1);
+    let place = (a.start == number_at(s, 20) as u64) & (a.length == number_at(s, 24) as u64);
     same_refusal(told, refusal_at(s, 4)) & holder & place
 }
 
 // The bytes at the place of the data at the front of the case.
 fn part_of<'a>(s: &[u8], file: &'a [u8], second: &'a [u8]) -> &'a [u8] {
-    let start = number_at(s, 16) as usize;
-    let length = number_at(s, 20) as usize;
-    if number_at(s, 12) == 1 {
+    let start = number_at(s, 20) as usize;
+    let length = number_at(s, 24) as usize;
+    if number_at(s, 16) == 1 {
         return part(second, start, length);
     }
     part(file, start, length)
@@ -114,8 +114,8 @@ fn part_of<'a>(s: &[u8], file: &'a [u8], second: &'a [u8]) -> &'a [u8] {
 
 // The part of a case for the data that is wrong, 0 for none.
 fn data_fault(s: &[u8]) -> u32 {
-    let at = run_end(s, 24);
-    let file = run_at(s, 24);
+    let at = run_end(s, 28);
+    let file = run_at(s, 28);
     let second = run_at(s, at);
     if run_end(s, at) != s.len() {
         return MALFORMED;
@@ -179,14 +179,14 @@ fn decoding_fault(file: &[u8], second: &[u8], refusal: Refusal, room: usize, s: 
 
 // The part of a case for samples that is wrong, 0 for none.
 fn samples_fault(s: &[u8]) -> u32 {
-    let second = run_end(s, 20);
+    let second = run_end(s, 24);
     let samples = run_end(s, second);
     if run_end(s, samples) != s.len() {
         return MALFORMED;
     }
-    let room = wide_at(s, 12) as usize;
+    let room = wide_at(s, 16) as usize;
     decoding_fault(
-        run_at(s, 20),
+        run_at(s, 24),
         run_at(s, second),
         refusal_at(s, 4),
         room,
@@ -196,16 +196,16 @@ fn samples_fault(s: &[u8]) -> u32 {
 
 // The part of a case for coordinates that is wrong, 0 for none.
 fn coordinates_fault(s: &[u8]) -> u32 {
-    let at = run_end(s, 16);
+    let at = run_end(s, 20);
     let run = run_at(s, at);
     if run_end(s, at) != s.len() {
         return MALFORMED;
     }
     let coords = wides_of(run);
     let n = run.len() / 8;
-    let answer = volume::axes::sample_number(run_at(s, 16), first_wides(&coords, n));
+    let answer = volume::axes::sample_number(run_at(s, 20), first_wides(&coords, n));
     let told = answer.refusal;
-    if !same_refusal(told, refusal_at(s, 4)) | (answer.number != number_at(s, 12) as u64) {
+    if !same_refusal(told, refusal_at(s, 4)) | (answer.number != number_at(s, 16) as u64) {
         return 1;
     }
     0
@@ -213,10 +213,10 @@ fn coordinates_fault(s: &[u8]) -> u32 {
 
 // The answer of the writer to the numbers of the case.
 fn write_case(s: &[u8], sizes: &[u64], samples: &[i64], out: &mut [u8]) -> WriteAnswer {
-    let version = wide_at(s, 16);
-    let sampletype = wide_at(s, 24);
-    let encoding = wide_at(s, 32);
-    let endian = wide_at(s, 40);
+    let version = wide_at(s, 20);
+    let sampletype = wide_at(s, 28);
+    let encoding = wide_at(s, 36);
+    let endian = wide_at(s, 44);
     writer::write(version, sizes, sampletype, encoding, endian, samples, out)
 }
 
@@ -234,7 +234,7 @@ fn written(s: &[u8], sizes: &[u8], samples: &[u8], out: &mut [u8]) -> WriteAnswe
     let list = samples_of(samples);
     let axes = first_wides(&wides, sizes.len() / 8);
     let lent = first_samples(&list, samples.len() / 8);
-    write_to(s, axes, lent, out, number_at(s, 12) as usize)
+    write_to(s, axes, lent, out, number_at(s, 16) as usize)
 }
 
 // Whether the bytes from `from` on are as they were before the call.
@@ -264,14 +264,14 @@ fn back_right(file: &[u8], s: &[u8]) -> bool {
 
 // The part of a case for the writer that is wrong, 0 for none.
 fn write_fault(s: &[u8]) -> u32 {
-    let samples = run_end(s, 48);
+    let samples = run_end(s, 52);
     let at = run_end(s, samples);
     if run_end(s, at) != s.len() {
         return MALFORMED;
     }
     let file = run_at(s, at);
     let mut out = [UNTOUCHED; 65536];
-    let answer = written(s, run_at(s, 48), run_at(s, samples), &mut out);
+    let answer = written(s, run_at(s, 52), run_at(s, samples), &mut out);
     let told = answer.refusal;
     if !same_refusal(told, refusal_at(s, 4)) | (answer.length != file.len() as u64) {
         return 1;

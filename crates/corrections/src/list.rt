@@ -20,10 +20,10 @@ fn set_next(buf: &mut [u8], table: &mut [u32], s: &[u8], now: Left) -> Left {
     let at = run_end(s, second);
     let a = settings::set::set_key(buf, now.used, table, now.count, key, value);
     let refused = frames::parts::same_refusal(a.refusal, frames::parts::refusal_at(s, at));
-    let used = a.length == number_at(s, plus(at, 8)) as u64;
-    let count = a.count == number_at(s, plus(at, 12)) as u64;
+    let used = a.length == number_at(s, plus(at, 12)) as u64;
+    let count = a.count == number_at(s, plus(at, 16)) as u64;
     Left {
-        at: plus(at, 16),
+        at: plus(at, 20),
         used: a.length as usize,
         count: a.count as usize,
         right: now.right & refused & used & count,

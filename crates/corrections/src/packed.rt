@@ -5,7 +5,7 @@
 //   16   1 where the buffer has a file with an accepted header and the table is that of its reading, else 0
 //   20   seven runs: the buffer as it is lent, packed
 //        the table as it is lent, as numbers
-//        the settings: their number; for each a run, the key; a run, the value; the answer: number, line, length and count
+//        the settings: their number; for each a run, the key; a run, the value; the answer: a refusal, the length and the count
 //        the buffer as the last setting leaves it, packed
 //        the table as the last setting leaves it, as numbers
 //        the keys of the file then: their number; for each a run, the key; a run, its value

@@ -74,7 +74,7 @@ pub fn text_end(s: &[u8], at: usize) -> usize {
     plus(plus(at, 4), less(number_at(s, at), 1) as usize)
 }
 
-// The refusal at `at`: its number and its line.
+// The refusal at `at`: its number and its line. Its byte is 0 as long as refusals have none.
 pub fn refusal_at(s: &[u8], at: usize) -> Refusal {
     Refusal {
         number: number_at(s, at),

@@ -2,8 +2,8 @@
 //
 // A case has at most 147,456 bytes:
 //   0    the room: how many bytes of the buffer are lent, at most 70,144
-//   4    the number and the line of the refusal by the call itself, both 0 where it accepts; a file that is refused is listed as such
-//   12   a run, the file; a run, its listing, empty with a refusal
+//   4    the refusal by the call itself, zeros where it accepts; a file that is refused is listed as such
+//   16   a run, the file; a run, its listing, empty with a refusal
 //
 // The buffer is filled before the call; every byte past the listing must still be so, those past the room as well.
 //
@@ -46,13 +46,13 @@ fn holds(out: &[u8; 70144], text: &[u8]) -> bool {
 
 // The part of a case that is wrong, 0 for none.
 fn case_fault(s: &[u8]) -> u32 {
-    let at = run_end(s, 12);
+    let at = run_end(s, 16);
     let text = run_at(s, at);
     if run_end(s, at) != s.len() {
         return MALFORMED;
     }
     let mut out = [UNTOUCHED; 70144];
-    let answer = list_to(run_at(s, 12), &mut out, number_at(s, 0) as usize);
+    let answer = list_to(run_at(s, 16), &mut out, number_at(s, 0) as usize);
     let told = answer.refusal;
     if !same_refusal(told, refusal_at(s, 4)) | (answer.length != text.len() as u64) {
         return 1;

@@ -2,10 +2,10 @@
 //
 // A case has at most 131,072 bytes:
 //   0    the room: how many entries the lent table has, at most 16,384
-//   4    the number and the line of the refusal by `read`, both 0 where it accepts
-//   12   the same for `read_header`
-//   20   the 27 numbers of the reading, in the order of `format::Reading`, all 0 where `read_header` refuses
-//   128  a run, the file
+//   4    the refusal by `read`, zeros where it accepts
+//   16   the same for `read_header`
+//   28   the 27 numbers of the reading, in the order of `format::Reading`, all 0 where `read_header` refuses
+//   136  a run, the file
 //   a run, the entries that `read` writes, as numbers
 //   for each of the 30 fields, in the order of the definitions (`fieldTable`): a text, the descriptor
 //   the number of keys; for each a run, the key; a text, the value as it stands in the file; a run, the value
@@ -229,14 +229,14 @@ fn keys_right(file: &[u8], refusal: Refusal, s: &[u8], from: usize) -> Step {
 
 // The part of the answers about the header that is wrong, 0 for none. The table's run ends at `from`.
 fn header_fault(file: &[u8], s: &[u8], from: usize) -> u32 {
-    let refusal = refusal_at(s, 12);
+    let refusal = refusal_at(s, 16);
     let answer = header::read::read_header(file);
     let fields = fields_right(file, refusal, s, from);
     let keys = keys_right(file, refusal, s, fields.at);
     if keys.at != s.len() {
         return MALFORMED;
     }
-    if !answer_right(answer, refusal, part(s, 20, 108)) {
+    if !answer_right(answer, refusal, part(s, 28, 108)) {
         return 3;
     }
     if !fields.right {
@@ -262,12 +262,12 @@ fn case_fault(s: &[u8]) -> u32 {
     if 16384 < room {
         return MALFORMED;
     }
-    let file = run_at(s, 128);
-    let at = run_end(s, 128);
+    let file = run_at(s, 136);
+    let at = run_end(s, 136);
     let refusal = refusal_at(s, 4);
     let mut table = [7u32; 16384];
     let answer = read_to(file, &mut table, room);
-    if !answer_right(answer, refusal, part(s, 20, reading_bytes(refusal))) {
+    if !answer_right(answer, refusal, part(s, 28, reading_bytes(refusal))) {
         return 1;
     }
     if !table_right(&table, run_at(s, at)) {
