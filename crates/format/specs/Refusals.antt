@@ -1,8 +1,8 @@
 -- The numbers of refusal by name, in document 01's order ("Numbers of refusal").
 -- A refusal is one record: its number, and the line at which the reader met it (numbers 2 to 12); 0 where no line is meant.
 use Prim.Native.Nat.{ℕ}
-use mathlib.Core.List.{List, [], _∷_}
 use Rattle.format.specs.declared.Refusal.{Refusal}
+use Rattle.format.specs.declared.RefusalNumbers.{RefusalNumbers}
 
 -- a file of more than `maxFile` bytes
 abbrev pub fileTooLong : ℕ
@@ -112,9 +112,38 @@ wrongTable = 26
 abbrev pub wrongCount : ℕ
 wrongCount = 27
 
-abbrev pub refusalNumbers : List ℕ
+-- each by its name
+abbrev pub refusalNumbers : RefusalNumbers
 refusalNumbers =
-    fileTooLong ∷ noMagic ∷ headerTooLong ∷ tooManyLines ∷ badByte ∷ noMark ∷ unknownField ∷ notInVersion ∷ repeatedField ∷ outOfOrder ∷ badDescriptor ∷ badBackslash ∷ noEnd ∷ missingField ∷ extentTooLarge ∷ skipPastEnd ∷ placeTooLarge ∷ dataTooShort ∷ floatSamples ∷ badSample ∷ dataEndsEarly ∷ lentTooShort ∷ badCoordinates ∷ badKey ∷ badValue ∷ wrongTable ∷ wrongCount ∷ []
+    record {
+      «file_too_long» = fileTooLong;
+      «no_magic» = noMagic;
+      «header_too_long» = headerTooLong;
+      «too_many_lines» = tooManyLines;
+      «bad_byte» = badByte;
+      «no_mark» = noMark;
+      «unknown_field» = unknownField;
+      «not_in_version» = notInVersion;
+      «repeated_field» = repeatedField;
+      «out_of_order» = outOfOrder;
+      «bad_descriptor» = badDescriptor;
+      «bad_backslash» = badBackslash;
+      «no_end» = noEnd;
+      «missing_field» = missingField;
+      «extent_too_large» = extentTooLarge;
+      «skip_past_end» = skipPastEnd;
+      «place_too_large» = placeTooLarge;
+      «data_too_short» = dataTooShort;
+      «float_samples» = floatSamples;
+      «bad_sample» = badSample;
+      «data_ends_early» = dataEndsEarly;
+      «lent_too_short» = lentTooShort;
+      «bad_coordinates» = badCoordinates;
+      «bad_key» = badKey;
+      «bad_value» = badValue;
+      «wrong_table» = wrongTable;
+      «wrong_count» = wrongCount
+    }
 
 -- ---- the record
 

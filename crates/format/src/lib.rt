@@ -112,6 +112,37 @@ pub struct Limits {
     pub sample: u64,
 }
 
+// The numbers of refusal together, each by its name.
+pub struct RefusalNumbers {
+    pub file_too_long: u32,
+    pub no_magic: u32,
+    pub header_too_long: u32,
+    pub too_many_lines: u32,
+    pub bad_byte: u32,
+    pub no_mark: u32,
+    pub unknown_field: u32,
+    pub not_in_version: u32,
+    pub repeated_field: u32,
+    pub out_of_order: u32,
+    pub bad_descriptor: u32,
+    pub bad_backslash: u32,
+    pub no_end: u32,
+    pub missing_field: u32,
+    pub extent_too_large: u32,
+    pub skip_past_end: u32,
+    pub place_too_large: u32,
+    pub data_too_short: u32,
+    pub float_samples: u32,
+    pub bad_sample: u32,
+    pub data_ends_early: u32,
+    pub lent_too_short: u32,
+    pub bad_coordinates: u32,
+    pub bad_key: u32,
+    pub bad_value: u32,
+    pub wrong_table: u32,
+    pub wrong_count: u32,
+}
+
 // A refusal: its number, and the line at which the reader met it (numbers 2 to 12); 0 where no line is meant. Number 0: nothing is refused.
 #[repr(C)]
 pub struct Refusal {
@@ -226,38 +257,38 @@ pub fn all_limits() -> Limits
 }
 
 // The numbers of refusal are those of the definitions.
-pub fn refusal_numbers() -> [u32; 27]
+pub fn refusal_numbers() -> RefusalNumbers
     ensures { λ r. ⌜ r ≡ refusalNumbers ⌝ }
 {
-    [
-        FILE_TOO_LONG,
-        NO_MAGIC,
-        HEADER_TOO_LONG,
-        TOO_MANY_LINES,
-        BAD_BYTE,
-        NO_MARK,
-        UNKNOWN_FIELD,
-        NOT_IN_VERSION,
-        REPEATED_FIELD,
-        OUT_OF_ORDER,
-        BAD_DESCRIPTOR,
-        BAD_BACKSLASH,
-        NO_END,
-        MISSING_FIELD,
-        EXTENT_TOO_LARGE,
-        SKIP_PAST_END,
-        PLACE_TOO_LARGE,
-        DATA_TOO_SHORT,
-        FLOAT_SAMPLES,
-        BAD_SAMPLE,
-        DATA_ENDS_EARLY,
-        LENT_TOO_SHORT,
-        BAD_COORDINATES,
-        BAD_KEY,
-        BAD_VALUE,
-        WRONG_TABLE,
-        WRONG_COUNT,
-    ]
+    RefusalNumbers {
+        file_too_long: FILE_TOO_LONG,
+        no_magic: NO_MAGIC,
+        header_too_long: HEADER_TOO_LONG,
+        too_many_lines: TOO_MANY_LINES,
+        bad_byte: BAD_BYTE,
+        no_mark: NO_MARK,
+        unknown_field: UNKNOWN_FIELD,
+        not_in_version: NOT_IN_VERSION,
+        repeated_field: REPEATED_FIELD,
+        out_of_order: OUT_OF_ORDER,
+        bad_descriptor: BAD_DESCRIPTOR,
+        bad_backslash: BAD_BACKSLASH,
+        no_end: NO_END,
+        missing_field: MISSING_FIELD,
+        extent_too_large: EXTENT_TOO_LARGE,
+        skip_past_end: SKIP_PAST_END,
+        place_too_large: PLACE_TOO_LARGE,
+        data_too_short: DATA_TOO_SHORT,
+        float_samples: FLOAT_SAMPLES,
+        bad_sample: BAD_SAMPLE,
+        data_ends_early: DATA_ENDS_EARLY,
+        lent_too_short: LENT_TOO_SHORT,
+        bad_coordinates: BAD_COORDINATES,
+        bad_key: BAD_KEY,
+        bad_value: BAD_VALUE,
+        wrong_table: WRONG_TABLE,
+        wrong_count: WRONG_COUNT,
+    }
 }
 
 // The starred trials of document 01 hold of the definitions.
