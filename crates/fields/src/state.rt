@@ -1,10 +1,10 @@
 // What the fields given so far say: the reader's state, by value.
 use format::ReadAnswer;
 use format::Reading;
-use format::Refusal;
 use format::field;
 use format::products;
 use format::types;
+use format_values::refusals;
 ghost use mathlib.Core.Path.{_≡_};
 ghost use mathlib.Core.Bool.{true};
 ghost use mathlib.Core.List.{List, []};
@@ -57,10 +57,7 @@ pub fn refuse(number: u32, line: u32) -> ReadAnswer
     ensures { λ r. ⌜ r ≡ readAnswer (refused (atLine number line)) ⌝ }
 {
     ReadAnswer {
-        refusal: Refusal {
-            number: number,
-            line: line,
-        },
+        refusal: refusals::refusal_at(number, line),
         reading: Reading {
             version: 0,
             form: 0,
@@ -126,7 +123,7 @@ pub fn finish(state: State, bytes: usize, count: u32) -> ReadAnswer
     let length = bytes as u64;
     let sizes = state.sizes;
     ReadAnswer {
-        refusal: Refusal { number: 0, line: 0 },
+        refusal: refusals::FINE,
         reading: Reading {
             version: state.version,
             form: form,
