@@ -26,16 +26,11 @@ SOURCES = crates.txt $(shell find crates -name '*.rt' -o -name '*.antt')
 .PHONY: all list check inputs peers teem-unu install uninstall bench clean
 all: $(ARCHIVE)
 
-# rt tells what it proves; only a failure is shown
 $(ARCHIVE): $(SOURCES)
-	@echo "proving the library (minutes the first time)"
-	@mkdir -p $(BUILD)
-	@rt staticlib craneholt > $(BUILD)/staticlib.log 2>&1 || { cat $(BUILD)/staticlib.log; exit 1; }
+	@sh tools/prove.sh $(BUILD) staticlib craneholt
 
 $(LISTING): $(SOURCES)
-	@echo "proving the listing program (minutes the first time)" >&2
-	@mkdir -p $(BUILD)
-	@rt check listing > $(BUILD)/listing.log 2>&1 || { cat $(BUILD)/listing.log; exit 1; }
+	@sh tools/prove.sh $(BUILD) check listing
 
 list: $(LISTING)
 	@test -n "$(FILE)" || { echo "usage: make list FILE=examples/sweep.nrrd" >&2; exit 2; }

@@ -262,37 +262,37 @@ craneholt_write_answer craneholt_listing(const uint8_t *file, size_t file_length
 /* A sentence for a number of refusal. */
 static inline const char *craneholt_sentence(uint32_t number)
 {
-    static const char *const sentences[] = {
-        "nothing is refused",
-        "the file is longer than 4,294,967,295 bytes",
-        "the first line is not the magic of an NRRD file",
-        "the header is longer than 65,535 bytes",
-        "the header has more than 1,024 lines",
-        "the line holds a byte that is neither tab nor printable ASCII",
-        "the line has neither ': ' nor ':=', or its key is empty",
-        "no field has this name",
-        "this version of the format has no such field, or no key pairs",
-        "the field was given before",
-        "the field comes before the one that it needs (dimension; space or space dimension)",
-        "the field cannot have this value",
-        "a backslash is followed neither by 'n' nor by a backslash",
-        "the header has no end",
-        "a needed field is missing (dimension, type, encoding, sizes, endian)",
-        "the sizes ask for more than 4,294,967,295 bytes of data",
-        "line skip or byte skip passes the end of the file",
-        "the end of the data does not fit 64 bits",
-        "the file has fewer bytes than its sizes ask for",
-        "samples of type float and double are not supported",
-        "a sample is not a number, is outside its type, or is above 9,223,372,036,854,775,807",
-        "the data ends before the last sample",
-        "the lent buffer, list or table is too short",
-        "the coordinates are not one for each axis, each below its size",
-        "no header line can hold this key",
-        "the value holds a byte that is neither tab, line feed nor printable ASCII",
-        "the line table is not that of the file",
-        "there are not as many samples as the sizes ask for"
-    };
-    return number < sizeof sentences / sizeof sentences[0] ? sentences[number] : "no such refusal";
+    switch (number) {
+    case CRANEHOLT_FINE:             return "nothing is refused";
+    case CRANEHOLT_FILE_TOO_LONG:    return "the file is longer than 4,294,967,295 bytes";
+    case CRANEHOLT_NO_MAGIC:         return "the first line is not the magic of an NRRD file";
+    case CRANEHOLT_HEADER_TOO_LONG:  return "the header is longer than 65,535 bytes";
+    case CRANEHOLT_TOO_MANY_LINES:   return "the header has more than 1,024 lines";
+    case CRANEHOLT_BAD_BYTE:         return "the line holds a byte that is neither tab nor printable ASCII";
+    case CRANEHOLT_NO_MARK:          return "the line has neither ': ' nor ':=', or its key is empty";
+    case CRANEHOLT_UNKNOWN_FIELD:    return "no field has this name";
+    case CRANEHOLT_NOT_IN_VERSION:   return "this version of the format has no such field, or no key pairs";
+    case CRANEHOLT_REPEATED_FIELD:   return "the field was given before";
+    case CRANEHOLT_OUT_OF_ORDER:     return "the field comes before the one that it needs (dimension; space or space dimension)";
+    case CRANEHOLT_BAD_DESCRIPTOR:   return "the field cannot have this value";
+    case CRANEHOLT_BAD_BACKSLASH:    return "a backslash is followed neither by 'n' nor by a backslash";
+    case CRANEHOLT_NO_END:           return "the header has no end";
+    case CRANEHOLT_MISSING_FIELD:    return "a needed field is missing (dimension, type, encoding, sizes, endian)";
+    case CRANEHOLT_EXTENT_TOO_LARGE: return "the sizes ask for more than 4,294,967,295 bytes of data";
+    case CRANEHOLT_SKIP_PAST_END:    return "line skip or byte skip passes the end of the file";
+    case CRANEHOLT_PLACE_TOO_LARGE:  return "the end of the data does not fit 64 bits";
+    case CRANEHOLT_DATA_TOO_SHORT:   return "the file has fewer bytes than its sizes ask for";
+    case CRANEHOLT_FLOAT_SAMPLES:    return "samples of type float and double are not supported";
+    case CRANEHOLT_BAD_SAMPLE:       return "a sample is not a number, is outside its type, or is above 9,223,372,036,854,775,807";
+    case CRANEHOLT_DATA_ENDS_EARLY:  return "the data ends before the last sample";
+    case CRANEHOLT_LENT_TOO_SHORT:   return "the lent buffer, list or table is too short";
+    case CRANEHOLT_BAD_COORDINATES:  return "the coordinates are not one for each axis, each below its size";
+    case CRANEHOLT_BAD_KEY:          return "no header line can hold this key";
+    case CRANEHOLT_BAD_VALUE:        return "the value holds a byte that is neither tab, line feed nor printable ASCII";
+    case CRANEHOLT_WRONG_TABLE:      return "the line table is not that of the file";
+    case CRANEHOLT_WRONG_COUNT:      return "there are not as many samples as the sizes ask for";
+    default: return "no such refusal";
+    }
 }
 
 #endif

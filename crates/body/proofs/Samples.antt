@@ -14,6 +14,7 @@ use lib.Seq.{slice, length-slice}
 use borrow.Author.Tests.{ltb-true, ltb-false, le-ltb, ne-eqb}
 use Rattle.format.specs.Bytes.{if_then_else_, LF}
 use Rattle.format.specs.Limits.{maxFile}
+use Rattle.format.specs.Refusals.{fileTooLong, lentTooShort}
 use Rattle.format.specs.Descriptors.{NumberKind, signed, unsigned, floating}
 use Rattle.format.specs.Samples.{inType, lowest, toBytes, ordered, toSigned, fromSigned, valueBytes}
 use Rattle.format.specs.Writer.{hexText, rawData, textData, dataBytes, allInType}
@@ -161,7 +162,7 @@ part-room w i e h l =
 pub late-less : (a b room : ℕ) → a ≤ b → 0 ≡ lateRefusal b room → 0 ≡ lateRefusal a room
 late-less a b room h e = go (ltb maxFile b) (ltb room b) refl refl e
   where
-    go : (s t : Bool) → ltb maxFile b ≡ s → ltb room b ≡ t → _≡_ {A = ℕ} 0 (if s then 1 else if t then 22 else 0) → 0 ≡ lateRefusal a room
+    go : (s t : Bool) → ltb maxFile b ≡ s → ltb room b ≡ t → _≡_ {A = ℕ} 0 (if s then fileTooLong else if t then lentTooShort else 0) → 0 ≡ lateRefusal a room
     go true t k l r = absurd (omega arith)
     go false true k l r = absurd (omega arith)
     go false false k l r = rw (le-ltb maxFile a (omega (arith, ltb-false maxFile b k)), le-ltb room a (omega (arith, ltb-false room b l)))

@@ -28,6 +28,7 @@ use format::CountAnswer;
 use format::DataAnswer;
 use format::Refusal;
 use format::WriteAnswer;
+use format_values::refusals;
 use frames::parts::number_at;
 use frames::parts::part;
 use frames::parts::plus;
@@ -258,7 +259,7 @@ fn back_right(file: &[u8], s: &[u8]) -> bool {
     if file.len() == 0 {
         return true;
     }
-    let fine = Refusal { number: 0, line: 0 };
+    let fine = refusals::FINE;
     decoding_fault(file, &file[..0], fine, 1024, s) == 0
 }
 

@@ -4,6 +4,7 @@ mod keys;
 use format::Reading;
 use format::Refusal;
 use format::WriteAnswer;
+use format_values::refusals;
 ghost use mathlib.Core.Path.{_≡_};
 ghost use mathlib.Core.List.{List};
 ghost use Prim.Native.Nat.{ℕ, _≤_};
@@ -39,13 +40,7 @@ fn print(file: &[u8], out: &mut [u8]) -> usize
     ensures { λ r. ⌜ Printed maxListing (now (out .entry)) 0 (listing (now (file .entry))) (now (out .exit)) r ⌝ }
 {
     if format::MAX_LISTED < file.len() {
-        return put_refusal(
-            out,
-            Refusal {
-                number: format::LENT_TOO_SHORT,
-                line: 0,
-            },
-        );
+        return put_refusal(out, refusals::LENT_TOO_SHORT);
     }
     let answer = header::read::read_header(file);
     if answer.refusal.number != 0 {
@@ -71,16 +66,13 @@ pub fn listing(file: &[u8], out: &mut [u8]) -> WriteAnswer
     let n = print(file, &mut []);
     if out.len() < n {
         return WriteAnswer {
-            refusal: Refusal {
-                number: format::LENT_TOO_SHORT,
-                line: 0,
-            },
+            refusal: refusals::LENT_TOO_SHORT,
             length: 0,
         };
     }
     print(file, out);
     WriteAnswer {
-        refusal: Refusal { number: 0, line: 0 },
+        refusal: refusals::FINE,
         length: n as u64,
     }
 }

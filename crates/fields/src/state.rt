@@ -1,10 +1,10 @@
 // What the reader keeps of the fields given so far: flags, numbers, sizes; and the answer that they make.
 use format::ReadAnswer;
 use format::Reading;
-use format::Refusal;
 use format::field;
 use format::products;
 use format::types;
+use format_values::refusals;
 ghost use mathlib.Core.Path.{_≡_};
 ghost use mathlib.Core.Bool.{true};
 ghost use mathlib.Core.List.{List, []};
@@ -64,10 +64,7 @@ pub fn refuse(number: u32, line: u32) -> ReadAnswer
     ensures { λ r. ⌜ r ≡ readAnswer (refused (atLine number line)) ⌝ }
 {
     ReadAnswer {
-        refusal: Refusal {
-            number: number,
-            line: line,
-        },
+        refusal: refusals::refusal_at(number, line),
         reading: Reading {
             version: 0,
             form: 0,
@@ -148,7 +145,7 @@ pub fn finish(
     let byteskip = wide(numbers[field::BYTE_SKIP]);
     let length = bytes as u64;
     ReadAnswer {
-        refusal: Refusal { number: 0, line: 0 },
+        refusal: refusals::FINE,
         reading: Reading {
             version: version,
             form: form,

@@ -14,7 +14,7 @@ use lib.Seq.{drop-drop}
 use borrow.Author.Tests.{lt-leb}
 use Rattle.format.specs.Bytes.{if_then_else_, andThen, LF}
 use Rattle.format.specs.Limits.{maxFile, maxExtent}
-use Rattle.format.specs.Refusals.{fileTooLong, placeTooLarge, dataTooShort, floatSamples}
+use Rattle.format.specs.Refusals.{fileTooLong, placeTooLarge, dataTooShort, floatSamples, lentTooShort}
 use Rattle.format.specs.Lines.{Line, unlines}
 use Rattle.format.specs.Fields.{Given}
 use Rattle.format.specs.Descriptors.{isDetached, lineSkipOf, byteSkipOf, encodingOf, typeOf, numberKind, isFloating, extentOf, raw}
@@ -69,10 +69,10 @@ bytes-at-most n s = go (ltb (length s) n)
 pub skips-at-most : (m n : ℕ) (s : List ℕ) → AtMost (length s) (andThen (skipLines m s) (λ t. skipBytes n t))
 skips-at-most m n s = then-at-most (length s) (skipLines m s) (λ t. skipBytes n t) (lines-at-most m s) (bytes-at-most n)
 
--- ---- the refusals of a place have the numbers 1 to 19
+-- ---- the refusals of a place are not about room
 
 abbrev pub NumberedPlace : Place → Type 0
-NumberedPlace (nowhere n) = (0 < n) × (n ≤ floatSamples)
+NumberedPlace (nowhere n) = (0 < n) × (n ≡ lentTooShort → ⊥)
 NumberedPlace (part s start n) = Unit {0}
 
 module _ (gs : List Given) where

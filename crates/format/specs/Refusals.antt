@@ -1,8 +1,8 @@
 -- The numbers of refusal by name, in document 01's order ("Numbers of refusal").
 -- A refusal is one record: its number, and the line at which the reader met it (numbers 2 to 12); 0 where no line is meant.
 use Prim.Native.Nat.{ℕ}
-use mathlib.Core.List.{List, [], _∷_}
 use Rattle.format.specs.declared.Refusal.{Refusal}
+use Rattle.format.specs.declared.RefusalNumbers.{RefusalNumbers}
 
 -- a file of more than `maxFile` bytes
 abbrev pub fileTooLong : ℕ
@@ -112,9 +112,38 @@ wrongTable = 26
 abbrev pub wrongCount : ℕ
 wrongCount = 27
 
-abbrev pub refusalNumbers : List ℕ
+-- each by its name
+abbrev pub refusalNumbers : RefusalNumbers
 refusalNumbers =
-    fileTooLong ∷ noMagic ∷ headerTooLong ∷ tooManyLines ∷ badByte ∷ noMark ∷ unknownField ∷ notInVersion ∷ repeatedField ∷ outOfOrder ∷ badDescriptor ∷ badBackslash ∷ noEnd ∷ missingField ∷ extentTooLarge ∷ skipPastEnd ∷ placeTooLarge ∷ dataTooShort ∷ floatSamples ∷ badSample ∷ dataEndsEarly ∷ lentTooShort ∷ badCoordinates ∷ badKey ∷ badValue ∷ wrongTable ∷ wrongCount ∷ []
+    record {
+      filetoolong = fileTooLong;
+      nomagic = noMagic;
+      headertoolong = headerTooLong;
+      toomanylines = tooManyLines;
+      badbyte = badByte;
+      nomark = noMark;
+      unknownfield = unknownField;
+      notinversion = notInVersion;
+      repeatedfield = repeatedField;
+      outoforder = outOfOrder;
+      baddescriptor = badDescriptor;
+      badbackslash = badBackslash;
+      noend = noEnd;
+      missingfield = missingField;
+      extenttoolarge = extentTooLarge;
+      skippastend = skipPastEnd;
+      placetoolarge = placeTooLarge;
+      datatooshort = dataTooShort;
+      floatsamples = floatSamples;
+      badsample = badSample;
+      dataendsearly = dataEndsEarly;
+      lenttooshort = lentTooShort;
+      badcoordinates = badCoordinates;
+      badkey = badKey;
+      badvalue = badValue;
+      wrongtable = wrongTable;
+      wrongcount = wrongCount;
+    }
 
 -- ---- the record
 

@@ -112,6 +112,37 @@ pub struct Limits {
     pub sample: u64,
 }
 
+// The numbers of refusal together, each by its name.
+pub struct RefusalNumbers {
+    pub filetoolong: u32,
+    pub nomagic: u32,
+    pub headertoolong: u32,
+    pub toomanylines: u32,
+    pub badbyte: u32,
+    pub nomark: u32,
+    pub unknownfield: u32,
+    pub notinversion: u32,
+    pub repeatedfield: u32,
+    pub outoforder: u32,
+    pub baddescriptor: u32,
+    pub badbackslash: u32,
+    pub noend: u32,
+    pub missingfield: u32,
+    pub extenttoolarge: u32,
+    pub skippastend: u32,
+    pub placetoolarge: u32,
+    pub datatooshort: u32,
+    pub floatsamples: u32,
+    pub badsample: u32,
+    pub dataendsearly: u32,
+    pub lenttooshort: u32,
+    pub badcoordinates: u32,
+    pub badkey: u32,
+    pub badvalue: u32,
+    pub wrongtable: u32,
+    pub wrongcount: u32,
+}
+
 // A refusal: its number, and the line at which the reader met it (numbers 2 to 12); 0 where no line is meant. Number 0: nothing is refused.
 #[repr(C)]
 pub struct Refusal {
@@ -226,38 +257,38 @@ pub fn all_limits() -> Limits
 }
 
 // The numbers of refusal are those of the definitions.
-pub fn refusal_numbers() -> [u32; 27]
+pub fn refusal_numbers() -> RefusalNumbers
     ensures { λ r. ⌜ r ≡ refusalNumbers ⌝ }
 {
-    [
-        FILE_TOO_LONG,
-        NO_MAGIC,
-        HEADER_TOO_LONG,
-        TOO_MANY_LINES,
-        BAD_BYTE,
-        NO_MARK,
-        UNKNOWN_FIELD,
-        NOT_IN_VERSION,
-        REPEATED_FIELD,
-        OUT_OF_ORDER,
-        BAD_DESCRIPTOR,
-        BAD_BACKSLASH,
-        NO_END,
-        MISSING_FIELD,
-        EXTENT_TOO_LARGE,
-        SKIP_PAST_END,
-        PLACE_TOO_LARGE,
-        DATA_TOO_SHORT,
-        FLOAT_SAMPLES,
-        BAD_SAMPLE,
-        DATA_ENDS_EARLY,
-        LENT_TOO_SHORT,
-        BAD_COORDINATES,
-        BAD_KEY,
-        BAD_VALUE,
-        WRONG_TABLE,
-        WRONG_COUNT,
-    ]
+    RefusalNumbers {
+        filetoolong: FILE_TOO_LONG,
+        nomagic: NO_MAGIC,
+        headertoolong: HEADER_TOO_LONG,
+        toomanylines: TOO_MANY_LINES,
+        badbyte: BAD_BYTE,
+        nomark: NO_MARK,
+        unknownfield: UNKNOWN_FIELD,
+        notinversion: NOT_IN_VERSION,
+        repeatedfield: REPEATED_FIELD,
+        outoforder: OUT_OF_ORDER,
+        baddescriptor: BAD_DESCRIPTOR,
+        badbackslash: BAD_BACKSLASH,
+        noend: NO_END,
+        missingfield: MISSING_FIELD,
+        extenttoolarge: EXTENT_TOO_LARGE,
+        skippastend: SKIP_PAST_END,
+        placetoolarge: PLACE_TOO_LARGE,
+        datatooshort: DATA_TOO_SHORT,
+        floatsamples: FLOAT_SAMPLES,
+        badsample: BAD_SAMPLE,
+        dataendsearly: DATA_ENDS_EARLY,
+        lenttooshort: LENT_TOO_SHORT,
+        badcoordinates: BAD_COORDINATES,
+        badkey: BAD_KEY,
+        badvalue: BAD_VALUE,
+        wrongtable: WRONG_TABLE,
+        wrongcount: WRONG_COUNT,
+    }
 }
 
 // The starred trials of document 01 hold of the definitions.

@@ -1,2 +1,3 @@
-// What the tables of the definitions say, for every crate that asks for it.
+// What the tables and numbers of the definitions say, as code, for every crate that asks for it.
 pub mod fields;
+pub mod refusals;

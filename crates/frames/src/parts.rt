@@ -1,5 +1,6 @@
 // The parts of a frame: numbers, runs and texts at a place. Past the end a number is 0 and a run is empty.
 use format::Refusal;
+use format_values::refusals;
 ghost use Prim.Native.Nat.{_<_, _-_};
 ghost use mathlib.Core.Path.{_≡_};
 
@@ -76,10 +77,7 @@ pub fn text_end(s: &[u8], at: usize) -> usize {
 
 // The refusal at `at`: its number and its line. Its byte is 0 as long as refusals have none.
 pub fn refusal_at(s: &[u8], at: usize) -> Refusal {
-    Refusal {
-        number: number_at(s, at),
-        line: number_at(s, plus(at, 4)),
-    }
+    refusals::refusal_at(number_at(s, at), number_at(s, plus(at, 4)))
 }
 
 pub fn same_refusal(a: Refusal, b: Refusal) -> bool {

@@ -12,6 +12,7 @@ use lib.ListN.{length, drop, getD, drop-of-length-le}
 use lib.Seq.{drop-cons, drop-drop}
 use borrow.Author.Tests.{leb-true, leb-false, lt-leb, ne-eqb}
 use Rattle.format.specs.Bytes.{if_then_else_, between, isSome}
+use Rattle.format.specs.Refusals.{badSample, dataEndsEarly}
 use Rattle.format.specs.Samples.{hexDigit, blank, withoutBlanks}
 use Rattle.format.proofs.Bytes.{and-left, and-right}
 use Rattle.hex.specs.Forms.{digitsAt, digitsRefusal, Passed, Reached, Scanned, digitOr, digitValue, oneIf}
@@ -73,7 +74,7 @@ module _ (b : ℕ) where
 -- ---- m digits
 
 -- where no refusal is told the test held
-pub not-refused : (t : Bool) (n : ℕ) → (if t then n else 20) ≡ 0 → (t ≡ true) × (n ≡ 0)
+pub not-refused : (t : Bool) (n : ℕ) → (if t then n else badSample) ≡ 0 → (t ≡ true) × (n ≡ 0)
 not-refused true n e = (refl, e)
 not-refused false n e = absurd (omega arith)
 
@@ -98,7 +99,7 @@ refusal-stays (suc a) r (b ∷ s) n =
     let z : suc a + r ≡ suc (a + r) = omega arith in
     rw z (go (isSome (hexDigit b)) n (λ q. refusal-stays a r s q))
   where
-    go : (t : Bool) → ((if t then digitsRefusal a s else 20) ≡ 0 → ⊥) → ((digitsRefusal a s ≡ 0 → ⊥) → digitsRefusal (a + r) s ≡ digitsRefusal a s) → (if t then digitsRefusal (a + r) s else 20) ≡ (if t then digitsRefusal a s else 20)
+    go : (t : Bool) → ((if t then digitsRefusal a s else badSample) ≡ 0 → ⊥) → ((digitsRefusal a s ≡ 0 → ⊥) → digitsRefusal (a + r) s ≡ digitsRefusal a s) → (if t then digitsRefusal (a + r) s else badSample) ≡ (if t then digitsRefusal a s else badSample)
     go true q f = f q
     go false q f = refl
 
@@ -149,7 +150,7 @@ module _ (s : List ℕ) (at : ℕ) where
     next-refusal : digitsRefusal (c + 1) (digitsAt s at) ≡ digitsRefusal 1 (digitsAt s i)
     next-refusal = refusal-add c 1 (digitsAt s at) (p .fine) ∙ ap (digitsRefusal 1) (p .rest)
 
-    passed-end : length s ≤ i → digitsRefusal (c + 1) (digitsAt s at) ≡ 21
+    passed-end : length s ≤ i → digitsRefusal (c + 1) (digitsAt s at) ≡ dataEndsEarly
     unfolding digitsRefusal
     passed-end h = next-refusal ∙ rw (digits-end s i h)
 
@@ -160,11 +161,11 @@ module _ (s : List ℕ) (at : ℕ) where
     }
 
     module _ (h : i < length s) where
-      passed-bad : (isSome (hexDigit (getD s i 0)) || blank (getD s i 0)) ≡ false → digitsRefusal (c + 1) (digitsAt s at) ≡ 20
+      passed-bad : (isSome (hexDigit (getD s i 0)) || blank (getD s i 0)) ≡ false → digitsRefusal (c + 1) (digitsAt s at) ≡ badSample
       unfolding digitsRefusal
       passed-bad f = next-refusal ∙ ap (digitsRefusal 1) (digits-here s i h) ∙ go (isSome (hexDigit (getD s i 0))) (blank (getD s i 0)) refl f
         where
-          go : (d b : Bool) → isSome (hexDigit (getD s i 0)) ≡ d → (d || b) ≡ false → digitsRefusal 1 (if b then digitsAt s (i + 1) else getD s i 0 ∷ digitsAt s (i + 1)) ≡ 20
+          go : (d b : Bool) → isSome (hexDigit (getD s i 0)) ≡ d → (d || b) ≡ false → digitsRefusal 1 (if b then digitsAt s (i + 1) else getD s i 0 ∷ digitsAt s (i + 1)) ≡ badSample
           go true b e f = absurd (false≢true (sym f))
           go false true e f = absurd (false≢true (sym f))
           go false false e f = rw e
@@ -236,11 +237,11 @@ module _ (s : List ℕ) (need : ℕ) where
 
     -- a byte more
     module _ (h : c < need) where
-      pub reached-end : length s ≤ at → Scanned s need (record { code = 21; at = at; digits = c })
+      pub reached-end : length s ≤ at → Scanned s need (record { code = dataEndsEarly; at = at; digits = c })
       reached-end l = record { fine = r .passed .fine; whole = λ z. absurd (omega arith); stops = λ z. (h, passed-end s 0 c at (r .passed) l) }
 
       module _ (l : at < length s) (d b : Bool) (e : d ≡ isSome (hexDigit (getD s at 0))) (f : b ≡ blank (getD s at 0)) where
-        pub reached-bad : (d || b) ≡ false → Scanned s need (record { code = 20; at = at; digits = c })
+        pub reached-bad : (d || b) ≡ false → Scanned s need (record { code = badSample; at = at; digits = c })
         reached-bad g = record { fine = r .passed .fine; whole = λ z. absurd (omega arith); stops = λ z. (h, passed-bad s 0 c at (r .passed) l (rw (e, f) at g)) }
 
         pub reached-more : (d || b) ≡ true → (o : ℕ) → (o ≡ oneIf d) × (o ≤ 1) → Reached s need (at + 1) (c + o)

@@ -12,6 +12,7 @@ use lib.IntN.{ℤ}
 use lib.ListN.{length, take, drop, length-drop, take-append-drop}
 use lib.Seq.{drop-drop, drop-append-le, take-append-le, length-take-le}
 use Rattle.format.specs.Bytes.{if_then_else_}
+use Rattle.format.specs.Refusals.{badSample}
 use Rattle.format.specs.Descriptors.{NumberKind}
 use Rattle.format.specs.Samples.{Decoded, rawSamples, withSample, stopped, sampleValue, inType}
 
@@ -35,7 +36,7 @@ joined-first a b z = go (eqb (a .number) 0) refl
     go false q = sym (joined-bad a b (eqb-false (a .number) 0 q)) ∙ z
 
 -- one sample before
-pub then-joined : (z : ℤ) (t : Bool) (a b : Decoded) → (if t then withSample z (joined a b) else stopped 20) ≡ joined (if t then withSample z a else stopped 20) b
+pub then-joined : (z : ℤ) (t : Bool) (a b : Decoded) → (if t then withSample z (joined a b) else stopped badSample) ≡ joined (if t then withSample z a else stopped badSample) b
 then-joined z false a b = refl
 then-joined z true a b = go (eqb (a .number) 0)
   where
@@ -77,8 +78,8 @@ module _ (k : NumberKind) (w e : ℕ) where
   raw-all zero s z = refl
   raw-all (suc n) s z = go (inType k w (sampleValue k e (take w s))) z (λ q. raw-all n (drop w s) q)
     where
-      go : (t : Bool) → (if t then withSample (sampleValue k e (take w s)) (rawSamples k w e n (drop w s)) else stopped 20) .number ≡ 0
+      go : (t : Bool) → (if t then withSample (sampleValue k e (take w s)) (rawSamples k w e n (drop w s)) else stopped badSample) .number ≡ 0
           → (rawSamples k w e n (drop w s) .number ≡ 0 → length (rawSamples k w e n (drop w s) .seen) ≡ n)
-          → length ((if t then withSample (sampleValue k e (take w s)) (rawSamples k w e n (drop w s)) else stopped 20) .seen) ≡ suc n
+          → length ((if t then withSample (sampleValue k e (take w s)) (rawSamples k w e n (drop w s)) else stopped badSample) .seen) ≡ suc n
       go true q f = ap suc (f q)
       go false q f = absurd (omega arith)

@@ -13,6 +13,7 @@ use lib.IntN.{ℤ}
 use lib.ListN.{length, take, drop, length-map}
 use lib.Seq.{drop-drop}
 use Rattle.format.specs.Bytes.{if_then_else_, isSome}
+use Rattle.format.specs.Refusals.{badSample, dataEndsEarly}
 use Rattle.format.specs.Descriptors.{NumberKind, signed, unsigned}
 use Rattle.format.specs.Samples.{noHex, hexRun, withHexByte, hexAlone, hexPair, hexBytes, hexDigit, blank, withoutBlanks, inType, sampleValue, hexSample, hexSamples, rawSamples, withSample, stopped, Decoded}
 use Rattle.hex.specs.Forms.{digitsRefusal, digitOr, digitValue, pairsOf, bytesOf, Scanned, samplesAt}
@@ -38,10 +39,10 @@ run-bytes (suc w) [] e =
     let p : digitsRefusal (suc (suc (2 * w))) [] ≡ 0 = rw (two-more w) at e in
     absurd (omega arith)
 run-bytes (suc w) (b ∷ []) e =
-    let p = not-refused (isSome (hexDigit b)) 21 (rw (two-more w) at e) in
+    let p = not-refused (isSome (hexDigit b)) dataEndsEarly (rw (two-more w) at e) in
     absurd (omega arith)
 run-bytes (suc w) (b ∷ c ∷ s) e =
-    let p = not-refused (isSome (hexDigit b)) (if isSome (hexDigit c) then digitsRefusal (2 * w) s else 20) (rw (two-more w) at e) in
+    let p = not-refused (isSome (hexDigit b)) (if isSome (hexDigit c) then digitsRefusal (2 * w) s else badSample) (rw (two-more w) at e) in
     let q = not-refused (isSome (hexDigit c)) (digitsRefusal (2 * w) s) (p .1) in
     let h = digit-value b (p .0) in
     let l = digit-value c (q .0) in
@@ -55,12 +56,12 @@ no-bytes zero s c e n = absurd (n (sym e))
 no-bytes (suc w) [] c e n = ap noHex (rw (two-more w) at e)
 no-bytes (suc w) (b ∷ []) c e n = go (hexDigit b) (rw (two-more w) at e)
   where
-    go : (o : Option ℕ) → (if isSome o then 21 else 20) ≡ c → hexAlone o ≡ noHex c
+    go : (o : Option ℕ) → (if isSome o then dataEndsEarly else badSample) ≡ c → hexAlone o ≡ noHex c
     go none p = ap noHex p
     go (some v) p = ap noHex p
 no-bytes (suc w) (b ∷ x ∷ s) c e n = go (hexDigit b) (hexDigit x) (rw (two-more w) at e) (λ p. no-bytes w s c p n)
   where
-    go : (o p : Option ℕ) → (if isSome o then (if isSome p then digitsRefusal (2 * w) s else 20) else 20) ≡ c
+    go : (o p : Option ℕ) → (if isSome o then (if isSome p then digitsRefusal (2 * w) s else badSample) else badSample) ≡ c
         → (digitsRefusal (2 * w) s ≡ c → hexBytes w s ≡ noHex c) → hexPair o p (hexBytes w s) ≡ noHex c
     go none p q f = ap noHex q
     go (some h) none q f = ap noHex q
@@ -135,7 +136,7 @@ module _ (k : NumberKind) (w e : ℕ) where
       v : ℤ
       v = sampleValue k e (take w (bytesOf s))
 
-      next : (t : Bool) → (if t then withSample v (hexSamples k w e n (drop (2 * w) s)) else stopped 20) .number ≡ 0 → hexSamples k w e n (drop (2 * w) s) .number ≡ 0
+      next : (t : Bool) → (if t then withSample v (hexSamples k w e n (drop (2 * w) s)) else stopped badSample) .number ≡ 0 → hexSamples k w e n (drop (2 * w) s) .number ≡ 0
       next true p = p
       next false p = absurd (omega arith)
 

@@ -1,7 +1,7 @@
 // Where a key's value lies in a file, and the copy of a value.
 use format::FindAnswer;
-use format::Refusal;
 use format::ValueAnswer;
+use format_values::refusals;
 use header::lines::Span;
 use text::lines::Mark;
 ghost use mathlib.Core.Path.{_≡_};
@@ -115,10 +115,7 @@ pub fn copy_value(file: &[u8], key: &[u8], out: &mut [u8]) -> ValueAnswer
     let n = text::escapes::unescaped_length(value);
     if out.len() < n {
         return ValueAnswer {
-            refusal: Refusal {
-                number: format::LENT_TOO_SHORT,
-                line: 0,
-            },
+            refusal: refusals::LENT_TOO_SHORT,
             found: false,
             length: 0,
         };

@@ -1,6 +1,7 @@
 // Places in a file: the answers of a look-up, and where line 2 starts.
 use format::FindAnswer;
 use format::Refusal;
+use format_values::refusals;
 use header::lines::Span;
 ghost use mathlib.Core.Path.{_≡_};
 ghost use Prim.Native.Nat.{_<_};
@@ -25,7 +26,7 @@ pub(crate) fn nowhere(refusal: Refusal) -> FindAnswer
 pub(crate) fn absent() -> FindAnswer
     ensures { λ r. ⌜ r ≡ noPlace fine ⌝ }
 {
-    nowhere(Refusal { number: 0, line: 0 })
+    nowhere(refusals::FINE)
 }
 
 // So many bytes are found at `start`.
@@ -33,7 +34,7 @@ pub(crate) fn placed(start: usize, length: usize) -> FindAnswer
     ensures { λ r. ⌜ r ≡ foundAt start length ⌝ }
 {
     FindAnswer {
-        refusal: Refusal { number: 0, line: 0 },
+        refusal: refusals::FINE,
         found: true,
         start: start as u64,
         length: length as u64,

@@ -15,6 +15,7 @@ use mir.Syntax.{w64}
 use mir.Val.{SFits, toZ, ofZ}
 use mir.Facts.{toZ-pos, toZ-ofZ}
 use Rattle.format.specs.Bytes.{if_then_else_, over}
+use Rattle.format.specs.Refusals.{badSample}
 use Rattle.format.specs.Samples.{Decoded, rawSamples, sampleValue, inType, withSample, stopped}
 use Rattle.words.proofs.WidthLaws.{by-width}
 use Rattle.words.specs.Widths.{Width, kindBy, endianBy}
@@ -133,8 +134,8 @@ module _ (big : Bool) (w up : ℕ) where
         first : low sign up ((x + up) % range w) ≡ v
         first = f .back x (narrow-below w x d l (bits-below s 0 w r (endianBy big) b)) ∙ sym (sample-is s 0 w r (kindBy sign) (endianBy big))
 
-        go : (t : Bool) → (if t then withSample v rest else stopped 20) .number ≡ 0 → (rest .number ≡ 0 → lows sign up (lifts big w up n (drop w s)) ≡ rest .seen)
-            → low sign up ((x + up) % range w) ∷ lows sign up (lifts big w up n (drop w s)) ≡ (if t then withSample v rest else stopped 20) .seen
+        go : (t : Bool) → (if t then withSample v rest else stopped badSample) .number ≡ 0 → (rest .number ≡ 0 → lows sign up (lifts big w up n (drop w s)) ≡ rest .seen)
+            → low sign up ((x + up) % range w) ∷ lows sign up (lifts big w up n (drop w s)) ≡ (if t then withSample v rest else stopped badSample) .seen
         go true y g = rw (first, g y)
         go false y g = absurd (omega arith)
 

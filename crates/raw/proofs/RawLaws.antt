@@ -18,6 +18,7 @@ use mir.Facts.{toZ-pos, toZ-ofZ}
 use Rattle.format.specs.Bytes.{if_then_else_, over}
 use Rattle.format.specs.Descriptors.{NumberKind, signed, unsigned}
 use Rattle.format.specs.Limits.{maxSample}
+use Rattle.format.specs.Refusals.{badSample}
 use Rattle.format.specs.Samples.{Decoded, rawSamples, thenSamples, withSample, stopped, sampleValue, valueOfBits, inType, fromBytes, toBytes, ordered, toSigned}
 use Rattle.format.proofs.Samples.{AllBytes, all-bytes, length-to-bytes, to-from-bytes, from-bytes-below, ordered-bytes, length-ordered}
 pub use Rattle.words.proofs.Halves.{from-append, load-one, sample-is}
@@ -189,7 +190,7 @@ unfolding rawSamples
 raw-few k w e zero s = lit≤ tt
 raw-few k w e (suc n) s = go (raw-few k w e n (drop w s)) (inType k w (sampleValue k e (take w s)))
   where
-    go : length (rawSamples k w e n (drop w s) .seen) ≤ n → (t : Bool) → length ((if t then withSample (sampleValue k e (take w s)) (rawSamples k w e n (drop w s)) else stopped 20) .seen) ≤ suc n
+    go : length (rawSamples k w e n (drop w s) .seen) ≤ n → (t : Bool) → length ((if t then withSample (sampleValue k e (take w s)) (rawSamples k w e n (drop w s)) else stopped badSample) .seen) ≤ suc n
     go h true = omega arith
     go h false = omega arith
 
@@ -256,7 +257,7 @@ module _ (k : NumberKind) (w e n : ℕ) (s : List ℕ) where
   pub record Testing (fine : Bool) (at j : ℕ) : Type 0 where
     pub few : j ≤ n
     pub room : at + (n - j) * w ≤ length s
-    pub same : rawSamples k w e n s .number ≡ (if fine then left at j .number else 20)
+    pub same : rawSamples k w e n s .number ≡ (if fine then left at j .number else badSample)
 
   pub testing-none : n * w ≤ length s → Testing true 0 0
   testing-none h = record { few = omega arith; room = room-first h; same = ap (λ (d : Decoded). d .number) all-left }
@@ -314,8 +315,8 @@ module _ (k : NumberKind) (w e n : ℕ) (s : List ℕ) where
             next : Decoded
             next = left (at + w) (j + 1)
 
-            go : (t : Bool) → inType k w (sampleOf at) ≡ t → (if t then withSample (sampleOf at) next else stopped 20) .number ≡ 0
-                → sets d₀ 0 (rawSamples k w e n s .seen) ≡ sets d j ((if t then withSample (sampleOf at) next else stopped 20) .seen)
+            go : (t : Bool) → inType k w (sampleOf at) ≡ t → (if t then withSample (sampleOf at) next else stopped badSample) .number ≡ 0
+                → sets d₀ 0 (rawSamples k w e n s .seen) ≡ sets d j ((if t then withSample (sampleOf at) next else stopped badSample) .seen)
                 → Goes (set d j x) (at + w) (j + 1)
             go true i z p = (z, p ∙ rw (q i, add-one j))
             go false i z p = absurd (omega arith)

@@ -12,7 +12,7 @@ use lib.ListN.{length, length-append}
 use borrow.Author.Tests.{ltb-true, leb-true, le-ltb}
 use Rattle.format.specs.Bytes.{if_then_else_, LF}
 use Rattle.format.specs.Limits.{maxFile, maxExtent}
-use Rattle.format.specs.Refusals.{lentTooShort}
+use Rattle.format.specs.Refusals.{fileTooLong, badDescriptor, extentTooLarge, floatSamples, badSample, lentTooShort, wrongCount}
 use Rattle.format.specs.Lines.{unlines}
 use Rattle.format.specs.Descriptors.{NumberKind, signed, unsigned, floating, raw, asText, endianNeeded, sampleBytes, numberKind, isFloating, product, extent}
 use Rattle.format.specs.Samples.{inType, lowest, highest}
@@ -90,9 +90,9 @@ module _ (version : ℕ) (ns : List ℕ) (t e n : ℕ) (zs : List ℤ) where
       (not (allInType (numberKind t) (sampleBytes t) zs)) (ltb maxFile (length file)) (ltb room (length file)) refl h
     where
       all : Bool → Bool → Bool → Bool → Bool → Bool → Bool → ℕ
-      all a b c d f g x = if a then 11 else if b then 15 else if c then 19 else if d then 27 else if f then 20 else if g then 1 else if x then 22 else 0
+      all a b c d f g x = if a then badDescriptor else if b then extentTooLarge else if c then floatSamples else if d then wrongCount else if f then badSample else if g then fileTooLong else if x then lentTooShort else 0
 
-      go : (a b c d f g x : Bool) → ltb room (length file) ≡ x → all a b c d f g x ≡ 22 → (room < length file) × (all a b c d f g (ltb (length file) (length file)) ≡ 0)
+      go : (a b c d f g x : Bool) → ltb room (length file) ≡ x → all a b c d f g x ≡ lentTooShort → (room < length file) × (all a b c d f g (ltb (length file) (length file)) ≡ 0)
       go true b c d f g x q h = absurd (omega arith)
       go false true c d f g x q h = absurd (omega arith)
       go false false true d f g x q h = absurd (omega arith)

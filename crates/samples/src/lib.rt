@@ -5,6 +5,7 @@ use format::CountAnswer;
 use format::DataAnswer;
 use format::Reading;
 use format::Refusal;
+use format_values::refusals;
 ghost use mathlib.Core.Path.{_≡_};
 ghost use mathlib.Core.List.{List};
 ghost use Prim.Native.Nat.{ℕ, _/_, _≤_};
@@ -35,17 +36,13 @@ fn none(refusal: Refusal) -> CountAnswer
 fn told(number: u32, n: u64) -> CountAnswer
     ensures { λ r. ⌜ r ≡ (if eqb number 0 then record { refusal = fine; count = n } else noSamples (refusal number)) ⌝ }
 {
-    let refusal = Refusal {
-        number: number,
-        line: 0,
-    };
     if number == 0 {
         return CountAnswer {
-            refusal: refusal,
+            refusal: refusals::FINE,
             count: n,
         };
     }
-    none(refusal)
+    none(refusals::refusal(number))
 }
 
 // The answer for a list of `room` entries, by the place of the data.

@@ -1,6 +1,7 @@
 // The refusals of a setting, in order, and the numbers of its edit. Nothing is stored.
 use crate::place::Place;
 use format::Refusal;
+use format_values::refusals;
 ghost use mathlib.Core.Path.{_≡_};
 ghost use mathlib.Core.List.{List};
 ghost use Prim.Native.Nat.{_+_};
@@ -44,10 +45,7 @@ fn no_plan(refusal: Refusal) -> Plan
 fn refuse(number: u32) -> Plan
     ensures { λ r. ⌜ r ≡ noPlan (refusal number) ⌝ }
 {
-    no_plan(Refusal {
-        number: number,
-        line: 0,
-    })
+    no_plan(refusals::refusal(number))
 }
 
 // The refusal of the key, the value or the table, in a file whose header has this version and so many lines, or 0.
@@ -107,7 +105,7 @@ fn fit(
         return refuse(format::LENT_TOO_SHORT);
     }
     Plan {
-        refusal: Refusal { number: 0, line: 0 },
+        refusal: refusals::FINE,
         from: place.from,
         to: place.to,
         front: front,

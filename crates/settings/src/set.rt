@@ -1,6 +1,7 @@
 // Setting a key in place.
 use format::Refusal;
 use format::SetAnswer;
+use format_values::refusals;
 ghost use mathlib.Core.Path.{_≡_};
 ghost use mathlib.Core.List.{List};
 ghost use Prim.Native.Nat.{ℕ, _≤_};
@@ -35,14 +36,7 @@ pub fn set_key(
 {
     let room = buf.len();
     if room < used {
-        return answer(
-            Refusal {
-                number: format::LENT_TOO_SHORT,
-                line: 0,
-            },
-            used,
-            count,
-        );
+        return answer(refusals::LENT_TOO_SHORT, used, count);
     }
     let plan = crate::plan::prepare(&buf[..used], room, table, count, key, value);
     let refusal = plan.refusal;

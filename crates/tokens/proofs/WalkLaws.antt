@@ -17,7 +17,7 @@ use mir.Facts.{toZ-ofZ}
 use borrow.Author.Tests.{ltb-true, ltb-false}
 use Rattle.format.specs.Bytes.{if_then_else_, over}
 use Rattle.format.specs.Descriptors.{NumberKind, little}
-use Rattle.format.specs.Refusals.{badSample}
+use Rattle.format.specs.Refusals.{badSample, dataEndsEarly}
 use Rattle.format.specs.Samples.{Decoded, stopped, withSample, blank, skipBlanks, token, afterToken, tokenValue, lowest, highest, inType, textSample, tokens, textSamples, valueBytes}
 use Rattle.words.proofs.PackedLaws.{Packed, packed-more}
 use Rattle.tokens.specs.declared.reader.TokenRead.the-variants.{NoSample, Sample}
@@ -73,7 +73,7 @@ module _ (low high : ℕ) where
   unfolding tokensIn
   tokens-none n t q = rw q refl
 
-  tokens-end : (n : ℕ) → (n ≡ 0 → ⊥) → tokensIn low high n [] ≡ stopped 21
+  tokens-end : (n : ℕ) → (n ≡ 0 → ⊥) → tokensIn low high n [] ≡ stopped dataEndsEarly
   unfolding tokensIn
   tokens-end zero z = absurd (z refl)
   tokens-end (suc n) z = refl
@@ -95,7 +95,7 @@ module _ (low high : ℕ) where
       rw q refl
 
   module _ (n : ℕ) (s : List ℕ) (at : ℕ) (some-left : n ≡ 0 → ⊥) where
-    pub tokens-short : at ≡ length s → tokensIn low high n (drop at s) ≡ stopped 21
+    pub tokens-short : at ≡ length s → tokensIn low high n (drop at s) ≡ stopped dataEndsEarly
     tokens-short q = rw (back s at (omega arith)) (tokens-end n some-left)
 
     module _ (h : at < length s) where

@@ -20,6 +20,7 @@ use format::ReadAnswer;
 use format::Reading;
 use format::Refusal;
 use format::ValueAnswer;
+use format_values::refusals;
 use frames::parts::number_at;
 use frames::parts::part;
 use frames::parts::plus;
@@ -176,10 +177,7 @@ fn short_right(file: &[u8], key: &[u8], value: &[u8]) -> bool {
     if value.len() == 0 {
         return true;
     }
-    let refusal = Refusal {
-        number: format::LENT_TOO_SHORT,
-        line: 0,
-    };
+    let refusal = refusals::LENT_TOO_SHORT;
     copy_right(file, key, refusal, false, &value[..0], value.len() - 1)
 }
 

@@ -1,6 +1,7 @@
 // The number of a sample.
 use format::NumberAnswer;
 use format::Refusal;
+use format_values::refusals;
 ghost use mathlib.Core.Path.{_≡_};
 ghost use Prim.Native.Nat.{_≤_};
 ghost use lib.ListN.{length, drop};
@@ -56,14 +57,11 @@ fn number_in(sizes: &[u64], coords: &[u64]) -> NumberAnswer
 {
     if is_inside(sizes, coords) {
         return NumberAnswer {
-            refusal: Refusal { number: 0, line: 0 },
+            refusal: refusals::FINE,
             number: number(sizes, coords, 0),
         };
     }
-    none(Refusal {
-        number: format::BAD_COORDINATES,
-        line: 0,
-    })
+    none(refusals::BAD_COORDINATES)
 }
 
 // The number of the sample at the coordinates.

@@ -2,6 +2,7 @@
 use format::DataAnswer;
 use format::Reading;
 use format::Refusal;
+use format_values::refusals;
 ghost use mathlib.Core.Path.{_≡_};
 ghost use mathlib.Core.Bool.{_&&_};
 ghost use mathlib.Core.List.{List};
@@ -56,10 +57,7 @@ fn nowhere(refusal: Refusal) -> DataAnswer
 fn refuse(number: u32) -> DataAnswer
     ensures { λ r. ⌜ r ≡ noData (refusal number) ⌝ }
 {
-    nowhere(Refusal {
-        number: number,
-        line: 0,
-    })
+    nowhere(refusals::refusal(number))
 }
 
 // The data is so many bytes of the second file or of the header's.
@@ -67,7 +65,7 @@ fn lies(second: bool, start: usize, length: u64) -> DataAnswer
     ensures { λ r. ⌜ r ≡ dataAnswer (part second start length) ⌝ }
 {
     DataAnswer {
-        refusal: Refusal { number: 0, line: 0 },
+        refusal: refusals::FINE,
         second: second,
         start: start as u64,
         length: length,

@@ -14,6 +14,7 @@ use lib.Seq.{drop-cons}
 use borrow.Author.Tests.{ltb-true, ltb-false, lt-ltb, le-ltb, le-leb, lt-leb, eq-eqb, ne-eqb}
 use Rattle.format.specs.Bytes.{if_then_else_, isIn}
 use Rattle.format.specs.Limits.{maxExtent}
+use Rattle.format.specs.Refusals.{badDescriptor, extentTooLarge, floatSamples, badSample, wrongCount}
 use Rattle.format.specs.Descriptors.{NumberKind, typeAt, sampleBytes, numberKind, isFloating, isSigned, product, extent, capped}
 use Rattle.format.specs.Samples.{inType, lowest, highest}
 use Rattle.format.specs.Widths.{kindBy, widthBy}
@@ -102,9 +103,9 @@ type-range t h el eh =
 
 -- ---- the early refusals, from what the code knows where it returns each
 
-pub early-11 : (version : ℕ) (sizes : List ℕ) (t e endian : ℕ) (zs : List ℤ) (b : Bool) → b ≡ writable version sizes t e endian → b ≡ false → 11 ≡ earlyRefusal version sizes t e endian zs
+pub early-descriptor : (version : ℕ) (sizes : List ℕ) (t e endian : ℕ) (zs : List ℤ) (b : Bool) → b ≡ writable version sizes t e endian → b ≡ false → badDescriptor ≡ earlyRefusal version sizes t e endian zs
 unfolding earlyRefusal
-early-11 version sizes t e endian zs b eb q = rw (sym eb, q)
+early-descriptor version sizes t e endian zs b eb q = rw (sym eb, q)
 
 module _ {version : ℕ} {sizes : List ℕ} {t e endian : ℕ} (zs : List ℤ) where
   module _ {b : Bool} (eb : b ≡ writable version sizes t e endian) (yes : b ≡ true) (known : Numbers version sizes t e endian) {n m w x : ℕ}
@@ -115,25 +116,25 @@ module _ {version : ℕ} {sizes : List ℕ} {t e endian : ℕ} (zs : List ℤ) w
     size : x ≡ min (extent sizes t) 4294967296
     size = ex ∙ ap (λ (k : ℕ). min (k * w) 4294967296) en ∙ ap (λ (k : ℕ). min (min (product sizes) 4294967296 * k) 4294967296) ew ∙ ap capped (mul-comm (capped (product sizes)) (sampleBytes t)) ∙ times-capped (sampleBytes t) (product sizes) ∙ ap capped (mul-comm (sampleBytes t) (product sizes))
 
-    pub early-15 : maxExtent < x → 15 ≡ earlyRefusal version sizes t e endian zs
+    pub early-extent : maxExtent < x → extentTooLarge ≡ earlyRefusal version sizes t e endian zs
     unfolding earlyRefusal
-    early-15 h = rw (ok, lt-ltb maxExtent (extent sizes t) (omega (arith, size)))
+    early-extent h = rw (ok, lt-ltb maxExtent (extent sizes t) (omega (arith, size)))
 
     module _ (small : x ≤ maxExtent) where
       within : extent sizes t ≤ maxExtent
       within = omega (arith, size)
 
-      pub early-19 : 8 ≤ t → 19 ≡ earlyRefusal version sizes t e endian zs
+      pub early-float : 8 ≤ t → floatSamples ≡ earlyRefusal version sizes t e endian zs
       unfolding earlyRefusal
-      early-19 h = rw (ok, le-ltb maxExtent (extent sizes t) within, floating-at t (known .type-in), le-leb 8 t h)
+      early-float h = rw (ok, le-ltb maxExtent (extent sizes t) within, floating-at t (known .type-in), le-leb 8 t h)
 
       module _ (integer : t < 8) where
         exact : n ≡ product sizes
         exact = omega (arith, en, within, le-mul-of-pos-right (product sizes) (type-bytes t))
 
-        pub early-27 : (m ≡ n → ⊥) → 27 ≡ earlyRefusal version sizes t e endian zs
+        pub early-count : (m ≡ n → ⊥) → wrongCount ≡ earlyRefusal version sizes t e endian zs
         unfolding earlyRefusal
-        early-27 h =
+        early-count h =
             rw (ok, le-ltb maxExtent (extent sizes t) within, floating-at t (known .type-in), lt-leb 8 t integer, ne-eqb (length zs) (product sizes) (λ q. h (em ∙ q ∙ sym exact)))
 
         module _ (count : m ≡ n) {low high : ℕ} (el : low ≡ lowest (numberKind t) (sampleBytes t)) (eh : high ≡ highest (numberKind t) (sampleBytes t))
@@ -141,16 +142,16 @@ module _ {version : ℕ} {sizes : List ℕ} {t e endian : ℕ} (zs : List ℤ) w
           all-is : allInType (numberKind t) (sampleBytes t) zs ≡ fine
           all-is = sym (ef ∙ ap (λ (k : ℕ). allInRange k high zs) el ∙ ap (λ (k : ℕ). allInRange (lowest (numberKind t) (sampleBytes t)) k zs) eh ∙ all-in-range (numberKind t) (sampleBytes t) zs)
 
-          tests : earlyRefusal version sizes t e endian zs ≡ (if not fine then 20 else 0)
+          tests : earlyRefusal version sizes t e endian zs ≡ (if not fine then badSample else 0)
           unfolding earlyRefusal
           tests =
               rw (ok, le-ltb maxExtent (extent sizes t) within, floating-at t (known .type-in), lt-leb 8 t integer, eq-eqb (length zs) (product sizes) (sym em ∙ count ∙ exact), all-is)
 
-          pub early-20 : fine ≡ false → 20 ≡ earlyRefusal version sizes t e endian zs
-          early-20 h = sym (tests ∙ ap (λ (b : Bool). if not b then 20 else 0) h)
+          pub early-sample : fine ≡ false → badSample ≡ earlyRefusal version sizes t e endian zs
+          early-sample h = sym (tests ∙ ap (λ (b : Bool). if not b then badSample else 0) h)
 
-          pub early-0 : fine ≡ true → 0 ≡ earlyRefusal version sizes t e endian zs
-          early-0 h = sym (tests ∙ ap (λ (b : Bool). if not b then 20 else 0) h)
+          pub early-fine : fine ≡ true → 0 ≡ earlyRefusal version sizes t e endian zs
+          early-fine h = sym (tests ∙ ap (λ (b : Bool). if not b then badSample else 0) h)
 
           pub ready : fine ≡ true → Ready version sizes t e endian zs
           ready h = record {

@@ -13,12 +13,13 @@ use lib.Seq.{sets, sets-eq, take-all, take-at}
 use borrow.Author.Tests.{ne-eqb, ltb-false, lt-leb, leb-true, leb-false}
 use Rattle.format.specs.Bytes.{if_then_else_, between, isIn, over}
 use Rattle.format.specs.Limits.{maxFile, maxExtent, maxVersion}
+use Rattle.format.specs.Refusals.{fileTooLong, badDescriptor, extentTooLarge, floatSamples, badSample, lentTooShort, wrongCount}
 use Rattle.format.specs.Descriptors.{sampleBytes, numberKind, isFloating, product, extent}
 use Rattle.format.specs.Writer.{dataBytes, fileBytes, allInType, writable, writeRefusal, headerBytes}
 use Rattle.format.specs.Calls.{writeCall, writeAnswer}
 use Rattle.format.proofs.Stores.{sets-then}
 use Rattle.writable.specs.Refused.{earlyRefusal, lateRefusal}
-use Rattle.writable.proofs.Refuse.{early-11}
+use Rattle.writable.proofs.Refuse.{early-descriptor}
 use Rattle.writer.specs.Stored.{answerOf}
 
 -- ---- the refusals
@@ -35,8 +36,8 @@ module _ (version : ℕ) (sizes : List ℕ) (t e endian : ℕ) (zs : List ℤ) w
       go (not (writable version sizes t e endian)) (ltb maxExtent (extent sizes t)) (isFloating (numberKind t))
       (not (eqb (length zs) (product sizes))) (not (allInType (numberKind t) (sampleBytes t) zs)) (lateRefusal (length file) room)
     where
-      go : (a b c d f : Bool) (l : ℕ) → (if a then 11 else if b then 15 else if c then 19 else if d then 27 else if f then 20 else l)
-          ≡ (if eqb (if a then 11 else if b then 15 else if c then 19 else if d then 27 else if f then 20 else 0) 0 then l else if a then 11 else if b then 15 else if c then 19 else if d then 27 else if f then 20 else 0)
+      go : (a b c d f : Bool) (l : ℕ) → (if a then badDescriptor else if b then extentTooLarge else if c then floatSamples else if d then wrongCount else if f then badSample else l)
+          ≡ (if eqb (if a then badDescriptor else if b then extentTooLarge else if c then floatSamples else if d then wrongCount else if f then badSample else 0) 0 then l else if a then badDescriptor else if b then extentTooLarge else if c then floatSamples else if d then wrongCount else if f then badSample else 0)
       go true b c d f l = refl
       go false true c d f l = refl
       go false false true d f l = refl
@@ -78,7 +79,7 @@ module _ (version : ℕ) (sizes : List ℕ) (t e endian : ℕ) (zs : List ℤ) w
           pub fits : total ≤ length out
           fits = go (ltb maxFile total) (ltb (length out) total) refl (sym zn ∙ en)
             where
-              go : (a b : Bool) → ltb (length out) total ≡ b → _≡_ {A = ℕ} 0 (if a then 1 else if b then 22 else 0) → total ≤ length out
+              go : (a b : Bool) → ltb (length out) total ≡ b → _≡_ {A = ℕ} 0 (if a then fileTooLong else if b then lentTooShort else 0) → total ≤ length out
               go true b k r = absurd (omega arith)
               go false true k r = absurd (omega arith)
               go false false k r = ltb-false (length out) total k
@@ -113,7 +114,7 @@ not-writable version sizes t e endian h =
 
 module _ (version : ℕ) (t e endian : ℕ) (zs : List ℤ) (out : List ℕ) where
   too-many : (sizes : List ℕ) → 16 < length sizes → writeCall version sizes t e endian zs out ≡ (answerOf 11 0, out)
-  too-many sizes h = early-call version sizes t e endian zs out 11 (early-11 version sizes t e endian zs false (sym (not-writable version sizes t e endian h)) refl) (λ q. absurd (omega arith))
+  too-many sizes h = early-call version sizes t e endian zs out badDescriptor (early-descriptor version sizes t e endian zs false (sym (not-writable version sizes t e endian h)) refl) (λ q. absurd (omega arith))
 
   pub first-sizes : (sizes : List ℕ) (n : ℕ) → n ≡ min (length sizes) 17 → writeCall version (take n sizes) t e endian zs out ≡ writeCall version sizes t e endian zs out
   first-sizes sizes n q = go (leb (length sizes) 17) refl

@@ -12,18 +12,15 @@ ghost use Rattle.writer.specs.Stored.{answerOf};
 
 mod head;
 
-use format::Refusal;
 use format::WriteAnswer;
+use format_values::refusals;
 
 // An answer: the number of the refusal, or 0, and the length of the file.
 fn answer(number: u32, length: usize) -> WriteAnswer
     ensures { λ r. ⌜ r ≡ answerOf number length ⌝ }
 {
     WriteAnswer {
-        refusal: Refusal {
-            number: number,
-            line: 0,
-        },
+        refusal: refusals::refusal(number),
         length: length as u64,
     }
 }

@@ -6,13 +6,10 @@ use Rattle.samples.proofs.told.Statement.{statement}
 use Rattle.samples.proofs.told.Tie as tie
 
 returns : tie.Need-returns
-returns c = simp (eq-eqb _ _ (c .if1 .taken), c .if1 .taken)
-
-none-requires : tie.Need-none-requires
-none-requires c κs = search needs
+returns c = simp (eq-eqb _ _ (c .if1 .taken))
 
 returns-2 : tie.Need-returns-2
-returns-2 c = simp (ne-eqb _ _ (c .before .if1 .left)) (c .none .ensures)
+returns-2 c = simp (ne-eqb _ _ (c .before .before .if1 .left)) (rw (c .none .ensures, c .before .refusal .ensures))
 
 pub told-spec : {M : Type 1} → statement M
-told-spec = tie.close (tie.spec returns none-requires returns-2)
+told-spec = tie.close (tie.spec returns (λ c κs. search needs) (λ c κs. search needs) returns-2)

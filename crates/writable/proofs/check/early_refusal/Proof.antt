@@ -4,7 +4,7 @@ use native.Mathlib.Omega.{arith}
 use denote.Ref.{now}
 use borrow.Author.Tests.{not-true, not-false}
 use Rattle.writable.specs.Refused.{chosen}
-use Rattle.writable.proofs.Refuse.{type-range, integer-type, early-11, early-15, early-19, early-27, early-20, early-0, ready}
+use Rattle.writable.proofs.Refuse.{type-range, integer-type, early-descriptor, early-extent, early-float, early-count, early-sample, early-fine, ready}
 use Rattle.writable.proofs.check.early_refusal.Statement.{statement}
 use Rattle.writable.proofs.check.early_refusal.Tie as tie
 
@@ -16,7 +16,7 @@ returns c =
     let a = c .before .before .before .before .args in
     let zs = chosen (a .packed) (now (a .samples)) (now (a .lent)) in
     let i = c .before .is-writable in
-    (early-11 (a .version) (now (a .sizes)) (a .sampletype) (a .encoding) (a .endian) zs (i .result) (i .ensures .0) (not-true (i .result) (c .if1 .taken)), λ q. absurd (omega arith))
+    (early-descriptor (a .version) (now (a .sizes)) (a .sampletype) (a .encoding) (a .endian) zs (i .result) (i .ensures .0) (not-true (i .result) (c .if1 .taken)), λ q. absurd (omega arith))
 
 product-requires : tie.Need-product-requires
 product-requires c κs = search needs
@@ -36,7 +36,7 @@ returns-2 c =
     let zs = chosen (a .packed) (now (a .samples)) (now (a .lent)) in
     let i = c .before .before .before .before .before .before .is-writable in
     let y = not-false (i .result) (c .before .before .before .before .before .if1 .left) in
-    (early-15 zs (i .ensures .0) y (i .ensures .1 y) (c .before .before .before .before .product .ensures) (c .before .before .before .count .ensures) (c .before .before .sample-bytes .ensures) (c .before .times .ensures) (c .if2 .taken), λ q. absurd (omega arith))
+    (early-extent zs (i .ensures .0) y (i .ensures .1 y) (c .before .before .before .before .product .ensures) (c .before .before .before .count .ensures) (c .before .before .sample-bytes .ensures) (c .before .times .ensures) (c .if2 .taken), λ q. absurd (omega arith))
 
 returns-3 : tie.Need-returns-3
 returns-3 c =
@@ -44,7 +44,7 @@ returns-3 c =
     let zs = chosen (a .packed) (now (a .samples)) (now (a .lent)) in
     let i = c .before .before .before .before .before .before .before .is-writable in
     let y = not-false (i .result) (c .before .before .before .before .before .before .if1 .left) in
-    (early-19 zs (i .ensures .0) y (i .ensures .1 y) (c .before .before .before .before .before .product .ensures) (c .before .before .before .before .count .ensures) (c .before .before .before .sample-bytes .ensures) (c .before .before .times .ensures) (c .before .if2 .left) (c .if3 .taken), λ q. absurd (omega arith))
+    (early-float zs (i .ensures .0) y (i .ensures .1 y) (c .before .before .before .before .before .product .ensures) (c .before .before .before .before .count .ensures) (c .before .before .before .sample-bytes .ensures) (c .before .before .times .ensures) (c .before .if2 .left) (c .if3 .taken), λ q. absurd (omega arith))
 
 returns-4 : tie.Need-returns-4
 returns-4 c =
@@ -52,7 +52,7 @@ returns-4 c =
     let zs = chosen (a .packed) (now (a .samples)) (now (a .lent)) in
     let i = c .before .before .before .before .before .before .before .before .is-writable in
     let y = not-false (i .result) (c .before .before .before .before .before .before .before .if1 .left) in
-    (early-27 zs (i .ensures .0) y (i .ensures .1 y) (c .before .before .before .before .before .before .product .ensures) (c .before .before .before .before .before .count .ensures) (c .before .before .before .before .sample-bytes .ensures) (c .before .before .before .times .ensures) (c .before .before .if2 .left) (c .before .if3 .left) (c .if4 .taken), λ q. absurd (omega arith))
+    (early-count zs (i .ensures .0) y (i .ensures .1 y) (c .before .before .before .before .before .before .product .ensures) (c .before .before .before .before .before .count .ensures) (c .before .before .before .before .sample-bytes .ensures) (c .before .before .before .times .ensures) (c .before .before .if2 .left) (c .before .if3 .left) (c .if4 .taken), λ q. absurd (omega arith))
 
 lowest-of-requires : tie.Need-lowest-of-requires
 lowest-of-requires c κs = integer-type _ (c .before .if3 .left)
@@ -72,7 +72,7 @@ returns-5 c =
     let zs = chosen (a .packed) (now (a .samples)) (now (a .lent)) in
     let i = c .before .before .before .before .before .before .before .before .before .before .before .before .is-writable in
     let y = not-false (i .result) (c .before .before .before .before .before .before .before .before .before .before .before .if1 .left) in
-    (early-20 zs (i .ensures .0) y (i .ensures .1 y) (c .before .before .before .before .before .before .before .before .before .before .product .ensures) (c .before .before .before .before .before .before .before .before .before .count .ensures) (c .before .before .before .before .before .before .before .before .sample-bytes .ensures) (c .before .before .before .before .before .before .before .times .ensures) (c .before .before .before .before .before .before .if2 .left) (c .before .before .before .before .before .if3 .left) (c .before .before .before .before .if4 .left) (c .before .before .before .lowest-of .ensures .0) (c .before .before .highest-of .ensures .0) (c .before .all-in-range .ensures) (not-true (c .before .all-in-range .result) (c .if5 .taken)), λ q. absurd (omega arith))
+    (early-sample zs (i .ensures .0) y (i .ensures .1 y) (c .before .before .before .before .before .before .before .before .before .before .product .ensures) (c .before .before .before .before .before .before .before .before .before .count .ensures) (c .before .before .before .before .before .before .before .before .sample-bytes .ensures) (c .before .before .before .before .before .before .before .times .ensures) (c .before .before .before .before .before .before .if2 .left) (c .before .before .before .before .before .if3 .left) (c .before .before .before .before .if4 .left) (c .before .before .before .lowest-of .ensures .0) (c .before .before .highest-of .ensures .0) (c .before .all-in-range .ensures) (not-true (c .before .all-in-range .result) (c .if5 .taken)), λ q. absurd (omega arith))
 
 returns-6 : tie.Need-returns-6
 returns-6 c =
@@ -81,7 +81,7 @@ returns-6 c =
     let i = c .before .before .before .before .before .before .before .before .before .before .before .before .is-writable in
     let y = not-false (i .result) (c .before .before .before .before .before .before .before .before .before .before .before .if1 .left) in
     let f = not-false (c .before .all-in-range .result) (c .if5 .left) in
-    (early-0 zs (i .ensures .0) y (i .ensures .1 y) (c .before .before .before .before .before .before .before .before .before .before .product .ensures) (c .before .before .before .before .before .before .before .before .before .count .ensures) (c .before .before .before .before .before .before .before .before .sample-bytes .ensures) (c .before .before .before .before .before .before .before .times .ensures) (c .before .before .before .before .before .before .if2 .left) (c .before .before .before .before .before .if3 .left) (c .before .before .before .before .if4 .left) (c .before .before .before .lowest-of .ensures .0) (c .before .before .highest-of .ensures .0) (c .before .all-in-range .ensures) f, λ e. ready zs (i .ensures .0) y (i .ensures .1 y) (c .before .before .before .before .before .before .before .before .before .before .product .ensures) (c .before .before .before .before .before .before .before .before .before .count .ensures) (c .before .before .before .before .before .before .before .before .sample-bytes .ensures) (c .before .before .before .before .before .before .before .times .ensures) (c .before .before .before .before .before .before .if2 .left) (c .before .before .before .before .before .if3 .left) (c .before .before .before .before .if4 .left) (c .before .before .before .lowest-of .ensures .0) (c .before .before .highest-of .ensures .0) (c .before .all-in-range .ensures) f)
+    (early-fine zs (i .ensures .0) y (i .ensures .1 y) (c .before .before .before .before .before .before .before .before .before .before .product .ensures) (c .before .before .before .before .before .before .before .before .before .count .ensures) (c .before .before .before .before .before .before .before .before .sample-bytes .ensures) (c .before .before .before .before .before .before .before .times .ensures) (c .before .before .before .before .before .before .if2 .left) (c .before .before .before .before .before .if3 .left) (c .before .before .before .before .if4 .left) (c .before .before .before .lowest-of .ensures .0) (c .before .before .highest-of .ensures .0) (c .before .all-in-range .ensures) f, λ e. ready zs (i .ensures .0) y (i .ensures .1 y) (c .before .before .before .before .before .before .before .before .before .before .product .ensures) (c .before .before .before .before .before .before .before .before .before .count .ensures) (c .before .before .before .before .before .before .before .before .sample-bytes .ensures) (c .before .before .before .before .before .before .before .times .ensures) (c .before .before .before .before .before .before .if2 .left) (c .before .before .before .before .before .if3 .left) (c .before .before .before .before .if4 .left) (c .before .before .before .lowest-of .ensures .0) (c .before .before .highest-of .ensures .0) (c .before .all-in-range .ensures) f)
 
 pub early-refusal-spec : {M : Type 1} → statement M
 early-refusal-spec =
