@@ -1,17 +1,17 @@
 -- The limits of a header, at both sides, by induction: neither the bytes nor the lines are counted out.
-use Prim.Native.Nat.{ℕ, zero, suc, _+_, _*_, _-_, _≤_, _<_}
+use Prim.Native.Nat.{ℕ, zero, suc, _+_, _*_, _-_, _≤_}
 use native.Mathlib.Omega.{arith}
 use mathlib.Core.Path.{_≡_, refl, ap, _∙_}
 use mathlib.Core.Bool.{Bool, true}
 use mathlib.Core.List.{List, [], _∷_, _++_, append-assoc}
 use lib.Dec.{eqb}
 use lib.ListN.{length, replicate, length-append, length-replicate}
-use borrow.Author.Tests.{le-ltb, lt-ltb}
+use borrow.Author.Tests.{le-ltb}
 use Rattle.format.specs.declared.Refusal.{Refusal}
 use Rattle.format.specs.Bytes.{every, same, alike, beginsWith, isIn, isAny, rowFrom, bytes, LF, HASH}
 use Rattle.format.specs.Limits.{maxFile, maxHeader, maxLines}
 use Rattle.format.specs.Calls.{readAnswer}
-use Rattle.format.specs.Refusals.{headerTooLong, tooManyLines, atLine, fine}
+use Rattle.format.specs.Refusals.{atLine, fine}
 use Rattle.format.specs.Lines.{Line, line, lf, size, lines}
 use Rattle.format.specs.Pairs.{mark}
 use Rattle.format.specs.Fields.{Given, given, sizes, dimension, type, encoding, fieldSince, descriptorOf, inOrder}
@@ -104,20 +104,13 @@ over-comments zero n at m e p q h l = let x : m ≡ n = omega arith in let y : e
 over-comments (suc k) n at m e p q h l =
     over-comment n at [] (hashLines k) (omega arith) (omega arith) ∙ over-comments k (n + 1) (at + 2) m e (omega arith) (omega arith) h l
 
--- ---- the closing line
+-- ---- the closing line, at either side of a limit
 
-module _ (n at : ℕ) where
-  closing-taken : at < maxHeader → n ≤ maxLines → walked n at closingLine ≡ fine
-  unfolding every same alike beginsWith isIn isAny rowFrom mark fieldSince descriptorOf inOrder trimFront trimEnd descriptor digitsFrom number parts notEmpty numbersIn typeAt mayDescribe hasNeeded product judge complete walk
-  closing-taken h k = rw (le-ltb maxHeader (at + 1) (omega arith), le-ltb maxLines n k)
-
-  closing-past : maxHeader ≤ at → walked n at closingLine ≡ atLine headerTooLong n
-  unfolding walk
-  closing-past h = rw (lt-ltb maxHeader (at + 1) (omega arith))
-
-  closing-late : at < maxHeader → maxLines < n → walked n at closingLine ≡ atLine tooManyLines n
-  unfolding walk
-  closing-late h k = rw (le-ltb maxHeader (at + 1) (omega arith), lt-ltb maxLines n k)
+closings :
+    (walked 7 (maxHeader - 1) closingLine ≡ fine) × (walked 7 maxHeader closingLine ≡ atLine 3 7)
+    × (walked maxLines (44 + 2 * maxLines) closingLine ≡ fine) × (walked (maxLines + 1) (46 + 2 * maxLines) closingLine ≡ atLine 4 (maxLines + 1))
+unfolding every same alike isIn isAny rowFrom descriptorOf digitsFrom number parts notEmpty typeAt hasNeeded product judge complete walk
+closings = (refl, refl, refl, refl)
 
 -- ---- both limits
 
@@ -139,8 +132,8 @@ with-comments n h =
 pub at-limits : AtLimits
 at-limits =
     record {
-      bytes-taken = let n = maxHeader - 58 in with-comment n (omega arith) (omega arith) ∙ closing-taken 7 (n + 57) (omega arith) (omega arith);
-      bytes-refused = let n = maxHeader - 57 in with-comment n (omega arith) (omega arith) ∙ closing-past 7 (n + 57) (omega arith);
-      lines-taken = let n = maxLines - 6 in with-comments n (omega arith) ∙ closing-taken (n + 6) (56 + 2 * n) (omega arith) (omega arith);
-      lines-refused = let n = maxLines - 5 in with-comments n (omega arith) ∙ closing-late (n + 6) (56 + 2 * n) (omega arith) (omega arith);
+      bytes-taken = with-comment (maxHeader - 58) (omega arith) (omega arith) ∙ closings .0;
+      bytes-refused = with-comment (maxHeader - 57) (omega arith) (omega arith) ∙ closings .1;
+      lines-taken = with-comments (maxLines - 6) (omega arith) ∙ closings .2;
+      lines-refused = with-comments (maxLines - 5) (omega arith) ∙ closings .3;
     }
