@@ -52,9 +52,13 @@ maxListed = 65_536
 abbrev pub maxReading : ℕ
 maxReading = 144 + 21 * maxAxes
 
--- no listing is longer: those lines, the longest header that a listed file can have, and 4 more bytes for each of its lines
+-- the most bytes of the lines of its keys: the longest header that a listed file can have, and 4 more for each of its lines
+abbrev pub maxKeys : ℕ
+maxKeys = min maxHeader maxListed + 4 * maxLines
+
+-- no listing is longer
 abbrev pub maxListing : ℕ
-maxListing = maxReading + (min maxHeader maxListed + 4 * maxLines)
+maxListing = maxReading + maxKeys
 
 -- ---- all of them
 
