@@ -5,6 +5,7 @@ ghost use Prim.Native.Nat.{ℕ, _+_, _*_, _-_, _≤_, _<_};
 ghost use mathlib.Core.Bool.{true};
 ghost use lib.ListN.{length};
 ghost use lib.Seq.{sets, slice};
+ghost use Rattle.format.specs.Limits.{maxExtent};
 ghost use Rattle.format.specs.Writer.{hexText, textData, rawData, dataBytes};
 ghost use Rattle.writable.specs.Refused.{chosen, lateRefusal};
 ghost use Rattle.body.specs.LowBytes.{lowBytes};
@@ -12,7 +13,7 @@ ghost use Rattle.words.specs.Widths.{Width};
 
 // How many bytes the samples take as text.
 fn text_length(samples: &[i64], lent: &[u8], packed: bool) -> usize
-    requires { ⌜ length (chosen packed (now samples) (now lent)) ≤ 4294967295 ⌝ }
+    requires { ⌜ length (chosen packed (now samples) (now lent)) ≤ maxExtent ⌝ }
     ensures { λ r. ⌜ (r ≡ length (textData (chosen packed (now (samples .entry)) (now (lent .entry))))) × (r ≤ 22 * length (chosen packed (now (samples .entry)) (now (lent .entry)))) ⌝ }
 {
     let n = writable::source::count(samples, lent, packed);
@@ -164,7 +165,7 @@ fn put_hex(
 
 // How many bytes the data takes.
 fn data_length(samples: &[i64], lent: &[u8], packed: bool, encoding: u64, w: usize) -> usize
-    requires { ⌜ (length (chosen packed (now samples) (now lent)) ≤ 4294967295) × (length (chosen packed (now samples) (now lent)) * w ≤ 4294967295) ⌝ }
+    requires { ⌜ (length (chosen packed (now samples) (now lent)) ≤ maxExtent) × (length (chosen packed (now samples) (now lent)) * w ≤ maxExtent) ⌝ }
     ensures { λ r. ⌜ ((endian : ℕ) → r ≡ length (dataBytes encoding w endian (chosen packed (now (samples .entry)) (now (lent .entry))))) ⌝ }
     ensures long { λ r. ⌜ r ≤ 94489280490 ⌝ }
 {
@@ -180,7 +181,7 @@ fn data_length(samples: &[i64], lent: &[u8], packed: bool, encoding: u64, w: usi
 
 // Whether text fits, however long its n lines are.
 fn any_text_fits(start: usize, n: usize, encoding: u64, room: usize) -> bool
-    requires { ⌜ (start ≤ 512) × (n ≤ 4294967295) ⌝ }
+    requires { ⌜ (start ≤ 512) × (n ≤ maxExtent) ⌝ }
     ensures { λ r. ⌜ (r ≡ true → (encoding ≡ 1) × (0 ≡ lateRefusal (start + 22 * n) room)) ⌝ }
 {
     if encoding == 1 {
@@ -199,7 +200,7 @@ pub fn file_refusal(
     w: usize,
     room: usize,
 ) -> u32
-    requires { ⌜ (start ≤ 512) × (length (chosen packed (now samples) (now lent)) ≤ 4294967295) × (length (chosen packed (now samples) (now lent)) * w ≤ 4294967295) ⌝ }
+    requires { ⌜ (start ≤ 512) × (length (chosen packed (now samples) (now lent)) ≤ maxExtent) × (length (chosen packed (now samples) (now lent)) * w ≤ maxExtent) ⌝ }
     requires { ⌜ length (textData (chosen packed (now samples) (now lent))) ≤ 22 * length (chosen packed (now samples) (now lent)) ⌝ }
     ensures { λ r. ⌜ ((endian : ℕ) → r ≡ lateRefusal (start + length (dataBytes encoding w endian (chosen packed (now (samples .entry)) (now (lent .entry))))) room) ⌝ }
 {

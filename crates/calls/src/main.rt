@@ -33,10 +33,18 @@ use frames::parts::number_at;
 use frames::parts::part;
 use frames::parts::plus;
 use frames::parts::refusal_at;
+use frames::parts::rest;
 use frames::parts::run_at;
 use frames::parts::run_end;
 use frames::parts::same_refusal;
 use frames::report::MALFORMED;
+
+// The most bytes of a case, entries of a list of samples, and bytes of a written file.
+const CASE: usize = 131072;
+
+const SAMPLES: usize = 1024;
+
+const ROOM: usize = 65536;
 
 // What the entries of a list are before the call.
 const UNTOUCHED_SAMPLE: i64 = -6510615555426900571;
@@ -69,10 +77,10 @@ fn wides_of(s: &[u8]) -> [u64; 32] {
 }
 
 // The samples of a run, 0 past its end.
-fn samples_of(s: &[u8]) -> [i64; 1024] {
-    let mut list = [0i64; 1024];
+fn samples_of(s: &[u8]) -> [i64; SAMPLES] {
+    let mut list = [0i64; SAMPLES];
     let mut i: usize = 0;
-    while i < 1024 {
+    while i < SAMPLES {
         list[i] = signed(wide_at(s, 8 * i));
         i += 1;
     }
@@ -139,10 +147,10 @@ fn entry_at(s: &[u8], i: usize) -> i64 {
 }
 
 // Whether the list has the samples of the run at its front, and every other entry is as it was before the call.
-fn list_right(list: &[i64; 1024], s: &[u8]) -> bool {
+fn list_right(list: &[i64; SAMPLES], s: &[u8]) -> bool {
     let mut right = true;
     let mut i: usize = 0;
-    while i < 1024 {
+    while i < SAMPLES {
         right = right & (list[i] == entry_at(s, i));
         i += 1;
     }
@@ -165,7 +173,7 @@ fn samples_to(file: &[u8], second: &[u8], list: &mut [i64], room: usize) -> Coun
 
 // The part of the answers about samples that is wrong, 0 for none.
 fn decoding_fault(file: &[u8], second: &[u8], refusal: Refusal, room: usize, s: &[u8]) -> u32 {
-    let mut list = [UNTOUCHED_SAMPLE; 1024];
+    let mut list = [UNTOUCHED_SAMPLE; SAMPLES];
     if !count_right(samples_to(file, second, &mut list, room), refusal, s) {
         return 1;
     }
@@ -238,20 +246,11 @@ fn written(s: &[u8], sizes: &[u8], samples: &[u8], out: &mut [u8]) -> WriteAnswe
     write_to(s, axes, lent, out, number_at(s, 16) as usize)
 }
 
-// Whether the bytes from `from` on are as they were before the call.
-fn untouched(out: &[u8; 65536], from: usize) -> bool {
-    let mut right = true;
-    let mut i = from;
-    while i < 65536 {
-        right = right & (out[i] == UNTOUCHED);
-        i += 1;
-    }
-    right
-}
-
 // Whether the bytes of the buffer are the file and then as they were before the call.
-fn holds(out: &[u8; 65536], file: &[u8]) -> bool {
-    untouched(out, file.len()) & check::same(part(out, 0, file.len()), file)
+fn holds(out: &[u8; ROOM], file: &[u8]) -> bool {
+    let before = [UNTOUCHED; ROOM];
+    let n = file.len();
+    check::same(part(out, 0, n), file) & check::same(rest(out, n), rest(&before, n))
 }
 
 // Whether the samples of the file are those of the run. There is nothing to read back where nothing was written.
@@ -260,7 +259,7 @@ fn back_right(file: &[u8], s: &[u8]) -> bool {
         return true;
     }
     let fine = refusals::FINE;
-    decoding_fault(file, &file[..0], fine, 1024, s) == 0
+    decoding_fault(file, &file[..0], fine, SAMPLES, s) == 0
 }
 
 // The part of a case for the writer that is wrong, 0 for none.
@@ -271,7 +270,7 @@ fn write_fault(s: &[u8]) -> u32 {
         return MALFORMED;
     }
     let file = run_at(s, at);
-    let mut out = [UNTOUCHED; 65536];
+    let mut out = [UNTOUCHED; ROOM];
     let answer = written(s, run_at(s, 52), run_at(s, samples), &mut out);
     let told = answer.refusal;
     if !same_refusal(told, refusal_at(s, 4)) | (answer.length != file.len() as u64) {
@@ -304,14 +303,14 @@ fn case_fault(s: &[u8]) -> u32 {
     MALFORMED
 }
 // The part that is wrong of the case in the first `n` bytes.
-fn fault_in(buffer: &[u8; 131072], n: usize) -> u32 {
+fn fault_in(buffer: &[u8; CASE], n: usize) -> u32 {
     case_fault(part(buffer, 0, n))
 }
 
 // The part that is wrong of the next case of the input.
 fn next_fault() -> u32 {
     let n = frames::input::next_number() as usize;
-    let mut buffer = [0u8; 131072];
+    let mut buffer = [0u8; CASE];
     if !frames::input::fill(&mut buffer, n) {
         return MALFORMED;
     }

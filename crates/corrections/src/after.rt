@@ -8,22 +8,22 @@ use frames::parts::part;
 use frames::parts::run_at;
 use frames::parts::run_end;
 
-fn same_buffers(a: &[u8; 73728], b: &[u8; 73728]) -> bool {
+fn same_buffers(a: &[u8; packed::BUFFER], b: &[u8; packed::BUFFER]) -> bool {
     check::same(a, b)
 }
 
 // Whether the buffer is the one that is packed.
-fn buffer_right(buf: &[u8; 73728], s: &[u8]) -> bool {
-    let mut expected = [packed::UNTOUCHED; 73728];
+fn buffer_right(buf: &[u8; packed::BUFFER], s: &[u8]) -> bool {
+    let mut expected = [packed::UNTOUCHED; packed::BUFFER];
     packed::unpack(&mut expected, s);
     same_buffers(buf, &expected)
 }
 
 // Whether the table has the entries of the run.
-fn table_right(table: &[u32; 2048], s: &[u8]) -> bool {
+fn table_right(table: &[u32; packed::TABLE], s: &[u8]) -> bool {
     let mut right = true;
     let mut i: usize = 0;
-    while i < 2048 {
+    while i < packed::TABLE {
         right = right & (table[i] == packed::entry_at(s, i));
         i += 1;
     }
@@ -31,10 +31,10 @@ fn table_right(table: &[u32; 2048], s: &[u8]) -> bool {
 }
 
 // Whether the first `n` entries are the same.
-fn same_entries(a: &[u32; 2048], b: &[u32; 2048], n: usize) -> bool {
+fn same_entries(a: &[u32; packed::TABLE], b: &[u32; packed::TABLE], n: usize) -> bool {
     let mut right = true;
     let mut i: usize = 0;
-    while i < 2048 {
+    while i < packed::TABLE {
         right = right & ((n <= i) | (a[i] == b[i]));
         i += 1;
     }
@@ -42,8 +42,8 @@ fn same_entries(a: &[u32; 2048], b: &[u32; 2048], n: usize) -> bool {
 }
 
 // Whether a reading of the file gives the count and the table.
-fn lines_right(file: &[u8], table: &[u32; 2048], count: usize) -> bool {
-    let mut fresh = [0u32; 2048];
+fn lines_right(file: &[u8], table: &[u32; packed::TABLE], count: usize) -> bool {
+    let mut fresh = [0u32; packed::TABLE];
     let a = header::read::read(file, &mut fresh);
     let accepted = (a.refusal.number == 0) & (a.reading.lines as usize == count);
     accepted & same_entries(&fresh, table, count)
@@ -80,14 +80,14 @@ fn rest<'a>(file: &'a [u8], n: usize) -> &'a [u8] {
 }
 
 // Whether the answer is the value, which stands at the front of the buffer.
-fn holds(out: &[u8; 65536], a: ValueAnswer, value: &[u8]) -> bool {
+fn holds(out: &[u8; packed::VALUE], a: ValueAnswer, value: &[u8]) -> bool {
     let found = (a.refusal.number == 0) & a.found & (a.length == value.len() as u64);
     found & check::same(part(out, 0, value.len()), value)
 }
 
 // Whether the value of the key is the one given.
 fn value_right(file: &[u8], key: &[u8], value: &[u8]) -> bool {
-    let mut out = [0u8; 65536];
+    let mut out = [0u8; packed::VALUE];
     let a = lookup::keys::copy_value(file, key, &mut out);
     holds(&out, a, value)
 }
@@ -124,17 +124,22 @@ fn reading_fault(first: &[u8], file: &[u8], keys: &[u8]) -> u32 {
 }
 
 // As `reading_fault`, for the first `used` bytes of the buffer before the settings.
-fn file_fault(first: &[u8; 73728], used: usize, file: &[u8], keys: &[u8]) -> u32 {
+fn file_fault(first: &[u8; packed::BUFFER], used: usize, file: &[u8], keys: &[u8]) -> u32 {
     reading_fault(part(first, 0, used), file, keys)
 }
 
 // The part that a fresh reading shows to be wrong, 0 for none.
-fn fresh_fault(buf: &[u8; 73728], table: &[u32; 2048], left: Left, s: &[u8]) -> u32 {
+fn fresh_fault(
+    buf: &[u8; packed::BUFFER],
+    table: &[u32; packed::TABLE],
+    left: Left,
+    s: &[u8],
+) -> u32 {
     let file = part(buf, 0, left.used);
     if !lines_right(file, table, left.count) {
         return 4;
     }
-    let mut first = [packed::UNTOUCHED; 73728];
+    let mut first = [packed::UNTOUCHED; packed::BUFFER];
     packed::unpack(&mut first, packed::given(s, packed::LENT_BUFFER));
     file_fault(
         &first,
@@ -145,7 +150,12 @@ fn fresh_fault(buf: &[u8; 73728], table: &[u32; 2048], left: Left, s: &[u8]) -> 
 }
 
 // The part that is wrong of what a list of settings left, 0 for none.
-pub fn fault(buf: &[u8; 73728], table: &[u32; 2048], left: Left, s: &[u8]) -> u32 {
+pub fn fault(
+    buf: &[u8; packed::BUFFER],
+    table: &[u32; packed::TABLE],
+    left: Left,
+    s: &[u8],
+) -> u32 {
     if !left.right {
         return 1;
     }

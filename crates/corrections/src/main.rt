@@ -17,8 +17,8 @@ fn case_fault(s: &[u8]) -> u32 {
     if packed::place(s, packed::END) != s.len() {
         return MALFORMED;
     }
-    let mut buf = [packed::UNTOUCHED; 73728];
-    let mut table = [packed::UNSET; 2048];
+    let mut buf = [packed::UNTOUCHED; packed::BUFFER];
+    let mut table = [packed::UNSET; packed::TABLE];
     packed::unpack(&mut buf, packed::given(s, packed::LENT_BUFFER));
     packed::put_entries(&mut table, packed::given(s, packed::LENT_TABLE));
     let left = list::run(&mut buf, &mut table, s);
@@ -27,14 +27,14 @@ fn case_fault(s: &[u8]) -> u32 {
 }
 
 // The part that is wrong of the case in the first `n` bytes.
-fn fault_in(buffer: &[u8; 65536], n: usize) -> u32 {
+fn fault_in(buffer: &[u8; packed::CASE], n: usize) -> u32 {
     case_fault(part(buffer, 0, n))
 }
 
 // The part that is wrong of the next case of the input.
 fn next_fault() -> u32 {
     let n = frames::input::next_number() as usize;
-    let mut buffer = [0u8; 65536];
+    let mut buffer = [0u8; packed::CASE];
     if !frames::input::fill(&mut buffer, n) {
         return MALFORMED;
     }

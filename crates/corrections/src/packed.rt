@@ -18,6 +18,15 @@ use frames::parts::plus;
 use frames::parts::run_at;
 use frames::parts::run_end;
 
+// The most bytes of a case, of the lent buffer and of a value, and entries of the lent table.
+pub const CASE: usize = 65536;
+
+pub const BUFFER: usize = 73728;
+
+pub const VALUE: usize = 65536;
+
+pub const TABLE: usize = 2048;
+
 pub const UNTOUCHED: u8 = 165;
 
 pub const UNSET: u32 = 7;

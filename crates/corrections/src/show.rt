@@ -34,13 +34,13 @@ fn print_escaped(s: &[u8]) {
 }
 
 // Prints the value at the front of the buffer.
-fn print_value(out: &[u8; 65536], a: ValueAnswer) {
+fn print_value(out: &[u8; crate::packed::VALUE], a: ValueAnswer) {
     print_escaped(part(out, 0, a.length as usize));
 }
 
 // Prints a key with its value.
 fn print_key(file: &[u8], key: &[u8]) {
-    let mut out = [0u8; 65536];
+    let mut out = [0u8; crate::packed::VALUE];
     let a = lookup::keys::copy_value(file, key, &mut out);
     io::write_all(STDOUT_FILENO, b"  ");
     print_escaped(key);
@@ -61,7 +61,7 @@ fn print_keys(file: &[u8], s: &[u8]) {
 }
 
 // Prints what a fresh reading of the first `used` bytes shows, where the case has a name.
-pub fn show(buf: &[u8; 73728], used: usize, s: &[u8]) {
+pub fn show(buf: &[u8; crate::packed::BUFFER], used: usize, s: &[u8]) {
     let name = crate::packed::given(s, crate::packed::NAME);
     if name.len() == 0 {
         return;

@@ -18,7 +18,7 @@ use Rattle.room.specs.Room.{Enough, tableEntries, tableRoom, samplesRoom, sizes
 use Rattle.room.proofs.Enough.{same-refusal, read-answered, set-answered}
 use Rattle.format.proofs.Boundary.{length-numbers}
 use Rattle.volume.proofs.Headers.{header-sizes}
-use Rattle.describe.specs.Shown.{maxListing}
+use Rattle.format.specs.Limits.{maxListing}
 
 -- the entries of such a table
 many-entries : (table : List ℕ) → tableRoom ≤ length table → tableEntries ≤ length (numbersOf entryBytes table)

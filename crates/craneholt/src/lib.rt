@@ -16,14 +16,13 @@ ghost use Rattle.format.specs.declared.ValueAnswer.{ValueAnswer};
 ghost use Rattle.format.specs.declared.CountAnswer.{CountAnswer};
 ghost use Rattle.format.specs.declared.WriteAnswer.{WriteAnswer};
 ghost use Rattle.format.specs.declared.SetAnswer.{SetAnswer};
-ghost use Rattle.format.specs.Limits.{maxLines};
+ghost use Rattle.format.specs.Limits.{maxLines, maxListing};
 ghost use Rattle.format.specs.Boundary.{entryBytes, wordBytes};
 ghost use Rattle.format.specs.Header.{header};
 ghost use Rattle.format.specs.Calls.{readHeaderCall, findFieldCall, findKeyCall, copyValueCall, dataPlaceCall, checkSamplesCall};
 ghost use Rattle.format.specs.Found.{FindsField, FindsKey};
 ghost use Rattle.format.specs.EntryPoints.{readEntry, samplesEntry, sampleNumberEntry, writeEntry, setKeyEntry};
 ghost use Rattle.format.specs.Listing.{listingCall};
-ghost use Rattle.describe.specs.Shown.{maxListing};
 ghost use Rattle.room.specs.Room.{Enough, tableRoom, samplesRoom, sizesRoom, writeRoom, valueRoom, Copied, setRoom};
 
 // How many entries a table of so many bytes has, at most 1,024: no header has more lines.

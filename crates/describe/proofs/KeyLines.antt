@@ -127,6 +127,7 @@ module _ {file : List ℕ} {at count : ℕ} (w : Within file at count) where
       pub within-next : Within file next (count - 1)
       within-next =
           record {
+            inside = l .within;
             there = omega (arith, rw (one, l .cut) at (w .there));
             short = omega (arith, rw (one, l .cut, length-unlines-cons) at (w .short), l .bytes);
           }

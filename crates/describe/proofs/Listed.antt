@@ -210,6 +210,7 @@ module _ (file : List ℕ) {es : List Entry} {gs : List Given} {ls : List Line} 
   header-within =
       let x = header-sound file e in
       record {
+        inside = omega arith;
         there = omega (arith, ap length (x .split), length-append (linesOf es) ls, length-map es lineOf);
         short = rw header-lines (omega (arith, x .short));
       }

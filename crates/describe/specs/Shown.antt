@@ -12,10 +12,6 @@ use Rattle.format.specs.Pairs.{Marked, unmarked, fieldMark, pairMark, mark}
 use Rattle.format.specs.Listing.{shown}
 use Rattle.printed.specs.Lines.{topText, middleText, endText}
 
--- no listing is longer: 480 bytes for the lines of a reading, the 65,535 bytes of the longest header, and 4 more for each of its 1,024 lines
-abbrev pub maxListing : ℕ
-maxListing = 70_111
-
 -- ---- the lines of keys, by the lines of a header
 
 -- the mark of a line; an empty line and a comment have none
@@ -52,8 +48,9 @@ shownLines (l ∷ ls) = shownMark (markOf (text l)) ls ++ shownLines ls
 abbrev pub linesFrom : List ℕ → ℕ → ℕ → List Line
 linesFrom file at count = take count (lines (drop at file))
 
--- there are so many lines, and they end within the limit of a header
+-- there are so many lines from a place of the file on, and they end within the limit of a header
 pub record Within (file : List ℕ) (at count : ℕ) : Type 0 where
+  pub inside : at ≤ length file
   pub there : count ≤ length (lines (drop at file))
   pub short : at + length (unlines (linesFrom file at count)) ≤ maxHeader
 

@@ -5,9 +5,9 @@ use text::lines::Mark;
 ghost use mathlib.Core.Path.{_≡_};
 ghost use Prim.Native.Nat.{_+_, _≤_};
 ghost use lib.ListN.{length, take, drop};
-ghost use Rattle.format.specs.Limits.{maxLines};
+ghost use Rattle.format.specs.Limits.{maxLines, maxListed, maxReading, maxKeys, maxListing};
 ghost use Rattle.text.specs.Places.{markPlace};
-ghost use Rattle.printed.specs.Printed.{Printed, maxPlace};
+ghost use Rattle.printed.specs.Printed.{Printed};
 ghost use Rattle.describe.specs.Shown.{markOf, isKey, isLater, keyText, shownMark, shownLines, linesFrom, Within};
 
 // The mark of a line; an empty line and a comment have none.
@@ -60,7 +60,7 @@ fn is_later(file: &[u8], key: &[u8], from: usize, count: u32) -> bool
 
 // The line of a pair, of whose text the key is the first i bytes.
 fn put_key(out: &mut [u8], at: usize, t: &[u8], i: usize) -> usize
-    requires { ⌜ (i + 2 ≤ length (now t)) × (at + (length (now t) + 4) ≤ maxPlace) ⌝ }
+    requires { ⌜ (i + 2 ≤ length (now t)) × (at + (length (now t) + 4) ≤ maxListing) ⌝ }
     ensures { λ r. ⌜ Printed (length (now (t .entry)) + 4) (now (out .entry)) at (keyText (take i (now (t .entry))) (drop (i + 2) (now (t .entry)))) (now (out .exit)) r ⌝ }
 {
     let a = printed::put::put_bytes(out, at, b"key ");
@@ -70,7 +70,7 @@ fn put_key(out: &mut [u8], at: usize, t: &[u8], i: usize) -> usize
 
 // What a line shows; `left` lines from `next` on come after it.
 fn put_item(file: &[u8], out: &mut [u8], at: usize, t: &[u8], next: usize, left: u32) -> usize
-    requires { ⌜ Within (now file) next left × (at + (length (now t) + 4) ≤ maxPlace) ⌝ }
+    requires { ⌜ Within (now file) next left × (at + (length (now t) + 4) ≤ maxListing) ⌝ }
     ensures { λ r. ⌜ Printed (length (now (t .entry)) + 4) (now (out .entry)) at (shownMark (markOf (now (t .entry))) (linesFrom (now (file .entry)) next left)) (now (out .exit)) r ⌝ }
 {
     match mark_of(t) {
@@ -87,8 +87,8 @@ fn put_item(file: &[u8], out: &mut [u8], at: usize, t: &[u8], next: usize, left:
 
 // What the first `count` lines of the file show.
 pub(crate) fn put_keys(file: &[u8], out: &mut [u8], start: usize, count: u32) -> usize
-    requires { ⌜ Within (now file) 0 count × (count ≤ maxLines) × (start ≤ 480) ⌝ }
-    ensures { λ r. ⌜ Printed 69631 (now (out .entry)) start (shownLines (linesFrom (now (file .entry)) 0 count)) (now (out .exit)) r ⌝ }
+    requires { ⌜ Within (now file) 0 count × (count ≤ maxLines) × (length (now file) ≤ maxListed) × (start ≤ maxReading) ⌝ }
+    ensures { λ r. ⌜ Printed maxKeys (now (out .entry)) start (shownLines (linesFrom (now (file .entry)) 0 count)) (now (out .exit)) r ⌝ }
 {
     let mut o = start;
     let mut at: usize = 0;

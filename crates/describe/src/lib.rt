@@ -10,10 +10,10 @@ ghost use mathlib.Core.List.{List};
 ghost use Prim.Native.Nat.{ℕ, _≤_};
 ghost use lib.ListN.{length};
 ghost use Rattle.format.specs.declared.WriteAnswer.{WriteAnswer};
-ghost use Rattle.format.specs.Limits.{maxLines};
+ghost use Rattle.format.specs.Limits.{maxLines, maxListed, maxListing};
 ghost use Rattle.format.specs.Listing.{shownRefusal, listing, listingCall};
 ghost use Rattle.printed.specs.Printed.{Printed};
-ghost use Rattle.describe.specs.Shown.{maxListing, Within, readingText};
+ghost use Rattle.describe.specs.Shown.{Within, readingText};
 
 // The line of a refusal.
 fn put_refusal(out: &mut [u8], refusal: Refusal) -> usize
@@ -26,7 +26,7 @@ fn put_refusal(out: &mut [u8], refusal: Refusal) -> usize
 
 // The lines of a reading; the data starts at `start`.
 fn put_reading(file: &[u8], out: &mut [u8], reading: Reading, start: u64) -> usize
-    requires { ⌜ Within (now file) 0 (reading .lines) × (reading .lines ≤ maxLines) × (reading .dimension ≤ length (reading .sizes)) ⌝ }
+    requires { ⌜ Within (now file) 0 (reading .lines) × (reading .lines ≤ maxLines) × (length (now file) ≤ maxListed) × (reading .dimension ≤ length (reading .sizes)) ⌝ }
     ensures { λ r. ⌜ Printed maxListing (now (out .entry)) 0 (readingText (now (file .entry)) reading start) (now (out .exit)) r ⌝ }
 {
     let a = printed::head::put_top(out, reading);
@@ -57,7 +57,7 @@ fn print(file: &[u8], out: &mut [u8]) -> usize
     put_reading(file, out, reading, place.start)
 }
 
-// Writes the listing of a file to the front of `out`. Where `out` is too short nothing is written; 70,111 bytes are enough for any file.
+// Writes the listing of a file to the front of `out`. Where `out` is too short nothing is written; `MAX_LISTING` bytes are enough for any file.
 pub fn listing(file: &[u8], out: &mut [u8]) -> WriteAnswer
     ensures call { λ r. ⌜ _≡_ {A = WriteAnswer × List ℕ} (r, now (out .exit)) (listingCall (now (file .entry)) (now (out .entry))) ⌝ }
     ensures enough { λ _. ⌜ length (listing (now (file .entry))) ≤ maxListing ⌝ }

@@ -1,42 +1,67 @@
--- The limits of a header, at both sides. That of the bytes is shown by the length of a comment, not byte by byte; that of the lines is computed.
-use Prim.Native.Nat.{ℕ, zero, suc, _+_, _≤_}
+-- The limits of a header, at both sides, by induction: neither the bytes nor the lines are counted out.
+use Prim.Native.Nat.{ℕ, zero, suc, _+_, _*_, _-_, _≤_}
 use native.Mathlib.Omega.{arith}
 use mathlib.Core.Path.{_≡_, refl, ap, _∙_}
 use mathlib.Core.Bool.{Bool, true}
 use mathlib.Core.List.{List, [], _∷_, _++_, append-assoc}
 use lib.Dec.{eqb}
 use lib.ListN.{length, replicate, length-append, length-replicate}
-use Rattle.format.specs.Bytes.{every, same, alike, beginsWith, isIn, isAny, rowFrom, bytes, LF, HASH}
 use borrow.Author.Tests.{le-ltb}
-use Rattle.format.specs.Limits.{maxFile}
+use Rattle.format.specs.declared.Refusal.{Refusal}
+use Rattle.format.specs.Bytes.{every, same, alike, beginsWith, isIn, isAny, rowFrom, bytes, LF, HASH}
+use Rattle.format.specs.Limits.{maxFile, maxHeader, maxLines}
 use Rattle.format.specs.Calls.{readAnswer}
 use Rattle.format.specs.Refusals.{atLine, fine}
-use Rattle.format.specs.Lines.{Line, line, lf, lines}
+use Rattle.format.specs.Lines.{Line, line, lf, size, lines}
 use Rattle.format.specs.Pairs.{mark}
-use Rattle.format.specs.Fields.{fieldAt, descriptorOf, inOrder}
+use Rattle.format.specs.Fields.{Given, given, sizes, dimension, type, encoding, fieldAt, descriptorOf, inOrder}
 use Rattle.format.specs.Descriptors.{trimFront, trimEnd, descriptor, digitsFrom, number, parts, notEmpty, numbersIn, typeAt, mayDescribe, hasNeeded, product}
-use Rattle.format.specs.Header.{magicVersion, onField, judge, Outcome, complete, walk, fromFirst, header}
-use Rattle.format.specs.Trials.{texts, headerWith, comment, AtLimits}
+use Rattle.format.specs.Header.{magicVersion, onField, judge, entry, Outcome, refused, accepted, withEntry, complete, walk, fromFirst, header}
+use Rattle.format.specs.Trials.{texts, refusalOf, headerWith, comment, comments, AtLimits}
+use Rattle.format.proofs.LimitLaws.{header-in-file, lines-in-header}
 use Rattle.format.proofs.Lines.{no-lf-of, ends-of, lines-lf}
 
--- ---- a comment and the closing line
+-- ---- the lines of comments, before the closing line
 
 hashes : (n : ℕ) → every (λ b. eqb b HASH) (replicate n HASH) ≡ true
 unfolding every
 hashes zero = refl
 hashes (suc n) = hashes n
 
-two-lines : (n : ℕ) → lines (comment n ++ LF ∷ []) ≡ line (replicate n HASH) lf ∷ line [] lf ∷ []
+abbrev closingLine : List Line
+closingLine = line [] lf ∷ []
+
+comment-lines : (n : ℕ) → lines (comment n ++ LF ∷ []) ≡ line (replicate n HASH) lf ∷ closingLine
 unfolding lines
-two-lines n =
+comment-lines n =
     let t = replicate n HASH in
     let p : ℕ → Bool = λ b. eqb b HASH in
     rw append-assoc (lines-lf t (LF ∷ []) (no-lf-of p refl t (hashes n)) (ends-of p refl t (hashes n)))
 
-line-long : (n : ℕ) → length (replicate n HASH ++ LF ∷ []) ≡ n + 1
-line-long n = simp (length-append, length-replicate)
+abbrev hashLines : ℕ → List Line
+hashLines zero = closingLine
+hashLines (suc n) = line (HASH ∷ []) lf ∷ hashLines n
 
--- ---- a header that ends in these two lines
+comments-lines : (n : ℕ) → lines (comments n ++ LF ∷ []) ≡ hashLines n
+unfolding lines
+comments-lines zero = refl
+comments-lines (suc n) = rw (comments-lines n)
+
+comments-long : (n : ℕ) → length (comments n) ≡ 2 * n
+comments-long zero = refl
+comments-long (suc n) = omega (arith, comments-long n)
+
+-- ---- the walk over them, once the five lines are read
+
+abbrev answered : Outcome → Refusal
+answered o = readAnswer o .refusal
+
+abbrev fields : List Given
+fields =
+    given encoding (bytes "raw") ∷ given sizes (bytes "1") ∷ given dimension (bytes "1") ∷ given type (bytes "int8") ∷ []
+
+abbrev walked : ℕ → ℕ → List Line → Refusal
+walked n at ls = answered (walk 1 n at fields ls)
 
 -- the lines of `headerWith`, before others
 abbrev fiveLines : List Line → List Line
@@ -48,31 +73,67 @@ fiveLines ls =
     ∷ line (bytes "encoding: raw") lf
     ∷ ls
 
-from-lines : (s : List ℕ) (ls : List Line) → lines (s ++ LF ∷ []) ≡ ls → length (headerWith s) ≤ maxFile → header (headerWith s) ≡ fromFirst (fiveLines ls)
+from-lines : (s : List ℕ) (ls : List Line) → lines (s ++ LF ∷ []) ≡ ls → length s + 57 ≤ maxFile → header (headerWith s) ≡ fromFirst (fiveLines ls)
 unfolding lines header texts
-from-lines s ls p h = rw (le-ltb maxFile (length (headerWith s)) h) (ap (λ (x : List Line). fromFirst (fiveLines x)) p)
+from-lines s ls p h =
+    rw (le-ltb maxFile (length (headerWith s)) (simp length-append (omega arith))) (ap (λ (x : List Line). fromFirst (fiveLines x)) p)
 
-with-comment : (n : ℕ) → n + 59 ≤ maxFile → header (headerWith (comment (suc n))) ≡ fromFirst (fiveLines (line (HASH ∷ replicate n HASH) lf ∷ line [] lf ∷ []))
-unfolding texts
-with-comment n h = from-lines (comment (suc n)) _ (two-lines (suc n)) (simp (length-append, length-replicate) (omega arith))
+past-five : (ls : List Line) → answered (fromFirst (fiveLines ls)) ≡ walked 6 56 ls
+unfolding every same alike beginsWith isIn isAny rowFrom mark fieldAt descriptorOf inOrder trimFront trimEnd descriptor digitsFrom number parts notEmpty numbersIn typeAt mayDescribe magicVersion onField judge walk
+past-five ls = go (walk 1 6 56 fields ls) refl
+  where
+    go : (o : Outcome) → walk 1 6 56 fields ls ≡ o → answered (fromFirst (fiveLines ls)) ≡ answered o
+    go (refused r) e = rw e
+    go (accepted es gs r) e = rw e
 
--- by the bytes of the comment's line after its first one
-taken : (t : List ℕ) → length (t ++ LF ∷ []) ≡ 65_477 → readAnswer (fromFirst (fiveLines (line (HASH ∷ t) lf ∷ line [] lf ∷ []))) .refusal ≡ fine
-unfolding every same alike beginsWith isIn isAny rowFrom mark fieldAt descriptorOf inOrder trimFront trimEnd descriptor digitsFrom number parts notEmpty numbersIn typeAt mayDescribe hasNeeded product magicVersion onField judge complete walk
-taken t p = rw p
+five-lines : (s : List ℕ) (ls : List Line) → lines (s ++ LF ∷ []) ≡ ls → length s + 57 ≤ maxFile → refusalOf (headerWith s) ≡ walked 6 56 ls
+five-lines s ls p h = ap answered (from-lines s ls p h) ∙ past-five ls
 
-refused : (t : List ℕ) → length (t ++ LF ∷ []) ≡ 65_478 → readAnswer (fromFirst (fiveLines (line (HASH ∷ t) lf ∷ line [] lf ∷ []))) .refusal ≡ atLine 3 7
-unfolding every same alike beginsWith isIn isAny rowFrom mark fieldAt descriptorOf inOrder trimFront trimEnd descriptor digitsFrom number parts notEmpty numbersIn typeAt mayDescribe hasNeeded product magicVersion onField judge complete walk
-refused t p = rw p
+over-comment : (n at : ℕ) (t : List ℕ) (ls : List Line) → at + size (line (HASH ∷ t) lf) ≤ maxHeader → n ≤ maxLines
+    → walked n at (line (HASH ∷ t) lf ∷ ls) ≡ walked (n + 1) (at + size (line (HASH ∷ t) lf)) ls
+unfolding walk judge
+over-comment n at t ls h k =
+    rw (le-ltb maxHeader (at + size (line (HASH ∷ t) lf)) h, le-ltb maxLines n k) (go (walk 1 (n + 1) (at + size (line (HASH ∷ t) lf)) fields ls))
+  where
+    go : (o : Outcome) → answered (withEntry (entry (line (HASH ∷ t) lf) Rattle.format.specs.Header.comment) o) ≡ answered o
+    go (refused r) = refl
+    go (accepted es gs r) = refl
+
+over-comments : (k n at m e : ℕ) → m ≡ n + k → e ≡ at + 2 * k → e ≤ maxHeader → m ≤ maxLines + 1 → walked n at (hashLines k) ≡ walked m e closingLine
+over-comments zero n at m e p q h l = let x : m ≡ n = omega arith in let y : e ≡ at = omega arith in rw (x, y)
+over-comments (suc k) n at m e p q h l =
+    over-comment n at [] (hashLines k) (omega arith) (omega arith) ∙ over-comments k (n + 1) (at + 2) m e (omega arith) (omega arith) h l
+
+-- ---- the closing line, at either side of a limit
+
+closings :
+    (walked 7 (maxHeader - 1) closingLine ≡ fine) × (walked 7 maxHeader closingLine ≡ atLine 3 7)
+    × (walked maxLines (44 + 2 * maxLines) closingLine ≡ fine) × (walked (maxLines + 1) (46 + 2 * maxLines) closingLine ≡ atLine 4 (maxLines + 1))
+unfolding every same alike isIn isAny rowFrom descriptorOf digitsFrom number parts notEmpty typeAt hasNeeded product judge complete walk
+closings = (refl, refl, refl, refl)
 
 -- ---- both limits
 
+-- a comment of n bytes: the closing line starts at n + 57
+with-comment : (n : ℕ) → n + 57 ≤ maxHeader → 1 ≤ n → refusalOf (headerWith (comment n)) ≡ walked 7 (n + 57) closingLine
+with-comment zero h k = absurd (omega arith)
+with-comment (suc n) h k =
+    let e : 56 + size (line (HASH ∷ replicate n HASH) lf) ≡ suc n + 57 = simp (length-append, length-replicate) (omega arith) in
+    five-lines (comment (suc n)) _ (comment-lines (suc n)) (simp (length-append, length-replicate) (omega (arith, header-in-file)))
+    ∙ over-comment 6 56 (replicate n HASH) closingLine (omega arith) (omega (arith, lines-in-header))
+    ∙ ap (λ (b : ℕ). walked 7 b closingLine) e
+
+-- n comments of a byte: the closing line is line n + 6
+with-comments : (n : ℕ) → n + 5 ≤ maxLines → refusalOf (headerWith (comments n)) ≡ walked (n + 6) (56 + 2 * n) closingLine
+with-comments n h =
+    five-lines (comments n) (hashLines n) (comments-lines n) (omega (arith, comments-long n, header-in-file, lines-in-header))
+    ∙ over-comments n 6 56 (n + 6) (56 + 2 * n) (omega arith) refl (omega (arith, lines-in-header)) (omega arith)
+
 pub at-limits : AtLimits
-unfolding every same alike beginsWith isIn isAny rowFrom lines mark fieldAt descriptorOf inOrder trimFront trimEnd descriptor digitsFrom number parts notEmpty numbersIn typeAt mayDescribe hasNeeded product magicVersion onField judge complete walk header texts
 at-limits =
     record {
-      bytes-taken = ap (λ (o : Outcome). readAnswer o .refusal) (with-comment 65_476 (omega arith)) ∙ taken (replicate 65_476 HASH) (line-long 65_476);
-      bytes-refused = ap (λ (o : Outcome). readAnswer o .refusal) (with-comment 65_477 (omega arith)) ∙ refused (replicate 65_477 HASH) (line-long 65_477);
-      lines-taken = refl;
-      lines-refused = refl;
+      bytes-taken = with-comment (maxHeader - 58) (omega arith) (omega arith) ∙ closings .0;
+      bytes-refused = with-comment (maxHeader - 57) (omega arith) (omega arith) ∙ closings .1;
+      lines-taken = with-comments (maxLines - 6) (omega arith) ∙ closings .2;
+      lines-refused = with-comments (maxLines - 5) (omega arith) ∙ closings .3;
     }

@@ -1,3 +1,4 @@
+pub mod LimitLaws
 pub mod Bytes
 pub mod Stores
 pub mod Lines

@@ -1,4 +1,4 @@
--- Laws of products that stop at 2 to the 32.
+-- Laws of products that stop at the least number that is no extent.
 -- Assumes nothing.
 use Prim.Native.Nat.{ℕ, suc, _+_, _*_, _≤_, _<_}
 use native.Mathlib.Nat.{one-mul, zero-mul, mul-assoc, mul-comm, mul-le-mul}
@@ -11,25 +11,30 @@ use lib.Dec.{eqb, leb}
 use lib.ListN.{length, getD, drop, drop-of-length-le}
 use lib.Seq.{drop-cons}
 use borrow.Author.Tests.{leb-true, leb-false, eqb-true, eqb-false}
+use Rattle.format.specs.Limits.{maxExtent, pastExtent}
 use Rattle.format.specs.Descriptors.{product, capped}
 
 -- a product is at least one factor where the other one is not 0
 pub times-right : (a b c : ℕ) → 1 ≤ a → c ≤ b → c ≤ a * b
 times-right a b c h k = rw one-mul at (mul-le-mul {n₁ = 1} {m₁ = c} h k)
 
+-- the product of two extents is a number of 64 bits
+pub factors-fit : (a b : ℕ) → a < pastExtent → b < pastExtent → a * b ≤ maxExtent * maxExtent
+factors-fit a b h k = mul-le-mul {n₁ = a} {m₁ = b} {n₂ = maxExtent} {m₂ = maxExtent} (omega arith) (omega arith)
+
 -- a factor may be capped
 pub times-capped : (a b : ℕ) → capped (a * capped b) ≡ capped (a * b)
-times-capped a b = go (leb b 4294967296) refl (eqb a 0) refl
+times-capped a b = go (leb b pastExtent) refl (eqb a 0) refl
   where
-    go : (x : Bool) → leb b 4294967296 ≡ x → (y : Bool) → eqb a 0 ≡ y → capped (a * capped b) ≡ capped (a * b)
+    go : (x : Bool) → leb b pastExtent ≡ x → (y : Bool) → eqb a 0 ≡ y → capped (a * capped b) ≡ capped (a * b)
     go true e y f = let m : capped b ≡ b = omega (arith, leb-true) in rw m
     go false e true f = rw (eqb-true a 0 f, zero-mul (capped b), zero-mul b)
     go false e false f =
-        let l = leb-false b 4294967296 e in
+        let l = leb-false b pastExtent e in
         let z = eqb-false a 0 f in
-        let m : capped b ≡ 4294967296 = omega arith in
-        let p = times-right a 4294967296 4294967296 (omega arith) (omega arith) in
-        let q = times-right a b 4294967296 (omega arith) (omega arith) in
+        let m : capped b ≡ pastExtent = omega arith in
+        let p = times-right a pastExtent pastExtent (omega arith) (omega arith) in
+        let q = times-right a b pastExtent (omega arith) (omega arith) in
         rw m (omega arith)
 
 module _ (s : List ℕ) (i p : ℕ) where

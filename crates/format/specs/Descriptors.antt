@@ -8,7 +8,7 @@ use mathlib.Core.Option.{Option, none, some}
 use lib.Dec.{eqb, ltb}
 use lib.ListN.{length, getD}
 use Rattle.format.specs.Bytes.{if_then_else_, bytes, between, spaceOrTab, isDigit, same, beginsWith, isIn, isEmpty, rowOf, isSome, orDefault, PERCENT}
-use Rattle.format.specs.Limits.{maxAxes, maxSize, maxSkip}
+use Rattle.format.specs.Limits.{maxAxes, maxSize, maxSkip, pastExtent}
 use Rattle.format.specs.Fields.{Given, descriptorOf, isGiven, isUnderstood, dimension, type, encoding, endian, sizes, lineSkip, byteSkip, dataFile}
 
 -- ---- the text of a descriptor
@@ -286,6 +286,6 @@ extent ns t = product ns * sampleBytes t
 abbrev pub extentOf : List Given → ℕ
 extentOf gs = extent (sizesOf gs) (typeOf gs)
 
--- a number, or 2 to the 32 for all that are above it: no extent may be as large
+-- a number, or the least that is no extent for all that are above it
 abbrev pub capped : ℕ → ℕ
-capped n = min n 4_294_967_296
+capped n = min n pastExtent

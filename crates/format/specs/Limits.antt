@@ -1,5 +1,5 @@
 -- The limits of document 01, each named once.
-use Prim.Native.Nat.{ℕ}
+use Prim.Native.Nat.{ℕ, _+_, _*_, min}
 use Rattle.format.specs.declared.Limits.{Limits}
 
 -- no file is longer ("Numbers of refusal", 1)
@@ -30,18 +30,50 @@ maxSkip = 4_294_967_295
 abbrev pub maxExtent : ℕ
 maxExtent = 4_294_967_295
 
+-- the least number that is no extent: larger ones are cut to it (`capped`)
+abbrev pub pastExtent : ℕ
+pastExtent = maxExtent + 1
+
 -- the latest version ("What is read, written and corrected")
 abbrev pub maxVersion : ℕ
 maxVersion = 5
-
--- the most bytes that the listing program reads ("Trials")
-abbrev pub maxListed : ℕ
-maxListed = 65_536
 
 -- the largest sample: samples go to a list of signed 64-bit numbers (20)
 abbrev pub maxSample : ℕ
 maxSample = 9_223_372_036_854_775_807
 
+-- ---- the listing
+
+-- the most bytes that the listing program reads ("Trials")
+abbrev pub maxListed : ℕ
+maxListed = 65_536
+
+-- the most bytes of a reading's lines in a listing, all but those of its keys: 144 for their words, names and numbers, and 21 for each size
+abbrev pub maxReading : ℕ
+maxReading = 144 + 21 * maxAxes
+
+-- the most bytes of the lines of its keys: the longest header that a listed file can have, and 4 more for each of its lines
+abbrev pub maxKeys : ℕ
+maxKeys = min maxHeader maxListed + 4 * maxLines
+
+-- no listing is longer
+abbrev pub maxListing : ℕ
+maxListing = maxReading + maxKeys
+
+-- ---- all of them
+
 abbrev pub limits : Limits
 limits =
-    record { file = maxFile; header = maxHeader; lines = maxLines; axes = maxAxes; size = maxSize; skip = maxSkip; extent = maxExtent; version = maxVersion; listed = maxListed; sample = maxSample }
+    record {
+      file = maxFile;
+      header = maxHeader;
+      lines = maxLines;
+      axes = maxAxes;
+      size = maxSize;
+      skip = maxSkip;
+      extent = maxExtent;
+      version = maxVersion;
+      sample = maxSample;
+      listed = maxListed;
+      listing = maxListing;
+    }

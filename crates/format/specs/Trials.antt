@@ -1,6 +1,6 @@
 -- The starred trials (document 01, "Trials"), as one list under one statement: `StarredTrials`.
 -- Each trial is what a call answers, beside what document 01 says it answers; proofs/ computes them all.
-use Prim.Native.Nat.{ℕ, zero, suc}
+use Prim.Native.Nat.{ℕ, zero, suc, _+_, _-_}
 use Prim.Native.String.{String}
 use mathlib.Core.Path.{_≡_}
 use mathlib.Core.Bool.{true, false}
@@ -16,6 +16,7 @@ use Rattle.format.specs.declared.CountAnswer.{CountAnswer}
 use Rattle.format.specs.declared.NumberAnswer.{NumberAnswer}
 use Rattle.format.specs.declared.SetAnswer.{SetAnswer}
 use Rattle.format.specs.Bytes.{bytes, LF, HASH}
+use Rattle.format.specs.Limits.{maxHeader, maxLines}
 use Rattle.format.specs.Refusals.{atLine, refusal, fine}
 use Rattle.format.specs.Calls.{readHeaderCall, readCall, copyValueCall, dataPlaceCall, dataCall, samplesCall, sampleNumberCall, setKeyCall}
 
@@ -194,11 +195,11 @@ comments zero = []
 comments (suc n) = HASH ∷ LF ∷ comments n
 
 pub record AtLimits : Type 0 where
-  -- 56 + 65,478 + 1 bytes
-  pub bytes-taken : refusalOf (headerWith (comment 65_477)) ≡ fine
-  -- the closing line ends at byte 65,536
-  pub bytes-refused : refusalOf (headerWith (comment 65_478)) ≡ atLine 3 7
-  -- 5 + 1,018 + 1 lines
-  pub lines-taken : refusalOf (headerWith (comments 1_018)) ≡ fine
-  -- the closing line is line 1,025
-  pub lines-refused : refusalOf (headerWith (comments 1_019)) ≡ atLine 4 1_025
+  -- 56 bytes, the comment with its LF, and the LF of the closing line: as many as a header may have
+  pub bytes-taken : refusalOf (headerWith (comment (maxHeader - 58))) ≡ fine
+  -- the closing line ends a byte later
+  pub bytes-refused : refusalOf (headerWith (comment (maxHeader - 57))) ≡ atLine 3 7
+  -- five lines, the comments and the closing line: as many as a header may have
+  pub lines-taken : refusalOf (headerWith (comments (maxLines - 6))) ≡ fine
+  -- the closing line is one too many
+  pub lines-refused : refusalOf (headerWith (comments (maxLines - 5))) ≡ atLine 4 (maxLines + 1)

@@ -28,9 +28,20 @@ pub const MAX_EXTENT: u64 = 4294967295;
 
 pub const MAX_VERSION: u64 = 5;
 
+pub const MAX_SAMPLE: u64 = 9223372036854775807;
+
+// The listing: the most bytes of a file that is listed, of a reading's lines without those of its keys, of a header, and of a listing.
 pub const MAX_LISTED: usize = 65536;
 
-pub const MAX_SAMPLE: u64 = 9223372036854775807;
+const MAX_READING: usize = 144 + 21 * MAX_AXES as usize;
+
+const LISTED_HEADER: usize = if MAX_HEADER < MAX_LISTED {
+    MAX_HEADER
+} else {
+    MAX_LISTED
+};
+
+pub const MAX_LISTING: usize = MAX_READING + LISTED_HEADER + 4 * MAX_LINES as usize;
 
 // The numbers of refusal.
 pub const FILE_TOO_LONG: u32 = 1;
@@ -108,8 +119,9 @@ pub struct Limits {
     pub skip: u64,
     pub extent: u64,
     pub version: u64,
-    pub listed: usize,
     pub sample: u64,
+    pub listed: usize,
+    pub listing: usize,
 }
 
 // The numbers of refusal together, each by its name.
@@ -251,8 +263,9 @@ pub fn all_limits() -> Limits
         skip: MAX_SKIP,
         extent: MAX_EXTENT,
         version: MAX_VERSION,
-        listed: MAX_LISTED,
         sample: MAX_SAMPLE,
+        listed: MAX_LISTED,
+        listing: MAX_LISTING,
     }
 }
 

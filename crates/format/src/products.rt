@@ -1,9 +1,12 @@
-// Products that stop at 2 to the 32: no extent may be as large, and no factors overflow.
+// Products that stop at the least number that is no extent, so that no factors overflow.
 ghost use mathlib.Core.Path.{_≡_};
 ghost use Prim.Native.Nat.{_*_};
 ghost use Rattle.format.specs.Descriptors.{product, capped};
 
-// A product, or 2 to the 32 for all that are above it.
+// The least number that is no extent.
+const PAST_EXTENT: u64 = crate::MAX_EXTENT + 1;
+
+// A product, or `PAST_EXTENT` for all that are above it.
 pub fn times(a: u64, b: u64) -> u64
     ensures { λ r. ⌜ r ≡ capped (a * b) ⌝ }
 {
@@ -13,17 +16,17 @@ pub fn times(a: u64, b: u64) -> u64
     if b == 0 {
         return 0;
     }
-    if 4294967296 <= a {
-        return 4294967296;
+    if PAST_EXTENT <= a {
+        return PAST_EXTENT;
     }
-    if 4294967296 <= b {
-        return 4294967296;
+    if PAST_EXTENT <= b {
+        return PAST_EXTENT;
     }
     let p = a * b;
-    if p < 4294967296 { p } else { 4294967296 }
+    if p < PAST_EXTENT { p } else { PAST_EXTENT }
 }
 
-// The product of the numbers, or 2 to the 32 where it is above.
+// The product of the numbers, or `PAST_EXTENT` where it is above.
 pub fn product(ns: &[u64]) -> u64
     ensures { λ r. ⌜ r ≡ capped (product (now (ns .entry))) ⌝ }
 {

@@ -40,6 +40,14 @@ pub fn part<'a>(s: &'a [u8], at: usize, n: usize) -> &'a [u8] {
     &s[at..at + n]
 }
 
+// The bytes from `from` on, none where that is past the end.
+pub fn rest(s: &[u8], from: usize) -> &[u8] {
+    if s.len() < from {
+        return &s[..0];
+    }
+    &s[from..]
+}
+
 // The bytes of the run at `at`.
 pub fn run_at<'a>(s: &'a [u8], at: usize) -> &'a [u8] {
     part(s, plus(at, 4), number_at(s, at) as usize)

@@ -2,12 +2,14 @@
 use libc::STDIN_FILENO;
 use libc::STDOUT_FILENO;
 
+// A byte more than is listed, so that a longer file is told.
+const FILE: usize = format::MAX_LISTED + 1;
+
 fn main() {
-    // a byte more than is listed, so that a longer file is told
-    let mut file = [0u8; 65537];
+    let mut file = [0u8; FILE];
     let n = io::read_full(STDIN_FILENO, &mut file);
     // enough for any listing, as `describe::listing` ensures
-    let mut out = [0u8; 70111];
+    let mut out = [0u8; format::MAX_LISTING];
     let answer = describe::listing(&file[..n], &mut out);
     io::write_all(STDOUT_FILENO, &out[..answer.length as usize]);
 }

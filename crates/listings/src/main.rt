@@ -13,10 +13,17 @@ use format::WriteAnswer;
 use frames::parts::number_at;
 use frames::parts::part;
 use frames::parts::refusal_at;
+use frames::parts::rest;
 use frames::parts::run_at;
 use frames::parts::run_end;
 use frames::parts::same_refusal;
 use frames::report::MALFORMED;
+
+// The most bytes of a case.
+const CASE: usize = 147456;
+
+// The bytes of the buffer: more than any listing has.
+const ROOM: usize = format::MAX_LISTING + 33;
 
 // What the bytes of the buffer are before the call.
 const UNTOUCHED: u8 = 165;
@@ -29,17 +36,9 @@ fn list_to(file: &[u8], out: &mut [u8], room: usize) -> WriteAnswer {
     describe::listing(file, out)
 }
 
-// The bytes from `from` on, none where that is past the end.
-fn rest(s: &[u8], from: usize) -> &[u8] {
-    if s.len() < from {
-        return &s[..0];
-    }
-    &s[from..]
-}
-
 // Whether the bytes of the buffer are the text and then as they were before the call.
-fn holds(out: &[u8; 70144], text: &[u8]) -> bool {
-    let before = [UNTOUCHED; 70144];
+fn holds(out: &[u8; ROOM], text: &[u8]) -> bool {
+    let before = [UNTOUCHED; ROOM];
     let n = text.len();
     check::same(part(out, 0, n), text) & check::same(rest(out, n), rest(&before, n))
 }
@@ -51,7 +50,7 @@ fn case_fault(s: &[u8]) -> u32 {
     if run_end(s, at) != s.len() {
         return MALFORMED;
     }
-    let mut out = [UNTOUCHED; 70144];
+    let mut out = [UNTOUCHED; ROOM];
     let answer = list_to(run_at(s, 16), &mut out, number_at(s, 0) as usize);
     let told = answer.refusal;
     if !same_refusal(told, refusal_at(s, 4)) | (answer.length != text.len() as u64) {
@@ -64,14 +63,14 @@ fn case_fault(s: &[u8]) -> u32 {
 }
 
 // The part that is wrong of the case in the first `n` bytes.
-fn fault_in(buffer: &[u8; 147456], n: usize) -> u32 {
+fn fault_in(buffer: &[u8; CASE], n: usize) -> u32 {
     case_fault(part(buffer, 0, n))
 }
 
 // The part that is wrong of the next case of the input.
 fn next_fault() -> u32 {
     let n = frames::input::next_number() as usize;
-    let mut buffer = [0u8; 147456];
+    let mut buffer = [0u8; CASE];
     if !frames::input::fill(&mut buffer, n) {
         return MALFORMED;
     }

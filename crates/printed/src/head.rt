@@ -6,10 +6,11 @@ ghost use mathlib.Core.List.{_++_, _∷_, []};
 ghost use Prim.Native.Nat.{_+_, _*_, _≤_, _<_};
 ghost use lib.ListN.{length};
 ghost use Rattle.format.specs.Bytes.{if_then_else_, SPACE};
+ghost use Rattle.format.specs.Limits.{maxAxes, maxListing};
 ghost use Rattle.format.specs.Descriptors.{encodings};
 ghost use Rattle.format.specs.Writer.{decimal, spaced, nameAt};
 ghost use Rattle.format.specs.Listing.{shown};
-ghost use Rattle.printed.specs.Printed.{Printed, maxPlace};
+ghost use Rattle.printed.specs.Printed.{Printed};
 ghost use Rattle.printed.specs.Lines.{rowFor, formText, typeText, endianText, topText, middleText, endText};
 
 // The row of a table for a number, and the row `past` for a number that the table does not have.
@@ -26,7 +27,7 @@ const FORMS: [u8; 16] = *b"attacheddetached";
 
 // The line of the form.
 fn put_form(out: &mut [u8], at: usize, form: u32) -> usize
-    requires { ⌜ at + 14 ≤ maxPlace ⌝ }
+    requires { ⌜ at + 14 ≤ maxListing ⌝ }
     ensures { λ r. ⌜ Printed 14 (now (out .entry)) at (shown "form" (formText form)) (now (out .exit)) r ⌝ }
 {
     let a = 8 * row(form, 2, 0);
@@ -36,7 +37,7 @@ fn put_form(out: &mut [u8], at: usize, form: u32) -> usize
 
 // The line of the type. A number past the list stands for the first.
 fn put_type(out: &mut [u8], at: usize, sampletype: u32) -> usize
-    requires { ⌜ at + 12 ≤ maxPlace ⌝ }
+    requires { ⌜ at + 12 ≤ maxListing ⌝ }
     ensures { λ r. ⌜ Printed 12 (now (out .entry)) at (shown "type" (typeText sampletype)) (now (out .exit)) r ⌝ }
 {
     let t = row(sampletype, 10, 0);
@@ -47,7 +48,7 @@ fn put_type(out: &mut [u8], at: usize, sampletype: u32) -> usize
 
 // A size, and a space if there are more.
 fn put_size(out: &mut [u8], at: usize, n: u64, more: bool) -> usize
-    requires { ⌜ at + 21 ≤ maxPlace ⌝ }
+    requires { ⌜ at + 21 ≤ maxListing ⌝ }
     ensures { λ r. ⌜ Printed 21 (now (out .entry)) at (decimal n ++ (if more then SPACE ∷ [] else [])) (now (out .exit)) r ⌝ }
 {
     let e = put::put_decimal(out, at, n);
@@ -59,7 +60,7 @@ fn put_size(out: &mut [u8], at: usize, n: u64, more: bool) -> usize
 
 // Sizes parted by one space.
 fn put_spaced(out: &mut [u8], at: usize, ns: &[u64]) -> usize
-    requires { ⌜ at + 21 * length (now ns) ≤ maxPlace ⌝ }
+    requires { ⌜ at + 21 * length (now ns) ≤ maxListing ⌝ }
     ensures { λ r. ⌜ Printed (21 * length (now (ns .entry))) (now (out .entry)) at (spaced (now (ns .entry))) (now (out .exit)) r ⌝ }
 {
     let mut o = at;
@@ -73,8 +74,8 @@ fn put_spaced(out: &mut [u8], at: usize, ns: &[u64]) -> usize
 
 // The line of the sizes.
 fn put_sizes(out: &mut [u8], at: usize, ns: &[u64]) -> usize
-    requires { ⌜ (at + 343 ≤ maxPlace) × (length (now ns) ≤ 16) ⌝ }
-    ensures { λ r. ⌜ Printed 343 (now (out .entry)) at (shown "sizes" (spaced (now (ns .entry)))) (now (out .exit)) r ⌝ }
+    requires { ⌜ (at + (7 + 21 * maxAxes) ≤ maxListing) × (length (now ns) ≤ maxAxes) ⌝ }
+    ensures { λ r. ⌜ Printed (7 + 21 * maxAxes) (now (out .entry)) at (shown "sizes" (spaced (now (ns .entry)))) (now (out .exit)) r ⌝ }
 {
     let a = put::put_bytes(out, at, b"sizes ");
     let e = put_spaced(out, a, ns);
@@ -86,7 +87,7 @@ const ENCODING_LENGTHS: [usize; 4] = [3, 3, 3, 0];
 
 // The line of the encoding.
 fn put_encoding(out: &mut [u8], at: usize, encoding: u32) -> usize
-    requires { ⌜ at + 13 ≤ maxPlace ⌝ }
+    requires { ⌜ at + 13 ≤ maxListing ⌝ }
     ensures { λ r. ⌜ Printed 13 (now (out .entry)) at (shown "encoding" (nameAt encodings encoding)) (now (out .exit)) r ⌝ }
 {
     let t = row(encoding, 4, 3);
@@ -102,7 +103,7 @@ const ENDIAN_LENGTHS: [usize; 4] = [6, 3, 4, 0];
 
 // The line of the endian.
 fn put_endian(out: &mut [u8], at: usize, endian: u32) -> usize
-    requires { ⌜ at + 14 ≤ maxPlace ⌝ }
+    requires { ⌜ at + 14 ≤ maxListing ⌝ }
     ensures { λ r. ⌜ Printed 14 (now (out .entry)) at (shown "endian" (endianText endian)) (now (out .exit)) r ⌝ }
 {
     let t = row(endian, 4, 3);
@@ -122,8 +123,8 @@ pub fn put_top(out: &mut [u8], reading: Reading) -> usize
 
 // The lines of the sizes, the encoding and the endian.
 pub fn put_middle(out: &mut [u8], at: usize, reading: Reading) -> usize
-    requires { ⌜ (at + 370 ≤ maxPlace) × (reading .dimension ≤ length (reading .sizes)) ⌝ }
-    ensures { λ r. ⌜ Printed 370 (now (out .entry)) at (middleText reading) (now (out .exit)) r ⌝ }
+    requires { ⌜ (at + (34 + 21 * maxAxes) ≤ maxListing) × (reading .dimension ≤ length (reading .sizes)) ⌝ }
+    ensures { λ r. ⌜ Printed (34 + 21 * maxAxes) (now (out .entry)) at (middleText reading) (now (out .exit)) r ⌝ }
 {
     let sizes = reading.sizes;
     let n = reading.dimension as usize;
@@ -134,7 +135,7 @@ pub fn put_middle(out: &mut [u8], at: usize, reading: Reading) -> usize
 
 // The lines of the start and the extent.
 pub fn put_end(out: &mut [u8], at: usize, start: u64, extent: u64) -> usize
-    requires { ⌜ at + 55 ≤ maxPlace ⌝ }
+    requires { ⌜ at + 55 ≤ maxListing ⌝ }
     ensures { λ r. ⌜ Printed 55 (now (out .entry)) at (endText start extent) (now (out .exit)) r ⌝ }
 {
     let e = put::put_number(out, at, b"start ", start);

@@ -4,12 +4,13 @@ ghost use mathlib.Core.List.{_∷_, [], _++_};
 ghost use Prim.Native.Nat.{_+_, _≤_};
 ghost use lib.ListN.{length};
 ghost use Rattle.format.specs.Bytes.{LF};
+ghost use Rattle.format.specs.Limits.{maxListing};
 ghost use Rattle.format.specs.Writer.{decimal};
-ghost use Rattle.printed.specs.Printed.{Printed, maxPlace};
+ghost use Rattle.printed.specs.Printed.{Printed};
 
 // A byte.
 fn put_byte(out: &mut [u8], at: usize, b: u8) -> usize
-    requires { ⌜ at + 1 ≤ maxPlace ⌝ }
+    requires { ⌜ at + 1 ≤ maxListing ⌝ }
     ensures { λ r. ⌜ Printed 1 (now (out .entry)) at (b ∷ []) (now (out .exit)) r ⌝ }
 {
     if at < out.len() {
@@ -21,7 +22,7 @@ fn put_byte(out: &mut [u8], at: usize, b: u8) -> usize
 
 // The bytes s.
 pub fn put_bytes(out: &mut [u8], at: usize, s: &[u8]) -> usize
-    requires { ⌜ at + length (now s) ≤ maxPlace ⌝ }
+    requires { ⌜ at + length (now s) ≤ maxListing ⌝ }
     ensures { λ r. ⌜ Printed (length (now (s .entry))) (now (out .entry)) at (now (s .entry)) (now (out .exit)) r ⌝ }
 {
     let mut o = at;
@@ -35,7 +36,7 @@ pub fn put_bytes(out: &mut [u8], at: usize, s: &[u8]) -> usize
 
 // The digits of a number.
 pub fn put_decimal(out: &mut [u8], at: usize, n: u64) -> usize
-    requires { ⌜ at + 20 ≤ maxPlace ⌝ }
+    requires { ⌜ at + 20 ≤ maxListing ⌝ }
     ensures { λ r. ⌜ Printed 20 (now (out .entry)) at (decimal n) (now (out .exit)) r ⌝ }
 {
     if n < 10 {
@@ -47,7 +48,7 @@ pub fn put_decimal(out: &mut [u8], at: usize, n: u64) -> usize
 
 // A word, a text, and LF.
 pub fn put_line(out: &mut [u8], at: usize, word: &[u8], s: &[u8]) -> usize
-    requires { ⌜ at + (length (now word) + (length (now s) + 1)) ≤ maxPlace ⌝ }
+    requires { ⌜ at + (length (now word) + (length (now s) + 1)) ≤ maxListing ⌝ }
     ensures { λ r. ⌜ Printed (length (now (word .entry)) + (length (now (s .entry)) + 1)) (now (out .entry)) at (now (word .entry) ++ (now (s .entry) ++ LF ∷ [])) (now (out .exit)) r ⌝ }
 {
     let a = put_bytes(out, at, word);
@@ -57,7 +58,7 @@ pub fn put_line(out: &mut [u8], at: usize, word: &[u8], s: &[u8]) -> usize
 
 // A word, a number, and LF.
 pub fn put_number(out: &mut [u8], at: usize, word: &[u8], n: u64) -> usize
-    requires { ⌜ at + (length (now word) + 21) ≤ maxPlace ⌝ }
+    requires { ⌜ at + (length (now word) + 21) ≤ maxListing ⌝ }
     ensures { λ r. ⌜ Printed (length (now (word .entry)) + 21) (now (out .entry)) at (now (word .entry) ++ (decimal n ++ LF ∷ [])) (now (out .exit)) r ⌝ }
 {
     let a = put_bytes(out, at, word);

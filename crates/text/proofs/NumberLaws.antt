@@ -15,7 +15,7 @@ use borrow.Author.Tests.{leb-true, leb-false, eqb-true, eq-eqb, ne-eqb, le-leb, 
 use Rattle.format.specs.Bytes.{if_then_else_, spaceOrTab, isDigit, orDefault, SPACE, TAB}
 use Rattle.format.specs.Limits.{maxSize}
 use Rattle.format.specs.Descriptors.{digitsFrom, number, joinFirst, parts, notEmpty, words, within, numbersIn, valueOfNumber}
-use Rattle.text.specs.Numbers.{numberAnswer, sizeAnswer, firstWord, noSizes, sizesAnswer}
+use Rattle.text.specs.Numbers.{pastSize, numberAnswer, sizeAnswer, firstWord, noSizes, sizesAnswer}
 use Rattle.text.specs.declared.numbers.Number.the-variants.{Value, Wrong}
 use Rattle.text.specs.declared.numbers.Sizes.{Sizes}
 use Rattle.text.proofs.Places.{drop-next}
@@ -34,12 +34,12 @@ above n (b ∷ s) h = go (isDigit b) (above (n * 10 + (b - 48)) s (omega arith))
     go false e = refl
 
 -- so it may be cut to the first that is above it
-cut : (n : ℕ) (s : List ℕ) → numberAnswer (digitsFrom n s) ≡ numberAnswer (digitsFrom (min n 4294967296) s)
+cut : (n : ℕ) (s : List ℕ) → numberAnswer (digitsFrom n s) ≡ numberAnswer (digitsFrom (min n pastSize) s)
 cut n s = go (leb n maxSize) refl
   where
-    go : (x : Bool) → leb n maxSize ≡ x → numberAnswer (digitsFrom n s) ≡ numberAnswer (digitsFrom (min n 4294967296) s)
-    go true e = let m : min n 4294967296 ≡ n = omega (arith, leb-true) in rw m
-    go false e = above n s (leb-false n maxSize e) ∙ sym (above (min n 4294967296) s (omega (arith, leb-false)))
+    go : (x : Bool) → leb n maxSize ≡ x → numberAnswer (digitsFrom n s) ≡ numberAnswer (digitsFrom (min n pastSize) s)
+    go true e = let m : min n pastSize ≡ n = omega (arith, leb-true) in rw m
+    go false e = above n s (leb-false n maxSize e) ∙ sym (above (min n pastSize) s (omega (arith, leb-false)))
 
 -- the empty text is no number, and any other is what its digits write
 pub number-empty : (s : List ℕ) → length s ≡ 0 → number s ≡ none
@@ -64,7 +64,7 @@ module _ (s : List ℕ) (i v : ℕ) where
 
   -- one digit more
   pub digits-next : i < length s → 48 ≤ getD s i 0 → getD s i 0 ≤ 57
-      → numberAnswer (digitsFrom v (drop i s)) ≡ numberAnswer (digitsFrom (min (v * 10 + (getD s i 0 - 48)) 4294967296) (drop (i + 1) s))
+      → numberAnswer (digitsFrom v (drop i s)) ≡ numberAnswer (digitsFrom (min (v * 10 + (getD s i 0 - 48)) pastSize) (drop (i + 1) s))
   unfolding digitsFrom
   digits-next h d e =
       rw (drop-next s i h, le-leb 48 (getD s i 0) d, le-leb (getD s i 0) 57 e) (cut (v * 10 + (getD s i 0 - 48)) (drop (i + 1) s))

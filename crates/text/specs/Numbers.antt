@@ -1,5 +1,5 @@
 -- Internal to the library. The answers of the functions on numbers.
-use Prim.Native.Nat.{ℕ, _-_}
+use Prim.Native.Nat.{ℕ, _+_, _-_}
 use mathlib.Core.Bool.{true, false, _&&_}
 use mathlib.Core.List.{List, [], _∷_, _++_, map}
 use mathlib.Core.Option.{Option, none, some}
@@ -11,6 +11,10 @@ use Rattle.format.specs.Descriptors.{sizesFine, valueOfNumber}
 use Rattle.text.specs.declared.numbers.Number.{Number}
 use Rattle.text.specs.declared.numbers.Number.the-variants.{Value, Wrong}
 use Rattle.text.specs.declared.numbers.Sizes.{Sizes}
+
+-- the least number that no field has: larger ones are cut to it
+abbrev pub pastSize : ℕ
+pastSize = maxSize + 1
 
 -- a number up to the largest that any field has
 abbrev pub numberAnswer : Option ℕ → Number

@@ -3,9 +3,9 @@ ghost use mathlib.Core.Path.{_≡_};
 ghost use Prim.Native.Nat.{_*_, _+_, _≤_, min};
 ghost use lib.ListN.{length};
 ghost use Rattle.format.specs.Descriptors.{number, words};
-ghost use Rattle.text.specs.Numbers.{numberAnswer, sizeAnswer, firstWord, sizesAnswer};
+ghost use Rattle.text.specs.Numbers.{pastSize, numberAnswer, sizeAnswer, firstWord, sizesAnswer};
 
-// A number up to 4,294,967,295, or that the text is none.
+// A number up to `MAX_SIZE`, the limit of sizes and skips, or that the text is none.
 pub enum Number {
     Value(u64),
     Wrong,
@@ -17,11 +17,14 @@ pub struct Sizes {
     pub sizes: [u64; 16],
 }
 
-// A number, or 2 to the 32 for all that are above it: no run of digits overflows.
+// The least number that is above the limit.
+const PAST_SIZE: u64 = format::MAX_SIZE + 1;
+
+// A number, or `PAST_SIZE` for all that are above it: no run of digits overflows.
 fn cap(x: u64) -> u64
-    ensures { λ r. ⌜ r ≡ min x 4294967296 ⌝ }
+    ensures { λ r. ⌜ r ≡ min x pastSize ⌝ }
 {
-    if x < 4294967296 { x } else { 4294967296 }
+    if x < PAST_SIZE { x } else { PAST_SIZE }
 }
 
 fn wide(b: u8) -> u64
@@ -50,7 +53,7 @@ pub fn read_number(s: &[u8]) -> Number
         v = cap(v * 10 + wide(b - b'0'));
         i += 1;
     }
-    if v < 4294967296 {
+    if v < PAST_SIZE {
         Number::Value(v)
     } else {
         Number::Wrong
@@ -85,7 +88,7 @@ pub fn read_size(s: &[u8]) -> u64
     }
 }
 
-// As many numbers as the dimension, parted by spaces and tabs, each 1 to 4,294,967,295.
+// As many numbers as the dimension, parted by spaces and tabs, each 1 to `MAX_SIZE`.
 pub fn read_sizes(s: &[u8], dimension: usize) -> Sizes
     ensures { λ r. ⌜ r ≡ sizesAnswer dimension (words (now (s .entry))) ⌝ }
 {

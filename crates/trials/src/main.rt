@@ -25,6 +25,7 @@ use frames::parts::number_at;
 use frames::parts::part;
 use frames::parts::plus;
 use frames::parts::refusal_at;
+use frames::parts::rest;
 use frames::parts::run_at;
 use frames::parts::run_end;
 use frames::parts::same_refusal;
@@ -33,7 +34,13 @@ use frames::parts::text_end;
 use frames::parts::text_given;
 use frames::report::MALFORMED;
 
-// What the bytes of a buffer for a value are before the call.
+// The most bytes of a case.
+const CASE: usize = 131072;
+
+// The bytes of a buffer for a value: more than any value of the input has.
+const ROOM: usize = 65536;
+
+// What they are before the call.
 const UNTOUCHED: u8 = 165;
 
 // A place in a frame, and whether all up to there is right.
@@ -132,20 +139,11 @@ fn fields_right(file: &[u8], refusal: Refusal, s: &[u8], from: usize) -> Step {
     }
 }
 
-// Whether the bytes from `from` on are as they were before the call.
-fn untouched(out: &[u8; 65536], from: usize) -> bool {
-    let mut right = true;
-    let mut i = from;
-    while i < 65536 {
-        right = right & (out[i] == UNTOUCHED);
-        i += 1;
-    }
-    right
-}
-
 // Whether the bytes of the buffer are the value and then as they were before the call.
-fn holds(out: &[u8; 65536], value: &[u8]) -> bool {
-    untouched(out, value.len()) & check::same(part(out, 0, value.len()), value)
+fn holds(out: &[u8; ROOM], value: &[u8]) -> bool {
+    let before = [UNTOUCHED; ROOM];
+    let n = value.len();
+    check::same(part(out, 0, n), value) & check::same(rest(out, n), rest(&before, n))
 }
 
 // The answer of `copy_value` where the first `room` bytes of the buffer are lent, all where it has fewer.
@@ -165,7 +163,7 @@ fn copy_right(
     value: &[u8],
     room: usize,
 ) -> bool {
-    let mut out = [UNTOUCHED; 65536];
+    let mut out = [UNTOUCHED; ROOM];
     let a = copy_to(file, key, &mut out, room);
     let told = a.refusal;
     let found = (a.found == given) & (a.length == value.len() as u64);
@@ -183,7 +181,7 @@ fn short_right(file: &[u8], key: &[u8], value: &[u8]) -> bool {
 
 // Whether the key's value is copied to a long buffer and to one that it fills, and not to a shorter one.
 fn value_right(file: &[u8], key: &[u8], refusal: Refusal, given: bool, value: &[u8]) -> bool {
-    let long = copy_right(file, key, refusal, given, value, 65536);
+    let long = copy_right(file, key, refusal, given, value, ROOM);
     let full = copy_right(file, key, refusal, given, value, value.len());
     long & full & short_right(file, key, value)
 }
@@ -275,14 +273,14 @@ fn case_fault(s: &[u8]) -> u32 {
 }
 
 // The part that is wrong of the case in the first `n` bytes.
-fn fault_in(buffer: &[u8; 131072], n: usize) -> u32 {
+fn fault_in(buffer: &[u8; CASE], n: usize) -> u32 {
     case_fault(part(buffer, 0, n))
 }
 
 // The part that is wrong of the next case of the input.
 fn next_fault() -> u32 {
     let n = frames::input::next_number() as usize;
-    let mut buffer = [0u8; 131072];
+    let mut buffer = [0u8; CASE];
     if !frames::input::fill(&mut buffer, n) {
         return MALFORMED;
     }

@@ -109,12 +109,12 @@ early-descriptor version sizes t e endian zs b eb q = rw (sym eb, q)
 
 module _ {version : ℕ} {sizes : List ℕ} {t e endian : ℕ} (zs : List ℤ) where
   module _ {b : Bool} (eb : b ≡ writable version sizes t e endian) (yes : b ≡ true) (known : Numbers version sizes t e endian) {n m w x : ℕ}
-      (en : n ≡ min (product sizes) 4294967296) (em : m ≡ length zs) (ew : w ≡ sampleBytes t) (ex : x ≡ min (n * w) 4294967296) where
+      (en : n ≡ capped (product sizes)) (em : m ≡ length zs) (ew : w ≡ sampleBytes t) (ex : x ≡ capped (n * w)) where
     ok : writable version sizes t e endian ≡ true
     ok = sym eb ∙ yes
 
-    size : x ≡ min (extent sizes t) 4294967296
-    size = ex ∙ ap (λ (k : ℕ). min (k * w) 4294967296) en ∙ ap (λ (k : ℕ). min (min (product sizes) 4294967296 * k) 4294967296) ew ∙ ap capped (mul-comm (capped (product sizes)) (sampleBytes t)) ∙ times-capped (sampleBytes t) (product sizes) ∙ ap capped (mul-comm (sampleBytes t) (product sizes))
+    size : x ≡ capped (extent sizes t)
+    size = ex ∙ ap (λ (k : ℕ). capped (k * w)) en ∙ ap (λ (k : ℕ). capped (capped (product sizes) * k)) ew ∙ ap capped (mul-comm (capped (product sizes)) (sampleBytes t)) ∙ times-capped (sampleBytes t) (product sizes) ∙ ap capped (mul-comm (sampleBytes t) (product sizes))
 
     pub early-extent : maxExtent < x → extentTooLarge ≡ earlyRefusal version sizes t e endian zs
     unfolding earlyRefusal

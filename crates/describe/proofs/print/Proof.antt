@@ -2,7 +2,7 @@
 -- Assumes nothing.
 use borrow.Author.Needs.{needs}
 use native.Mathlib.Omega.{arith}
-use Rattle.describe.specs.Shown.{maxListing}
+use Rattle.format.specs.Limits.{maxListing}
 use Rattle.printed.proofs.Printing.{printed-is, printed-more}
 use Rattle.describe.proofs.Listed.{reading-within, reading-few, reading-axes, was-read, listing-long, listing-refused, listing-detached, listing-nowhere, listing-placed}
 use Rattle.describe.proofs.print.Statement.{statement}
@@ -37,7 +37,7 @@ put-reading-requires : tie.Need-put-reading-requires
 put-reading-requires c κs =
     let file = c .before .before .before .before .before .before .before .before .before .before .args .file .now in
     let w = was-read file (c .before .before .before .before .before .before .read-header .result) (c .before .before .before .before .before .before .read-header .ensures) (c .before .before .before .before .if2 .left) in
-    (reading-within (w .reading), reading-few (w .reading), reading-axes (w .reading))
+    (reading-within (w .reading), reading-few (w .reading), c .before .before .before .before .before .before .before .if1 .left, reading-axes (w .reading))
 
 same-length-3 : tie.Need-same-length-3
 same-length-3 c = search needs
@@ -78,7 +78,7 @@ put-reading-requires-2 : tie.Need-put-reading-requires-2
 put-reading-requires-2 c κs =
     let file = c .before .before .before .before .before .before .before .before .before .before .before .before .before .before .args .file .now in
     let w = was-read file (c .before .before .before .before .before .before .before .before .before .before .read-header .result) (c .before .before .before .before .before .before .before .before .before .before .read-header .ensures) (c .before .before .before .before .before .before .before .before .if2 .left) in
-    (reading-within (w .reading), reading-few (w .reading), reading-axes (w .reading))
+    (reading-within (w .reading), reading-few (w .reading), c .before .before .before .before .before .before .before .before .before .before .before .if1 .left, reading-axes (w .reading))
 
 same-length-5 : tie.Need-same-length-5
 same-length-5 c = search needs

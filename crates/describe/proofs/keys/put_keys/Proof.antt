@@ -5,6 +5,7 @@ use Prim.Native.Nat.{_+_, _*_, _-_, _≤_}
 use native.Mathlib.Omega.{arith}
 use mathlib.Core.Path.{ap, subst}
 use lib.ListN.{take, drop, length-take}
+use Rattle.format.specs.Limits.{maxKeys}
 use Rattle.header.specs.Spans.{LineAt, SpanIs}
 use Rattle.describe.specs.Shown.{markOf, shownMark, shownLines, linesFrom, Within}
 use Rattle.printed.proofs.Printing.{Printing, printing-start, printing-more, printing-done}
@@ -52,7 +53,7 @@ put-item-requires c κs =
     let t = c .before .before .before .before .before .before in
     let l = t .before .loop in
     let w = lined (c .before .before) in
-    (within-next (l .inv .0) (t .loop-test .taken) w, simp length-take (omega (arith, l .inv .2, w .from, w .to, w .short, c .before .before .before .before .before .before .before .before .before .before .pre)))
+    (within-next (l .inv .0) (t .loop-test .taken) w, simp length-take (omega (arith, l .inv .2, w .from, w .to, w .short, w .within, c .before .before .before .before .before .before .before .before .before .before .pre)))
 
 enum-told : tie.Need-enum-told Inv-loop μ-loop
 enum-told c = search needs
@@ -93,7 +94,7 @@ returns-2 : tie.Need-returns-2 Inv-loop μ-loop
 unfolding shownLines
 returns-2 c =
     let l = c .before .loop in
-    printing-done (l .inv .1) 69631 (ap shownLines (lines-none (c .before .before .before .before .args .file .now) (l .at) (l .left) (omega arith))) (omega (arith, l .inv .2, within-limit (l .inv .0)))
+    printing-done (l .inv .1) maxKeys (ap shownLines (lines-none (c .before .before .before .before .args .file .now) (l .at) (l .left) (omega arith))) (omega (arith, l .inv .2, within-limit (l .inv .0), l .inv .0 .inside, c .before .before .before .before .pre))
 
 pub put-keys-spec : {M : Type 1} → statement M
 put-keys-spec =

@@ -6,6 +6,7 @@ use native.Mathlib.Omega.{arith}
 use mathlib.Core.Path.{_≡_, sym, _∙_}
 use lib.ListN.{length, drop}
 use Rattle.format.specs.Descriptors.{product, capped}
+use Rattle.format.specs.Limits.{pastExtent}
 use Rattle.format.proofs.ProductLaws.{product-next, product-end}
 use borrow.Author.Needs.{needs}
 use Rattle.format.proofs.products.product.Statement.{statement}
@@ -13,7 +14,7 @@ use Rattle.format.proofs.products.product.Tie as tie
 
 abbrev Inv-loop : tie.InvT-loop
 Inv-loop ns p₀ i₀ p i =
-    (i ≤ length ns) × (p ≤ 4294967296) × (capped (product (drop i ns) * p) ≡ capped (product ns))
+    (i ≤ length ns) × (p ≤ pastExtent) × (capped (product (drop i ns) * p) ≡ capped (product ns))
 
 abbrev μ-loop : tie.MeasureT-loop
 μ-loop ns p₀ i₀ p i = length ns - i

@@ -1,9 +1,9 @@
 -- `products::times` meets its contract. Assumes nothing.
-use Prim.Native.Nat.{_≤_, _*_}
-use native.Mathlib.Nat.{zero-mul, mul-zero, mul-comm, mul-le-mul}
+use native.Mathlib.Nat.{zero-mul, mul-zero, mul-comm}
 use native.Mathlib.Omega.{arith}
 use borrow.Author.Needs.{needs}
-use Rattle.format.proofs.ProductLaws.{times-right}
+use Rattle.format.specs.Limits.{pastExtent}
+use Rattle.format.proofs.ProductLaws.{factors-fit, times-right}
 use Rattle.format.proofs.products.times.Statement.{statement}
 use Rattle.format.proofs.products.times.Tie as tie
 
@@ -16,18 +16,18 @@ returns-2 c = rw (c .if2 .taken, mul-zero)
 returns-3 : tie.Need-returns-3
 returns-3 c =
     let p = c .before .before .before .args in
-    omega (arith, mul-comm (p .a) (p .b), times-right (p .b) (p .a) 4294967296 (omega arith) (c .if3 .taken))
+    omega (arith, mul-comm (p .a) (p .b), times-right (p .b) (p .a) pastExtent (omega arith) (c .if3 .taken))
 
 returns-4 : tie.Need-returns-4
 returns-4 c =
     let p = c .before .before .before .before .args in
-    omega (arith, times-right (p .a) (p .b) 4294967296 (omega arith) (c .if4 .taken))
+    omega (arith, times-right (p .a) (p .b) pastExtent (omega arith) (c .if4 .taken))
 
 mul-p : tie.Need-mul-p
 mul-p c =
     let a = c .before .before .before .before .args .a in
     let b = c .before .before .before .before .args .b in
-    let l : a * b ≤ 4294967295 * 4294967295 = mul-le-mul {n₁ = a} {m₁ = b} {n₂ = 4294967295} {m₂ = 4294967295} (omega arith) (omega arith) in
+    let l = factors-fit a b (omega arith) (omega arith) in
     search needs
 
 returns-5 : tie.Need-returns-5

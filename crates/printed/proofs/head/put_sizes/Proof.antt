@@ -1,7 +1,9 @@
 -- `printed::head::put_sizes` meets its contract.
 -- Assumes nothing.
 use borrow.Author.Needs.{needs}
+use Prim.Native.Nat.{_+_, _*_}
 use native.Mathlib.Omega.{arith}
+use Rattle.format.specs.Limits.{maxAxes}
 use Rattle.printed.proofs.Printing.{printed-then, printed-more}
 use Rattle.printed.proofs.head.put_sizes.Statement.{statement}
 use Rattle.printed.proofs.head.put_sizes.Tie as tie
@@ -26,7 +28,7 @@ same-length c = search needs
 
 returns : tie.Need-returns
 returns c =
-    printed-more (printed-then (c .before .before .before .before .before .before .before .before .before .before .before .put-bytes .ensures) (printed-then (c .before .before .before .before .before .before .before .put-spaced .ensures) (c .before .before .put-bytes2 .ensures))) 343 (omega (arith, c .before .before .before .before .before .before .before .before .before .before .before .before .before .before .before .before .pre .1))
+    printed-more (printed-then (c .before .before .before .before .before .before .before .before .before .before .before .put-bytes .ensures) (printed-then (c .before .before .before .before .before .before .before .put-spaced .ensures) (c .before .before .put-bytes2 .ensures))) (7 + 21 * maxAxes) (omega (arith, c .before .before .before .before .before .before .before .before .before .before .before .before .before .before .before .before .pre .1))
 
 pub put-sizes-spec : {M : Type 1} → statement M
 put-sizes-spec =

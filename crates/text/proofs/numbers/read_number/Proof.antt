@@ -1,4 +1,4 @@
--- `text::numbers::read_number` meets its contract: the digits passed write v, cut to 2 to the 32, and the rest goes on from there.
+-- `text::numbers::read_number` meets its contract: the digits passed write v, cut to `pastSize`, and the rest goes on from there.
 -- Assumes nothing.
 use Prim.Native.Nat.{_≤_, _-_}
 use native.Mathlib.Omega.{arith}
@@ -8,14 +8,14 @@ use borrow.Author.Needs.{needs}
 use borrow.Author.Tests.{le-leb, lt-leb}
 use Rattle.format.specs.Descriptors.{digitsFrom, number}
 use Rattle.format.specs.Limits.{maxSize}
-use Rattle.text.specs.Numbers.{numberAnswer}
+use Rattle.text.specs.Numbers.{pastSize, numberAnswer}
 use Rattle.text.proofs.NumberLaws.{number-empty, number-digits, digits-low, digits-high, digits-next, digits-end}
 use Rattle.text.proofs.numbers.read_number.Statement.{statement}
 use Rattle.text.proofs.numbers.read_number.Tie as tie
 
 abbrev Inv-loop : tie.InvT-loop
 Inv-loop s v₀ i₀ v i =
-    (i ≤ length s) × (v ≤ 4294967296) × (numberAnswer (number s) ≡ numberAnswer (digitsFrom v (drop i s)))
+    (i ≤ length s) × (v ≤ pastSize) × (numberAnswer (number s) ≡ numberAnswer (digitsFrom v (drop i s)))
 
 abbrev μ-loop : tie.MeasureT-loop
 μ-loop s v₀ i₀ v i = length s - i
