@@ -70,29 +70,23 @@ namesOf (fieldRow ns v b t) = ns
 abbrev pub sinceOf : FieldRow → ℕ
 sinceOf (fieldRow ns v b t) = v
 
-abbrev pub beforeOf : FieldRow → Before
-beforeOf (fieldRow ns v b t) = b
-
-abbrev pub treatmentOf : FieldRow → Treatment
-treatmentOf (fieldRow ns v b t) = t
-
 -- a per-axis field comes after dimension
-abbrev pub comesAfterDimension : Before → Bool
-comesAfterDimension anywhere = false
-comesAfterDimension afterDimension = true
-comesAfterDimension afterSpace = false
-comesAfterDimension afterBoth = true
+abbrev pub dimensionBefore : FieldRow → Bool
+dimensionBefore (fieldRow ns v anywhere t) = false
+dimensionBefore (fieldRow ns v afterDimension t) = true
+dimensionBefore (fieldRow ns v afterSpace t) = false
+dimensionBefore (fieldRow ns v afterBoth t) = true
 
 -- a field that lies in a space comes after space or space dimension
-abbrev pub comesAfterSpace : Before → Bool
-comesAfterSpace anywhere = false
-comesAfterSpace afterDimension = false
-comesAfterSpace afterSpace = true
-comesAfterSpace afterBoth = true
+abbrev pub spaceBefore : FieldRow → Bool
+spaceBefore (fieldRow ns v anywhere t) = false
+spaceBefore (fieldRow ns v afterDimension t) = false
+spaceBefore (fieldRow ns v afterSpace t) = true
+spaceBefore (fieldRow ns v afterBoth t) = true
 
-abbrev pub isMeant : Treatment → Bool
-isMeant understood = true
-isMeant carried = false
+abbrev pub isMeant : FieldRow → Bool
+isMeant (fieldRow ns v b understood) = true
+isMeant (fieldRow ns v b carried) = false
 
 -- ---- the fields by their numbers
 
@@ -113,13 +107,13 @@ abbrev pub fieldSince : ℕ → ℕ
 fieldSince f = sinceOf (fieldAt f)
 
 abbrev pub needsDimension : ℕ → Bool
-needsDimension f = comesAfterDimension (beforeOf (fieldAt f))
+needsDimension f = dimensionBefore (fieldAt f)
 
 abbrev pub needsSpace : ℕ → Bool
-needsSpace f = comesAfterSpace (beforeOf (fieldAt f))
+needsSpace f = spaceBefore (fieldAt f)
 
 abbrev pub isUnderstood : ℕ → Bool
-isUnderstood f = isMeant (treatmentOf (fieldAt f))
+isUnderstood f = isMeant (fieldAt f)
 
 -- ---- fields with a name here: each is the number of its row (specs/FindTrials.antt)
 
@@ -152,27 +146,6 @@ space = 16
 
 abbrev pub spaceDimension : ℕ
 spaceDimension = 17
-
-abbrev pub spaceOrigin : ℕ
-spaceOrigin = 19
-
-abbrev pub spaceDirections : ℕ
-spaceDirections = 20
-
-abbrev pub measurementFrame : ℕ
-measurementFrame = 21
-
-abbrev pub centers : ℕ
-centers = 26
-
-abbrev pub labels : ℕ
-labels = 27
-
-abbrev pub units : ℕ
-units = 28
-
-abbrev pub kinds : ℕ
-kinds = 29
 
 -- ---- versions
 

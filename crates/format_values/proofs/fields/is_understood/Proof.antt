@@ -2,7 +2,7 @@
 -- Assumes nothing.
 use mathlib.Core.Path.{refl}
 use borrow.Author.Needs.{needs}
-use Rattle.format.specs.Fields.{treatmentOf, isMeant}
+use Rattle.format.specs.Fields.{isMeant}
 use Rattle.format_values.specs.Packed.{packed}
 use Rattle.format_values.proofs.fields.is_understood.Statement.{statement}
 use Rattle.format_values.proofs.fields.is_understood.Tie as tie
@@ -12,7 +12,7 @@ is-in-requires c κs = search needs
 
 returns : tie.Need-returns
 unfolding packed
-returns c = c .is-in .ensures (λ r. isMeant (treatmentOf r)) refl refl
+returns c = c .is-in .ensures isMeant refl refl
 
 pub is-understood-spec : {M : Type 1} → statement M
 is-understood-spec = tie.close (tie.spec is-in-requires returns)

@@ -2,7 +2,7 @@
 -- Assumes nothing.
 use mathlib.Core.Path.{refl}
 use borrow.Author.Needs.{needs}
-use Rattle.format.specs.Fields.{beforeOf, comesAfterDimension}
+use Rattle.format.specs.Fields.{dimensionBefore}
 use Rattle.format_values.specs.Packed.{packed}
 use Rattle.format_values.proofs.fields.needs_dimension.Statement.{statement}
 use Rattle.format_values.proofs.fields.needs_dimension.Tie as tie
@@ -12,7 +12,7 @@ is-in-requires c κs = search needs
 
 returns : tie.Need-returns
 unfolding packed
-returns c = c .is-in .ensures (λ r. comesAfterDimension (beforeOf r)) refl refl
+returns c = c .is-in .ensures dimensionBefore refl refl
 
 pub needs-dimension-spec : {M : Type 1} → statement M
 needs-dimension-spec = tie.close (tie.spec is-in-requires returns)

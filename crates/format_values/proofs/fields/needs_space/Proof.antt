@@ -2,7 +2,7 @@
 -- Assumes nothing.
 use mathlib.Core.Path.{refl}
 use borrow.Author.Needs.{needs}
-use Rattle.format.specs.Fields.{beforeOf, comesAfterSpace}
+use Rattle.format.specs.Fields.{spaceBefore}
 use Rattle.format_values.specs.Packed.{packed}
 use Rattle.format_values.proofs.fields.needs_space.Statement.{statement}
 use Rattle.format_values.proofs.fields.needs_space.Tie as tie
@@ -12,7 +12,7 @@ is-in-requires c κs = search needs
 
 returns : tie.Need-returns
 unfolding packed
-returns c = c .is-in .ensures (λ r. comesAfterSpace (beforeOf r)) refl refl
+returns c = c .is-in .ensures spaceBefore refl refl
 
 pub needs-space-spec : {M : Type 1} → statement M
 needs-space-spec = tie.close (tie.spec is-in-requires returns)

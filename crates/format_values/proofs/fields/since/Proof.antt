@@ -4,7 +4,7 @@ use mathlib.Core.Path.{sym, ap, _∙_}
 use borrow.Author.Needs.{needs}
 use Rattle.format.specs.Fields.{sinceOf}
 use Rattle.format_values.specs.Packed.{packed}
-use Rattle.format_values.proofs.Tables.{since-low, since-high, past-table}
+use Rattle.format_values.proofs.Tables.{since-first, since-later, past-table}
 use Rattle.format_values.proofs.fields.since.Statement.{statement}
 use Rattle.format_values.proofs.fields.since.Tie as tie
 
@@ -13,14 +13,14 @@ digit-requires c κs = search needs
 
 returns : tie.Need-returns
 unfolding packed
-returns c = c .digit .ensures ∙ since-low (c .before .before .args .f) (c .before .if1 .taken)
+returns c = c .digit .ensures ∙ since-first (c .before .before .args .f) (c .before .if1 .taken)
 
 digit-requires-2 : tie.Need-digit-requires-2
 digit-requires-2 c κs = search needs
 
 returns-2 : tie.Need-returns-2
 unfolding packed
-returns-2 c = c .digit2 .ensures ∙ since-high (c .before .before .before .args .f) (c .before .before .if1 .left) (c .before .if2 .taken)
+returns-2 c = c .digit2 .ensures ∙ since-later (c .before .before .before .args .f) (c .before .before .if1 .left) (c .before .if2 .taken)
 
 returns-3 : tie.Need-returns-3
 returns-3 c = sym (ap sinceOf (past-table (c .before .before .args .f) (c .if2 .left)))
