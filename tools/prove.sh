@@ -21,9 +21,14 @@ mkdir -p "$1" || exit 2
         last=$line
         printf '%s\n' "$line" >&3
         case $line in
-        "rt: "*" proved (unchanged"*) n=$((n + 1)) ;;
-        "rt: "*" proved ("*) n=$((n + 1)); name=${line#rt: }; echo "proved ${name%% *} ($n of $total)" >&2 ;;
+        "rt: "*" proved (unchanged"*) n=$((n + 1)); continue ;;
+        "rt: "*" proved ("*) name=${line#rt: } ;;
+        # an archive: its crate is proved
+        "rt: target/staticlib/"*) name=$3 ;;
+        *) continue ;;
         esac
+        n=$((n + 1))
+        echo "proved ${name%% *} ($n of $total)" >&2
     done
     test "$last" = "rt ended with 0"
 } 3> "$log" || { cat "$log" >&2; exit 1; }
