@@ -1,4 +1,4 @@
--- Internal to the library. An accepted header: how many lines it has, and what they were judged to be.
+-- An accepted header: how many lines it has, and what they were judged to be.
 use Prim.Native.Nat.{ℕ}
 use mathlib.Core.Path.{_≡_}
 use mathlib.Core.Bool.{false}

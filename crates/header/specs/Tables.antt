@@ -1,4 +1,4 @@
--- Internal to the library. The first lines of a file, whose starts go to a table.
+-- The first lines of a file, whose starts go to a table.
 use Prim.Native.Nat.{ℕ, _≤_}
 use mathlib.Core.List.{List}
 use lib.ListN.{length, take}

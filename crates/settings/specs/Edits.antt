@@ -1,4 +1,4 @@
--- Internal to this crate. One setting as an edit of the file's bytes: where the line goes, the numbers of the new file, and what `prepare` answers.
+-- One setting as an edit of the file's bytes: where the line goes, the numbers of the new file, and what `prepare` answers.
 use Prim.Native.Nat.{ℕ, zero, suc, _+_, _-_, _≤_, _<_}
 use mathlib.Core.Path.{_≡_}
 use mathlib.Core.Bool.{Bool, not, _||_}

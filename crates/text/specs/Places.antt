@@ -1,4 +1,4 @@
--- Internal to the library. What the functions on bytes answer in numbers: how many bytes stand before a place.
+-- What the functions on bytes answer in numbers: how many bytes stand before a place.
 use Prim.Native.Nat.{ℕ, suc}
 use mathlib.Core.List.{List, [], _∷_}
 use lib.Dec.{eqb}
