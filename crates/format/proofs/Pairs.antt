@@ -5,20 +5,20 @@ use Prim.Native.Nat.{ℕ, _+_, _≤_}
 use native.Mathlib.Omega.{arith}
 use mathlib.Core.Bool.{Bool, true, false, not, _&&_}
 use mathlib.Core.List.{List, [], _∷_, _++_}
-use mathlib.Core.Option.{none, some}
+use mathlib.Core.Option.{Option, none, some}
 use lib.Dec.{eqb}
 use lib.ListN.{length, length-append}
 use borrow.Author.Tests.{eqb-true, not-true}
 use Rattle.format.specs.Bytes.{bytes, every, onto, isEmpty, LF, BACKSLASH, if_then_else_}
-use Rattle.format.specs.Pairs.{plain, unmarked, pairMark, mark, otherLine, kindOf, isOther, escape, unescapeFrom, unescape}
-use Rattle.format.specs.Fields.{Given}
-use Rattle.format.specs.Descriptors.{namesFollow}
-use Rattle.format.specs.Header.{pair, right, judge}
-use Rattle.format.specs.Rules.{PairLine}
+use Rattle.format.specs.Pairs.{plain, unmarked, pairMark, mark, otherLine, kindOf, isOther, pairTexts, fieldTexts, escape, unescapeFrom, unescape}
+use Rattle.format.specs.Fields.{Given, given, fieldNamed}
+use Rattle.format.specs.Descriptors.{descriptor, namesFollow}
+use Rattle.format.specs.Header.{Item, magic, comment, field, pair, closing, pairOf, fieldOf, right, judge}
+use Rattle.format.specs.Rules.{PairLine, Keeps}
 use Rattle.format.specs.Settings.{settable, keyFine, valueFine, pairText}
 use Rattle.format.proofs.Bytes.{and-left, and-right, every-append, every-left, every-right, every-weaker, onto-some}
 use Rattle.format.proofs.Lines.{notLF}
-use Rattle.format.proofs.Marks.{mark-parts, mark-of-append, pair-of-first, other-kind, mark-of-kind, unmarked-kind, other-filled, other-front}
+use Rattle.format.proofs.Marks.{mark-parts, mark-of-append, field-of-first, pair-of-first, other-kind, mark-of-kind, unmarked-kind, other-filled, other-front}
 use Rattle.format.proofs.Judged.{judge-keeps, judge-by-text, on-pair-is}
 
 -- ---- escapes
@@ -202,3 +202,41 @@ pair-key-fine version gs t k v e = pair-line version gs t k v e .key
 
 pub pair-value-fine : (version : ℕ) (gs : List Given) (t k v : List ℕ) → judge version gs t ≡ right (pair k v) → valueFine v ≡ true
 pair-value-fine version gs t k v e = pair-line version gs t k v e .value
+
+-- ---- what a line says by its text, where no names follow
+
+-- a pair as its line has it
+abbrev pub escapedPair : Option (List ℕ × List ℕ) → Option (List ℕ × List ℕ)
+escapedPair none = none
+escapedPair (some p) = some (escape (p .0), escape (p .1))
+
+-- the field that a name, if it is known, and what follows its mark give
+abbrev pub namedField : Option ℕ → List ℕ → Option Given
+namedField none rest = none
+namedField (some f) rest = some (given f (descriptor f rest))
+
+abbrev pub fieldIn : Option (List ℕ × List ℕ) → Option Given
+fieldIn none = none
+fieldIn (some p) = namedField (fieldNamed (p .0)) (p .1)
+
+module _ (version : ℕ) (gs : List Given) (t : List ℕ) (names : namesFollow gs ≡ false) where
+  kept-pair : (i : Item) → Keeps version gs t i → pairTexts (kindOf t) ≡ escapedPair (pairOf i)
+  kept-pair (magic n) w = absurd w
+  kept-pair comment w = rw w
+  kept-pair (field f d) w = rw (other-kind t (w .other .other), field-of-first (w .marked))
+  kept-pair (pair k v) w = let s = set-line w in rw (s .text-is, kind-of-pair k v (s .key))
+  kept-pair closing w = rw w
+
+  kept-field : (i : Item) → Keeps version gs t i → fieldIn (fieldTexts (kindOf t)) ≡ fieldOf i
+  kept-field (magic n) w = absurd w
+  kept-field comment w = rw w
+  kept-field (field f d) w = rw (other-kind t (w .other .other), field-of-first (w .marked), w .named, w .descriptor-is)
+  kept-field (pair k v) w = rw (other-kind t (w .other .other), pair-of-first (w .marked))
+  kept-field closing w = rw w
+
+  -- its pair, and its field
+  pub line-pair : {i : Item} → judge version gs t ≡ right i → pairTexts (kindOf t) ≡ escapedPair (pairOf i)
+  line-pair {i} j = kept-pair i (judge-keeps version gs t j)
+
+  pub line-field : {i : Item} → judge version gs t ≡ right i → fieldIn (fieldTexts (kindOf t)) ≡ fieldOf i
+  line-field {i} j = kept-field i (judge-keeps version gs t j)

@@ -67,6 +67,22 @@ isUnmarked emptyLine = false
 isUnmarked commentLine = false
 isUnmarked (otherLine m) = not (hasMark m)
 
+-- the texts of its key and its value, if it is that of a pair
+abbrev pub pairTexts : LineKind → Option (List ℕ × List ℕ)
+pairTexts emptyLine = none
+pairTexts commentLine = none
+pairTexts (otherLine unmarked) = none
+pairTexts (otherLine (fieldMark n d)) = none
+pairTexts (otherLine (pairMark k v)) = some (k, v)
+
+-- the texts of its name and of what follows its mark, if it is that of a field
+abbrev pub fieldTexts : LineKind → Option (List ℕ × List ℕ)
+fieldTexts emptyLine = none
+fieldTexts commentLine = none
+fieldTexts (otherLine unmarked) = none
+fieldTexts (otherLine (fieldMark n d)) = some (n, d)
+fieldTexts (otherLine (pairMark k v)) = none
+
 -- ---- escapes: `\n` means LF and `\\` a backslash, in keys and in values
 
 -- how a text is written in a key or a value

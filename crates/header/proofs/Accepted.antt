@@ -3,16 +3,29 @@
 use Prim.Native.Nat.{ℕ, _≤_, _<_}
 use native.Mathlib.Omega.{arith}
 use mathlib.Core.Path.{_≡_, refl, sym, ap, _∙_}
+use mathlib.Core.Bool.{false}
 use mathlib.Core.List.{List, [], _∷_, _++_}
+use mathlib.Core.Option.{none}
 use lib.ListN.{length}
+use denote.Enum.Declared.{tagOf}
+use types.Run.{OneOf, miss}
 use Rattle.format.specs.declared.ReadAnswer.{ReadAnswer}
-use Rattle.format.specs.Lines.{Line, lines}
+use Rattle.format.specs.Lines.{Line, text, lines}
+use Rattle.format.specs.Pairs.{kindOf, pairTexts, fieldTexts}
 use Rattle.format.specs.Fields.{Given}
-use Rattle.format.specs.Header.{Entry, entry, linesOf, Outcome, refused, accepted, afterItem, header}
+use Rattle.format.specs.Descriptors.{namesFollow}
+use Rattle.format.specs.Header.{Item, pairOf, fieldOf, Entry, entry, linesOf, Outcome, refused, accepted, afterItem, header}
 use Rattle.format.specs.Calls.{noReading, readingOf, readAnswer, readHeaderCall}
 use Rattle.format.proofs.Lines.{length-lines-le}
-use Rattle.format.proofs.Header.{Fine, fine-cases, header-sound}
-use Rattle.header.specs.Accepted.{Headed, Items}
+use Rattle.format.proofs.Judged.{no-names-after, no-names}
+use Rattle.format.proofs.Pairs.{escapedPair, fieldIn, line-pair, line-field}
+use Rattle.format.proofs.Header.{Fine, fine-cases, IsHeader, header-sound}
+use Rattle.text.specs.declared.lines.Kind.{Kind}
+use Rattle.text.specs.declared.lines.Kind.the-variants.{Empty, Comment, Field, Pair, Neither}
+use Rattle.text.specs.Places.{kindPlace}
+use Rattle.text.proofs.Places.{kind-told}
+use Rattle.text.proofs.lines.Kind.{the-type}
+use Rattle.header.specs.Accepted.{Headed, IsItem, Items}
 
 -- there is a byte in an accepted file, and a line in its header
 pub some-byte : (file : List ℕ) {n : ℕ} → Headed file n → 0 < length file
@@ -45,9 +58,35 @@ module _ (file : List ℕ) (read : ReadAnswer) (e : read ≡ readHeaderCall file
       go (accepted es gs ls) p q = record { entries = es; fields = gs; after = ls; is = p; many = ap (λ a. a .reading .lines) q }
 
 -- the lines of a fine header were judged to be its items
-pub items : (version : ℕ) (es : List Entry) (gs gs′ : List Given) (r : List Line) → Fine version gs es gs′ r → Items es
-items version [] gs gs′ r f = tt
-items version (entry l i ∷ es) gs gs′ r f = (
-  record { version = version; before = gs; judged = f .0 },
-  fine-cases version gs l i es gs′ r (λ es gs′. Items es) f (λ s c k. tt) (λ s c g. items version es (afterItem i gs) gs′ r g),
+items : (version : ℕ) (es : List Entry) (gs gs′ : List Given) (r : List Line) → namesFollow gs ≡ false → Fine version gs es gs′ r → Items es
+items version [] gs gs′ r n f = tt
+items version (entry l i ∷ es) gs gs′ r n f = (
+  record { version = version; before = gs; judged = f .0; no-names = n },
+  fine-cases version gs l i es gs′ r (λ es gs′. Items es) f (λ s c k. tt) (λ s c g. items version es (afterItem i gs) gs′ r (no-names-after version gs (text l) (f .0) n) g),
 )
+
+pub header-items : {file : List ℕ} {es : List Entry} {gs : List Given} {r : List Line} (x : IsHeader file es gs r) → Items (x .rest)
+header-items {file} {es} {gs} {r} x = items (x .version) (x .rest) [] gs r no-names (x .fine)
+
+-- what such a line says by its text: its pair, its field
+module _ {t : List ℕ} {i : Item} (w : IsItem t i) where
+  pub item-pair : pairTexts (kindOf t) ≡ escapedPair (pairOf i)
+  item-pair = line-pair (w .version) (w .before) t (w .no-names) (w .judged)
+
+  pub item-field : fieldIn (fieldTexts (kindOf t)) ≡ fieldOf i
+  item-field = line-field (w .version) (w .before) t (w .no-names) (w .judged)
+
+-- an answer that is not a pair, and one that is not a field
+pub told-no-pair : (t : List ℕ) (r : Kind) → r ≡ kindPlace (kindOf t) → OneOf (0 ∷ 1 ∷ 2 ∷ 4 ∷ []) (tagOf the-type r) → pairTexts (kindOf t) ≡ none
+told-no-pair t Empty e h = ap pairTexts (kind-told t e)
+told-no-pair t Comment e h = ap pairTexts (kind-told t e)
+told-no-pair t (Field i) e h = ap pairTexts (kind-told t e .0)
+told-no-pair t (Pair i) e h = absurd (miss (0 ∷ 1 ∷ 2 ∷ 4 ∷ []) 3 tt h)
+told-no-pair t Neither e h = ap pairTexts (kind-told t e)
+
+pub told-no-field : (t : List ℕ) (r : Kind) → r ≡ kindPlace (kindOf t) → OneOf (0 ∷ 1 ∷ 3 ∷ 4 ∷ []) (tagOf the-type r) → fieldTexts (kindOf t) ≡ none
+told-no-field t Empty e h = ap fieldTexts (kind-told t e)
+told-no-field t Comment e h = ap fieldTexts (kind-told t e)
+told-no-field t (Field i) e h = absurd (miss (0 ∷ 1 ∷ 3 ∷ 4 ∷ []) 2 tt h)
+told-no-field t (Pair i) e h = ap fieldTexts (kind-told t e .0)
+told-no-field t Neither e h = ap fieldTexts (kind-told t e)

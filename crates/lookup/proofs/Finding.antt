@@ -4,192 +4,98 @@ use Prim.Native.Nat.{ℕ, _+_, _-_, _≤_, _<_}
 use native.Mathlib.Nat.{zero-add}
 use native.Mathlib.Omega.{arith}
 use mathlib.Core.Path.{_≡_, refl, sym, ap, _∙_, subst}
-use mathlib.Core.Bool.{Bool, true, false, not, false≢true}
+use mathlib.Core.Bool.{Bool, true, false, false≢true}
 use mathlib.Core.List.{List, [], _∷_, _++_}
-use mathlib.Core.Option.{Option, none, some}
-use lib.Dec.{eqb, ltb}
+use mathlib.Core.Option.{Option, none, some, Option·none-ne-some}
+use lib.Dec.{eqb}
 use lib.ListN.{length, take, drop, length-append, length-drop, length-map}
-use borrow.Author.Tests.{eqb-true, not-true, not-false}
+use lib.Seq.{length-take-le}
+use borrow.Author.Tests.{eqb-true}
 use Rattle.format.specs.declared.FindAnswer.{FindAnswer}
-use Rattle.format.specs.Bytes.{if_then_else_, every, same, isSome, orElse, HASH}
+use Rattle.format.specs.Bytes.{if_then_else_, same, isSome, orElse, orDefault}
 use Rattle.format.specs.Limits.{maxHeader}
-use Rattle.format.specs.Refusals.{fine, badByte, notInVersion, repeatedField, outOfOrder, badDescriptor}
+use Rattle.format.specs.Refusals.{fine}
 use Rattle.format.specs.Lines.{Line, line, text, size, lines, unlines}
-use Rattle.format.specs.Pairs.{plain, Marked, unmarked, fieldMark, pairMark, mark, escape, unescape}
-use Rattle.format.specs.Fields.{pairsSince, fieldSince, fieldNamed, Given, isGiven, inOrder}
-use Rattle.format.specs.Descriptors.{fromDescriptor, descriptor, mayDescribe, dimensionOf}
-use Rattle.format.specs.Header.{Item, magic, comment, field, pair, closing, Entry, entry, lineOf, linesOf, wrong, right, unescaped, onPair, onField, onMark, judge, headerLength, valueIn, valueOf}
-use Rattle.format.specs.Settings.{beginsFine}
-use Rattle.format.specs.Calls.{noPlace, foundAt, valuePlace, keyPlace, findKeyIn, findKeyCall, beforeDescriptor, descriptorPlace, fieldPlace, findFieldIn, findFieldCall}
+use Rattle.format.specs.Pairs.{LineKind, kindOf, pairTexts, fieldTexts, escape, unescape}
+use Rattle.format.specs.Fields.{fieldNamed, Given, given}
+use Rattle.format.specs.Descriptors.{fromDescriptor, descriptor}
+use Rattle.format.specs.Header.{Item, magic, pairOf, fieldOf, Entry, entry, lineOf, linesOf, headerLength, valueFor, valueIn, valueOf}
+use Rattle.format.specs.Calls.{noPlace, foundAt, pairPlace, valuePlace, keyPlace, findKeyIn, findKeyCall, beforeDescriptor, givenPlace, descriptorPlace, fieldPlace, findFieldIn, findFieldCall}
 use Rattle.format.proofs.Lines.{length-lines-le, length-unlines-cons, lines-after}
-use Rattle.format.proofs.Pairs.{mark-of-pair, pair-line, length-pair}
+use Rattle.format.proofs.Marks.{mark-of-kind}
+use Rattle.format.proofs.Pairs.{unescape-of-escape, escapedPair, namedField, fieldIn}
 use Rattle.format.proofs.Descriptors.{from-le}
 use Rattle.format.proofs.Header.{header-sound, magic-line}
-use Rattle.text.specs.declared.lines.Mark.the-variants.{Field, Pair, Nothing}
+use Rattle.text.specs.declared.lines.Kind.the-variants.{Field, Pair}
 use Rattle.text.specs.declared.words.Row.the-variants.{Number, Unknown}
-use Rattle.text.specs.Places.{markPlace}
 use Rattle.text.specs.Rows.{rowAnswer}
 use Rattle.text.specs.Meanings.{meansKey}
-use Rattle.text.proofs.Places.{mark-split-field, mark-split-pair, mark-split-nothing}
+use Rattle.text.proofs.Places.{KindAt}
 use Rattle.header.specs.Spans.{LineAt, PastAt}
 use Rattle.header.specs.Accepted.{Headed, IsItem, Items}
 use Rattle.header.proofs.LineCuts.{rest-of}
-use Rattle.header.proofs.Accepted.{items}
+use Rattle.header.proofs.Accepted.{header-items, item-pair, item-field}
 use Rattle.lookup.specs.Lookup.{Left, latestOf, keyThen, keyElse, KeyLeft, FieldLeft, isField, SecondAt}
-
--- ---- what a judged line is
-
--- an empty line or a comment
-abbrev Bare : Item → Type 0
-Bare (magic n) = ⊥
-Bare comment = Unit {0}
-Bare (field f d) = ⊥
-Bare (pair k v) = ⊥
-Bare closing = Unit {0}
-
-bare : {t : List ℕ} {i : Item} → beginsFine t ≡ false → IsItem t i → Bare i
-unfolding judge
-bare {t} {i} h w = go t h (w .judged)
-  where
-    go : (t : List ℕ) → beginsFine t ≡ false → judge (w .version) (w .before) t ≡ right i → Bare i
-    go [] h e = let q : closing ≡ i = cc in subst Bare q tt
-    go (b ∷ t) h e = let q : comment ≡ i = cc (not-false (eqb b HASH) h) in subst Bare q tt
-
--- any other line, by its mark
-abbrev Seen : Marked → Item → Type 0
-Seen unmarked i = ⊥
-Seen (fieldMark n rest) i = (g : ℕ) × (fieldNamed n ≡ some g) × (i ≡ field g (descriptor g rest))
-Seen (pairMark a c) i = (k : List ℕ) × (v : List ℕ) × (unescape a ≡ some k) × (i ≡ pair k v)
-
-not-right : {n : ℕ} {i : Item} → wrong n ≡ right i → ⊥
-not-right e = let z : false ≡ true = cc in false≢true z
-
-module _ (version : ℕ) (gs : List Given) where
-  field-right : (o : Option ℕ) (rest : List ℕ) (i : Item) → onField version gs o rest ≡ right i
-      → (g : ℕ) × (o ≡ some g) × (i ≡ field g (descriptor g rest))
-  unfolding onField
-  field-right none rest i e = absurd (not-right e)
-  field-right (some f) rest i e =
-      (f, refl, go (ltb version (fieldSince f)) (isGiven f gs) (inOrder f gs) (mayDescribe (dimensionOf gs) f (descriptor f rest)) e)
-    where
-      go : (a b c d : Bool)
-          → (if a then wrong notInVersion else if b then wrong repeatedField else if not c then wrong outOfOrder
-          else if not d then wrong badDescriptor else right (field f (descriptor f rest))) ≡ right i
-          → i ≡ field f (descriptor f rest)
-      go true b c d e = cc
-      go false true c d e = cc
-      go false false false d e = cc
-      go false false true false e = cc
-      go false false true true e = cc
-
-  pair-right : (a c : List ℕ) (i : Item) → onPair version a c ≡ right i
-      → (k : List ℕ) × (v : List ℕ) × (unescape a ≡ some k) × (i ≡ pair k v)
-  unfolding onPair
-  pair-right [] c i e = absurd (not-right e)
-  pair-right (b ∷ a) c i e = go (ltb version pairsSince) (unescape (b ∷ a)) (unescape c) e
-    where
-      go : (x : Bool) (o q : Option (List ℕ)) → (if x then wrong notInVersion else unescaped o q) ≡ right i
-          → (k : List ℕ) × (v : List ℕ) × (o ≡ some k) × (i ≡ pair k v)
-      go true o q e = absurd (not-right e)
-      go false none q e = absurd (not-right e)
-      go false (some k) none e = absurd (not-right e)
-      go false (some k) (some v) e = (k, v, refl, cc)
-
-  mark-right : (m : Marked) (i : Item) → onMark version gs m ≡ right i → Seen m i
-  mark-right unmarked i e = not-right e
-  mark-right (fieldMark n rest) i e = field-right (fieldNamed n) rest i e
-  mark-right (pairMark a c) i e = pair-right a c i e
-
-seen : {t : List ℕ} {i : Item} → beginsFine t ≡ true → IsItem t i → Seen (mark t) i
-unfolding judge
-seen {t} {i} h w = go t h (w .judged)
-  where
-    go : (t : List ℕ) → beginsFine t ≡ true → judge (w .version) (w .before) t ≡ right i → Seen (mark t) i
-    go [] h e = absurd (false≢true h)
-    go (b ∷ t) h e = plainly (every plain (b ∷ t)) (rw (not-true (eqb b HASH) h) at e)
-      where
-        plainly : (x : Bool) → (if not x then wrong badByte else onMark (w .version) (w .before) (mark (b ∷ t))) ≡ right i
-            → Seen (mark (b ∷ t)) i
-        plainly true e = mark-right (w .version) (w .before) (mark (b ∷ t)) i e
-        plainly false e = absurd (not-right e)
 
 -- ---- a key's value, in one line
 
+-- what a pair gives the key, or else what was found before it
+abbrev pairThen : List ℕ → ℕ → Option (List ℕ × List ℕ) → FindAnswer → FindAnswer
+pairThen k at o found = if isSome (valueFor k o) then pairPlace at o else found
+
 -- what a line gives the key, put before what was found, is what is found once the line is passed
 key-latest : (k : List ℕ) (at : ℕ) (i : Item) (found : FindAnswer) → latestOf found (keyThen k at i (noPlace fine)) ≡ keyThen k at i found
-key-latest k at (magic n) found = refl
-key-latest k at comment found = refl
-key-latest k at (field f d) found = refl
-key-latest k at (pair j v) found = go (same k j)
+key-latest k at i found = go (pairOf i)
   where
-    go : (x : Bool)
-        → latestOf found (if isSome (if x then some v else none) then valuePlace at (pair j v) else noPlace fine)
-        ≡ (if isSome (if x then some v else none) then valuePlace at (pair j v) else found)
-    go true = refl
-    go false = refl
-key-latest k at closing found = refl
-
--- what a pair gives the key
-pair-then : (k j v : List ℕ) (at a n : ℕ) (found : FindAnswer) → a ≡ length (escape j) + 2 → n ≡ length (escape v)
-    → (if same k j then foundAt (at + a) n else found) ≡ keyThen k at (pair j v) found
-pair-then k j v at a n found p q = go (same k j)
-  where
-    go : (x : Bool) → (if x then foundAt (at + a) n else found)
-        ≡ (if isSome (if x then some v else none) then valuePlace at (pair j v) else found)
-    go true = rw (p, q)
-    go false = refl
-
-module _ (k : List ℕ) (at : ℕ) (found : FindAnswer) {t : List ℕ} {i : Item} where
-  -- an empty line and a comment leave what was found
-  pub key-bare : beginsFine t ≡ false → IsItem t i → found ≡ keyThen k at i found
-  key-bare h w = go i (bare h w)
-    where
-      go : (i : Item) → Bare i → found ≡ keyThen k at i found
-      go (magic n) b = absurd b
-      go comment b = refl
-      go (field f d) b = absurd b
-      go (pair j v) b = absurd b
-      go closing b = refl
-
-  module _ (h : beginsFine t ≡ true) (w : IsItem t i) where
-    -- so does a field
-    pub key-field : (j : ℕ) → markPlace (mark t) ≡ Field j → found ≡ keyThen k at i found
-    key-field j e = let s = subst (λ m. Seen m i) (mark-split-field t j e .0) (seen h w) in rw (s .2)
-
-    pub key-unmarked : markPlace (mark t) ≡ Nothing → found ≡ keyThen k at i found
-    key-unmarked e = absurd (subst (λ m. Seen m i) (mark-split-nothing t e) (seen h w))
-
-    -- the line of a pair, by what its key means
-    pub key-pair : (j : ℕ) → markPlace (mark t) ≡ Pair j → (x : Bool) → meansKey k (unescape (take j t)) ≡ x
-        → (if x then foundAt (at + (j + 2)) (length t - (j + 2)) else found) ≡ keyThen k at i found
-    key-pair j e x z =
-        let s = subst (λ m. Seen m i) (mark-split-pair t j e .0) (seen h w) in
-        go (s .0) (s .1) (s .2) (s .3)
+    go : (o : Option (List ℕ × List ℕ)) → latestOf found (pairThen k at o (noPlace fine)) ≡ pairThen k at o found
+    go none = refl
+    go (some p) = here (same k (p .0))
       where
-        go : (y v : List ℕ) → unescape (take j t) ≡ some y → i ≡ pair y v
-            → (if x then foundAt (at + (j + 2)) (length t - (j + 2)) else found) ≡ keyThen k at i found
-        go y v u q =
-            let p = pair-line (w .version) (w .before) t y v (w .judged ∙ ap right q) in
-            let m : Pair (length (escape y)) ≡ Pair j = sym (ap (λ u. markPlace (mark u)) (p .text-is) ∙ ap markPlace (mark-of-pair y v (p .key))) ∙ e in
-            let n : length (escape y) ≡ j = cc in
-            let l : length t ≡ length (escape y) + 2 + length (escape v) = ap length (p .text-is) ∙ length-pair y v in
-            rw (← z, u, q) (pair-then k y v at (j + 2) (length t - (j + 2)) found (omega arith) (omega arith))
+        here : (x : Bool)
+            → latestOf found (if isSome (if x then some (p .1) else none) then pairPlace at (some p) else noPlace fine)
+            ≡ (if isSome (if x then some (p .1) else none) then pairPlace at (some p) else found)
+        here true = refl
+        here false = refl
+
+module _ (k : List ℕ) (at : ℕ) (found : FindAnswer) {t : List ℕ} {i : Item} (w : IsItem t i) where
+  -- a line that is not that of a pair leaves what was found
+  pub key-other : pairTexts (kindOf t) ≡ none → found ≡ keyThen k at i found
+  key-other e = go (pairOf i) (sym e ∙ item-pair w)
+    where
+      go : (o : Option (List ℕ × List ℕ)) → none ≡ escapedPair o → found ≡ pairThen k at o found
+      go none q = refl
+      go (some p) q = absurd (Option·none-ne-some _ q)
+
+  -- the line of a pair, by what its key means
+  pub key-pair : (j : ℕ) → KindAt t (kindOf t) (Pair j) → (x : Bool) → meansKey k (unescape (take j t)) ≡ x
+      → (if x then foundAt (at + (j + 2)) (length t - (j + 2)) else found) ≡ keyThen k at i found
+  key-pair j e x z = go (pairOf i) (sym (ap pairTexts (e .0)) ∙ item-pair w)
+    where
+      -- a pair whose escaped texts these are
+      there : (p : List ℕ × List ℕ) → escape (p .0) ≡ take j t → escape (p .1) ≡ drop (j + 2) t
+          → (if x then foundAt (at + (j + 2)) (length t - (j + 2)) else found) ≡ pairThen k at (some p) found
+      there p q r =
+          let m : same k (p .0) ≡ x = ap (meansKey k) (sym (unescape-of-escape (p .0)) ∙ ap unescape q) ∙ z in
+          let n : length (escape (p .0)) ≡ j = ap length q ∙ length-take-le j t (omega (arith, e .1)) in
+          let l : length (escape (p .1)) ≡ length t - (j + 2) = ap length r ∙ length-drop (j + 2) t in
+          rw (m, n, l) (by x)
+        where
+          by : (x : Bool) → (if x then foundAt (at + (j + 2)) (length t - (j + 2)) else found)
+              ≡ (if isSome (if x then some (p .1) else none) then foundAt (at + (j + 2)) (length t - (j + 2)) else found)
+          by true = refl
+          by false = refl
+
+      go : (o : Option (List ℕ × List ℕ)) → some (take j t, drop (j + 2) t) ≡ escapedPair o
+          → (if x then foundAt (at + (j + 2)) (length t - (j + 2)) else found) ≡ pairThen k at o found
+      go none q = absurd (Option·none-ne-some _ (sym q))
+      go (some p) q =
+          there p (sym (ap (λ (o : Option (List ℕ × List ℕ)). orDefault ([], []) o .0) q)) (sym (ap (λ (o : Option (List ℕ × List ℕ)). orDefault ([], []) o .1) q))
 
 -- ---- a field's descriptor, in one line
 
 -- the place of the descriptor in what follows a mark, which starts at `at`
 abbrev placeIn : ℕ → ℕ → List ℕ → FindAnswer
 placeIn f at rest = foundAt (at + (length rest - length (fromDescriptor f rest))) (length (descriptor f rest))
-
--- where the descriptor starts: past the mark, and what stands before it there
-descriptor-starts : (f at : ℕ) (t : List ℕ) (j : ℕ) → markPlace (mark t) ≡ Field j
-    → placeIn f (at + (j + 2)) (drop (j + 2) t) ≡ foundAt (at + beforeDescriptor f t) (length (descriptor f (drop (j + 2) t)))
-descriptor-starts f at t j e =
-    let m = mark-split-field t j e in
-    let r = drop (j + 2) t in
-    let s : at + (j + 2) + (length r - length (fromDescriptor f r)) ≡ at + (length t - length (fromDescriptor f r)) =
-    omega (arith, m .1, from-le f r, length-drop (j + 2) t) in
-    rw (m .0, s)
 
 -- the name's row is the field, or not
 pub field-row : (f g : ℕ) (o : Option ℕ) → Number g ≡ rowAnswer o → eqb f g ≡ isField f o
@@ -200,74 +106,66 @@ pub field-no-row : (f : ℕ) (o : Option ℕ) → Unknown ≡ rowAnswer o → fa
 field-no-row f none e = refl
 field-no-row f (some h) e = cc
 
-module _ (f at : ℕ) {t : List ℕ} {i : Item} where
-  pub field-bare : (rest : FindAnswer) → beginsFine t ≡ false → IsItem t i → rest ≡ descriptorPlace f at t i rest
-  field-bare rest h w = go i (bare h w)
-    where
-      go : (i : Item) → Bare i → rest ≡ descriptorPlace f at t i rest
-      go (magic n) b = absurd b
-      go comment b = refl
-      go (field g d) b = absurd b
-      go (pair j v) b = absurd b
-      go closing b = refl
+module _ (f at : ℕ) (rest : FindAnswer) {t : List ℕ} {i : Item} (w : IsItem t i) where
+  -- a line that is not that of a field
+  pub field-other : fieldTexts (kindOf t) ≡ none → rest ≡ descriptorPlace f at t i rest
+  field-other e = ap (λ (o : Option Given). givenPlace f at t o rest) (sym (ap fieldIn e) ∙ item-field w)
 
-  module _ (rest : FindAnswer) (h : beginsFine t ≡ true) (w : IsItem t i) where
-    pub field-pair : (j : ℕ) → markPlace (mark t) ≡ Pair j → rest ≡ descriptorPlace f at t i rest
-    field-pair j e = let s = subst (λ m. Seen m i) (mark-split-pair t j e .0) (seen h w) in rw (s .3)
-
-    pub field-unmarked : markPlace (mark t) ≡ Nothing → rest ≡ descriptorPlace f at t i rest
-    field-unmarked e = absurd (subst (λ m. Seen m i) (mark-split-nothing t e) (seen h w))
-
-    -- the line of a field, by its name
-    pub field-field : (j : ℕ) → markPlace (mark t) ≡ Field j → (x : Bool) → isField f (fieldNamed (take j t)) ≡ x
+  -- the line of a field, by its name
+  module _ (j : ℕ) (e : KindAt t (kindOf t) (Field j)) where
+    pub field-field : (x : Bool) → isField f (fieldNamed (take j t)) ≡ x
         → (if x then placeIn f (at + (j + 2)) (drop (j + 2) t) else rest) ≡ descriptorPlace f at t i rest
-    field-field j e x z =
-        let s = subst (λ m. Seen m i) (mark-split-field t j e .0) (seen h w) in
-        named (s .0) (s .1) (s .2)
+    field-field x z =
+        go (fieldNamed (take j t)) z ∙ ap (λ (o : Option Given). givenPlace f at t o rest) (sym (ap (λ (k : LineKind). fieldIn (fieldTexts k)) (e .0)) ∙ item-field w)
       where
-        go : (g : ℕ) (x : Bool) → eqb f g ≡ x
-            → (if x then foundAt (at + beforeDescriptor f t) (length (descriptor f (drop (j + 2) t))) else rest)
-            ≡ (if x then foundAt (at + beforeDescriptor f t) (length (descriptor g (drop (j + 2) t))) else rest)
-        go g true q = rw (eqb-true f g q)
-        go g false q = refl
+        after : List ℕ
+        after = drop (j + 2) t
 
-        named : (g : ℕ) → fieldNamed (take j t) ≡ some g → i ≡ field g (descriptor g (drop (j + 2) t))
-            → (if x then placeIn f (at + (j + 2)) (drop (j + 2) t) else rest) ≡ descriptorPlace f at t i rest
-        named g n q = rw (descriptor-starts f at t j e, ← z, n, q) (go g (eqb f g) refl)
+        -- where the descriptor starts: past the mark, and what stands before it there
+        starts : placeIn f (at + (j + 2)) after ≡ foundAt (at + beforeDescriptor f t) (length (descriptor f after))
+        starts =
+            let s : at + (j + 2) + (length after - length (fromDescriptor f after)) ≡ at + (length t - length (fromDescriptor f after)) =
+            omega (arith, e .1, from-le f after, length-drop (j + 2) t) in
+            rw (mark-of-kind t (e .0), s)
 
-    pub field-there : (j : ℕ) → markPlace (mark t) ≡ Field j → isField f (fieldNamed (take j t)) ≡ true
+        by : (g : ℕ) (x : Bool) → eqb f g ≡ x
+            → (if x then foundAt (at + beforeDescriptor f t) (length (descriptor f after)) else rest)
+            ≡ (if x then foundAt (at + beforeDescriptor f t) (length (descriptor g after)) else rest)
+        by g true q = rw (eqb-true f g q)
+        by g false q = refl
+
+        go : (o : Option ℕ) → isField f o ≡ x → (if x then placeIn f (at + (j + 2)) after else rest) ≡ givenPlace f at t (namedField o after) rest
+        go none q = rw (← q)
+        go (some g) q = rw (starts, ← q) (by g (eqb f g) refl)
+
+    pub field-there : isField f (fieldNamed (take j t)) ≡ true
         → (r : FindAnswer) → r ≡ placeIn f (at + (j + 2)) (take (length t - (j + 2)) (drop (j + 2) t)) → r ≡ descriptorPlace f at t i rest
-    field-there j e z r q = q ∙ ap (placeIn f (at + (j + 2))) (rest-of (j + 2) t) ∙ field-field j e true z
+    field-there z r q = q ∙ ap (placeIn f (at + (j + 2))) (rest-of (j + 2) t) ∙ field-field true z
 
-module _ (f at : ℕ) (t : List ℕ) where
+module _ (f at : ℕ) (t : List ℕ) (i : Item) (rest : FindAnswer) where
   -- the line has the field
-  pub field-told : (i : Item) (rest : FindAnswer) → descriptorPlace f at t i (noPlace fine) .found ≡ true
-      → descriptorPlace f at t i (noPlace fine) ≡ descriptorPlace f at t i rest
-  field-told (magic n) rest e = absurd (false≢true e)
-  field-told comment rest e = absurd (false≢true e)
-  field-told (field g d) rest e = go (eqb f g) e
+  pub field-told : descriptorPlace f at t i (noPlace fine) .found ≡ true → descriptorPlace f at t i (noPlace fine) ≡ descriptorPlace f at t i rest
+  field-told = go (fieldOf i)
     where
-      go : (x : Bool) → (if x then foundAt (at + beforeDescriptor f t) (length d) else noPlace fine) .found ≡ true
-          → (if x then foundAt (at + beforeDescriptor f t) (length d) else noPlace fine)
-          ≡ (if x then foundAt (at + beforeDescriptor f t) (length d) else rest)
-      go true e = refl
-      go false e = absurd (false≢true e)
-  field-told (pair k v) rest e = absurd (false≢true e)
-  field-told closing rest e = absurd (false≢true e)
+      by : (x : Bool) (p : FindAnswer) → (if x then p else noPlace fine) .found ≡ true → (if x then p else noPlace fine) ≡ (if x then p else rest)
+      by true p e = refl
+      by false p e = absurd (false≢true e)
+
+      go : (o : Option Given) → givenPlace f at t o (noPlace fine) .found ≡ true → givenPlace f at t o (noPlace fine) ≡ givenPlace f at t o rest
+      go none e = absurd (false≢true e)
+      go (some (given g d)) e = by (eqb f g) (foundAt (at + beforeDescriptor f t) (length d)) e
 
   -- the line does not have it
-  pub field-next : (i : Item) (rest : FindAnswer) → descriptorPlace f at t i (noPlace fine) .found ≡ false
-      → descriptorPlace f at t i rest ≡ rest
-  field-next (magic n) rest e = refl
-  field-next comment rest e = refl
-  field-next (field g d) rest e = go (eqb f g) e
+  pub field-next : descriptorPlace f at t i (noPlace fine) .found ≡ false → descriptorPlace f at t i rest ≡ rest
+  field-next = go (fieldOf i)
     where
-      go : (x : Bool) → (if x then foundAt (at + beforeDescriptor f t) (length d) else noPlace fine) .found ≡ false
-          → (if x then foundAt (at + beforeDescriptor f t) (length d) else rest) ≡ rest
-      go true e = absurd (false≢true (sym e))
-      go false e = refl
-  field-next (pair k v) rest e = refl
-  field-next closing rest e = refl
+      by : (x : Bool) (p : FindAnswer) → p .found ≡ true → (if x then p else noPlace fine) .found ≡ false → (if x then p else rest) ≡ rest
+      by true p h e = absurd (false≢true (sym e ∙ h))
+      by false p h e = refl
+
+      go : (o : Option Given) → givenPlace f at t o (noPlace fine) .found ≡ false → givenPlace f at t o rest ≡ rest
+      go none e = refl
+      go (some (given g d)) e = by (eqb f g) (foundAt (at + beforeDescriptor f t) (length d)) refl e
 
 -- ---- the entries that are left
 
@@ -415,7 +313,7 @@ module _ (file : List ℕ) {n at : ℕ} (a : Headed file n) (s : SecondAt file a
         entries = x .rest;
         after = a .after;
         split = ap (λ i. lines (drop i file)) (sym u) ∙ lines-after file (l ∷ []) (linesOf (x .rest) ++ a .after) c;
-        items = items (x .version) (x .rest) [] (a .fields) (a .after) (x .fine);
+        items = header-items x;
         short = omega (arith, x .short, b);
         many = omega (arith, a .many, ap length (x .entries));
         holds = f l (x .version) (x .rest) e (x .entries);

@@ -1,7 +1,7 @@
 // Where a field's descriptor lies in a file.
 use format::FindAnswer;
 use header::lines::Span;
-use text::lines::Mark;
+use text::lines::Kind;
 use text::words::Row;
 ghost use mathlib.Core.Path.{_≡_};
 ghost use Prim.Native.Nat.{_+_, _-_, _≤_};
@@ -41,19 +41,15 @@ fn field_in(t: &[u8], field: u32, at: usize) -> FindAnswer
     requires { ⌜ at + length (now t) ≤ maxHeader ⌝ }
     ensures { λ r. ⌜ ((i : Item) → IsItem (now (t .entry)) i → r ≡ descriptorPlace field at (now (t .entry)) i (noPlace fine)) ⌝ }
 {
-    if !text::lines::begins(t) {
-        return crate::places::absent();
-    }
-    match text::lines::find_mark(t) {
-        Mark::Field(i) => {
+    match text::lines::kind_of(t) {
+        Kind::Field(i) => {
             if is_field(&t[..i], field) {
                 descriptor_at(&t[i + 2..], field, at + (i + 2))
             } else {
                 crate::places::absent()
             }
         }
-        Mark::Pair(_) => crate::places::absent(),
-        Mark::Nothing => crate::places::absent(),
+        _ => crate::places::absent(),
     }
 }
 

@@ -3,7 +3,7 @@ use format::FindAnswer;
 use format::Refusal;
 use format::ValueAnswer;
 use header::lines::Span;
-use text::lines::Mark;
+use text::lines::Kind;
 ghost use mathlib.Core.Path.{_≡_};
 ghost use mathlib.Core.List.{List};
 ghost use Prim.Native.Nat.{ℕ, _+_, _≤_};
@@ -22,19 +22,15 @@ fn pair_in(t: &[u8], key: &[u8], at: usize, none: FindAnswer) -> FindAnswer
     requires { ⌜ at + length (now t) ≤ maxHeader ⌝ }
     ensures { λ r. ⌜ ((i : Item) → IsItem (now (t .entry)) i → r ≡ keyThen (now (key .entry)) at i none) ⌝ }
 {
-    if !text::lines::begins(t) {
-        return none;
-    }
-    match text::lines::find_mark(t) {
-        Mark::Field(_) => none,
-        Mark::Pair(i) => {
+    match text::lines::kind_of(t) {
+        Kind::Pair(i) => {
             if text::escapes::means(&t[..i], key) {
                 crate::places::placed(at + (i + 2), t.len() - (i + 2))
             } else {
                 none
             }
         }
-        Mark::Nothing => none,
+        _ => none,
     }
 }
 
