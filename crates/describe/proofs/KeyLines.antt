@@ -1,93 +1,37 @@
--- Laws of the lines of keys: the mark of a line, lines one after the other, and the line of a pair.
+-- Laws of the lines of keys: the pair of a line, and lines one after the other.
 -- Assumes nothing.
 use Prim.Native.Nat.{ℕ, suc, _+_, _-_, _≤_, _<_}
 use native.Mathlib.Omega.{arith}
-use mathlib.Core.Path.{_≡_, refl, sym, ap, _∙_}
-use mathlib.Core.Bool.{Bool, true, false, false≢true}
+use mathlib.Core.Path.{_≡_, sym, ap, _∙_}
+use mathlib.Core.Bool.{true, false}
 use mathlib.Core.List.{List, [], _∷_, _++_, append-assoc}
-use lib.Dec.{eqb}
-use lib.ListN.{length, take, drop, getD, length-append, length-drop, length-take}
-use borrow.Author.Tests.{ne-eqb}
-use Rattle.format.specs.Bytes.{if_then_else_, bytes, same, LF, HASH, EQUALS}
+use mathlib.Core.Option.{some}
+use lib.ListN.{length, take, drop, length-append, length-drop, length-take}
+use Rattle.format.specs.Bytes.{bytes, same, LF, EQUALS}
 use Rattle.format.specs.Limits.{maxHeader}
 use Rattle.format.specs.Lines.{Line, line, lines}
-use Rattle.format.specs.Pairs.{Marked, unmarked, fieldMark, pairMark, mark}
+use Rattle.format.specs.Pairs.{kindOf, pairTexts}
 use Rattle.format.proofs.Lines.{length-lines-le, length-unlines-cons}
-use Rattle.text.specs.declared.lines.Mark.the-variants.{Field, Pair, Nothing}
-use Rattle.text.specs.Places.{markPlace}
-use Rattle.text.proofs.Places.{mark-split-pair}
+use Rattle.text.specs.declared.lines.Kind.the-variants.{Pair}
+use Rattle.text.proofs.Places.{KindAt}
 use Rattle.header.specs.Spans.{LineAt, PastAt}
 use Rattle.header.proofs.LineCuts.{rest-of}
-use Rattle.describe.specs.Shown.{markOf, isKey, isLater, keyText, shownMark, shownLines, linesFrom, Within}
+use Rattle.describe.specs.Shown.{pairIn, isKey, isLater, keyText, shownTexts, shownLines, linesFrom, Within}
 
--- ---- the mark of a line
+-- ---- the pair of a line
 
-pub mark-empty : (t : List ℕ) → length t ≡ 0 → Nothing ≡ markPlace (markOf t)
-mark-empty [] h = refl
-mark-empty (b ∷ t) h = absurd (omega arith)
+module _ (t : List ℕ) (i : ℕ) (e : KindAt t (kindOf t) (Pair i)) where
+  paired : pairIn t ≡ some (take i t, drop (i + 2) t)
+  paired = ap pairTexts (e .0)
 
-pub mark-comment : (t : List ℕ) → (length t ≡ 0 → ⊥) → getD t 0 0 ≡ HASH → Nothing ≡ markPlace (markOf t)
-mark-comment [] h e = absurd (h refl)
-mark-comment (b ∷ t) h e = rw e
+  pub pair-key : (k : List ℕ) → same k (take i t) ≡ isKey k (pairIn t)
+  pair-key k = sym (ap (isKey k) paired)
 
-pub mark-other : (t : List ℕ) → (length t ≡ 0 → ⊥) → (getD t 0 0 ≡ HASH → ⊥) → mark t ≡ markOf t
-mark-other [] h n = absurd (h refl)
-mark-other (b ∷ t) h n = rw (ne-eqb b HASH n)
+  pub pair-later : (ls : List Line) → isLater (take i t) ls ≡ true → [] ≡ shownTexts (pairIn t) ls
+  pair-later ls h = rw (paired, h)
 
--- a pair's mark parts the line
-pub pair-split : (t : List ℕ) (i : ℕ) → markPlace (markOf t) ≡ Pair i → (markOf t ≡ pairMark (take i t) (drop (i + 2) t)) × (i + 2 ≤ length t)
-pair-split [] i e = let z : false ≡ true = cc in absurd (false≢true z)
-pair-split (b ∷ t) i e = go (eqb b HASH) refl e
-  where
-    go : (x : Bool) → eqb b HASH ≡ x → markPlace (if x then unmarked else mark (b ∷ t)) ≡ Pair i
-        → ((if x then unmarked else mark (b ∷ t)) ≡ pairMark (take i (b ∷ t)) (drop (i + 2) (b ∷ t))) × (i + 2 ≤ length (b ∷ t))
-    go true q e = let z : false ≡ true = cc in absurd (false≢true z)
-    go false q e = mark-split-pair (b ∷ t) i e
-
--- a line with no mark of a pair
-module _ (m : Marked) where
-  pub field-key : (k : List ℕ) (i : ℕ) → markPlace m ≡ Field i → false ≡ isKey k m
-  field-key k i e = go m e
-    where
-      go : (m : Marked) → markPlace m ≡ Field i → false ≡ isKey k m
-      go unmarked e = refl
-      go (fieldMark n d) e = refl
-      go (pairMark j v) e = cc
-
-  pub none-key : (k : List ℕ) → markPlace m ≡ Nothing → false ≡ isKey k m
-  none-key k e = go m e
-    where
-      go : (m : Marked) → markPlace m ≡ Nothing → false ≡ isKey k m
-      go unmarked e = refl
-      go (fieldMark n d) e = refl
-      go (pairMark j v) e = cc
-
-  pub field-shown : (ls : List Line) (i : ℕ) → markPlace m ≡ Field i → [] ≡ shownMark m ls
-  field-shown ls i e = go m e
-    where
-      go : (m : Marked) → markPlace m ≡ Field i → [] ≡ shownMark m ls
-      go unmarked e = refl
-      go (fieldMark n d) e = refl
-      go (pairMark j v) e = cc
-
-  pub none-shown : (ls : List Line) → markPlace m ≡ Nothing → [] ≡ shownMark m ls
-  none-shown ls e = go m e
-    where
-      go : (m : Marked) → markPlace m ≡ Nothing → [] ≡ shownMark m ls
-      go unmarked e = refl
-      go (fieldMark n d) e = refl
-      go (pairMark j v) e = cc
-
--- the line of a pair
-module _ (t : List ℕ) (i : ℕ) (e : markPlace (markOf t) ≡ Pair i) where
-  pub pair-key : (k : List ℕ) → same k (take i t) ≡ isKey k (markOf t)
-  pair-key k = sym (ap (isKey k) (pair-split t i e .0))
-
-  pub pair-later : (ls : List Line) → isLater (take i t) ls ≡ true → [] ≡ shownMark (markOf t) ls
-  pair-later ls h = rw (pair-split t i e .0, h)
-
-  pub pair-last : (ls : List Line) → isLater (take i t) ls ≡ false → keyText (take i t) (drop (i + 2) t) ≡ shownMark (markOf t) ls
-  pair-last ls h = rw (pair-split t i e .0, h)
+  pub pair-last : (ls : List Line) → isLater (take i t) ls ≡ false → keyText (take i t) (drop (i + 2) t) ≡ shownTexts (pairIn t) ls
+  pair-last ls h = rw (paired, h)
 
 -- the line of a key, by its parts
 pub key-parts : (t : List ℕ) (i : ℕ)
@@ -133,17 +77,17 @@ module _ {file : List ℕ} {at count : ℕ} (w : Within file at count) where
           }
 
       -- the line has the key, or the lines after it decide
-      pub later-here : (k : List ℕ) → isKey k (markOf here) ≡ true → isLater k (linesFrom file at count) ≡ true
+      pub later-here : (k : List ℕ) → isKey k (pairIn here) ≡ true → isLater k (linesFrom file at count) ≡ true
       unfolding isLater
       later-here k e = rw (lines-next, e)
 
-      pub later-next : (k : List ℕ) → isKey k (markOf here) ≡ false
+      pub later-next : (k : List ℕ) → isKey k (pairIn here) ≡ false
           → isLater k (linesFrom file at count) ≡ isLater k (linesFrom file next (count - 1))
       unfolding isLater
       later-next k e = rw (lines-next, e)
 
       pub shown-next : shownLines (linesFrom file at count)
-          ≡ shownMark (markOf here) (linesFrom file next (count - 1)) ++ shownLines (linesFrom file next (count - 1))
+          ≡ shownTexts (pairIn here) (linesFrom file next (count - 1)) ++ shownLines (linesFrom file next (count - 1))
       unfolding shownLines
       shown-next = rw lines-next
 

@@ -15,105 +15,32 @@ use Rattle.format.specs.declared.Reading.{Reading}
 use Rattle.format.specs.declared.ReadAnswer.{ReadAnswer}
 use Rattle.format.specs.declared.DataAnswer.{DataAnswer}
 use Rattle.format.specs.declared.WriteAnswer.{WriteAnswer}
-use Rattle.format.specs.Bytes.{if_then_else_, bytes, every, same, isSome, orElse, HASH}
+use Rattle.format.specs.Bytes.{if_then_else_, bytes, same, isSome, orElse}
 use Rattle.format.specs.Limits.{maxLines, maxListed}
-use Rattle.format.specs.Refusals.{lentTooShort, badByte, notInVersion, refusal, fine}
+use Rattle.format.specs.Refusals.{lentTooShort, refusal, fine}
 use Rattle.format.specs.Lines.{Line, line, lf, crlf, eof, text}
-use Rattle.format.specs.Pairs.{plain, Marked, unmarked, fieldMark, pairMark, mark, escape, unescape}
-use Rattle.format.specs.Fields.{Given, pairsSince}
+use Rattle.format.specs.Pairs.{mark, escape}
+use Rattle.format.specs.Fields.{Given}
 use Rattle.format.specs.Descriptors.{isDetached, encodings, encodingOf, endianOf, typeOf, extentOf, sizesOf}
-use Rattle.format.specs.Header.{Item, magic, comment, field, pair, closing, Entry, entry, lineOf, linesOf, magicVersion, versionOfLine, Judged, wrong, right, unescaped, onPair, onMark, judge, Outcome, refused, accepted, header, versionOf, valueIn, valueOf, headerLength}
+use Rattle.format.specs.Header.{pairOf, Entry, entry, lineOf, linesOf, magicVersion, versionOfLine, Outcome, refused, accepted, header, versionOf, valueFor, valueIn, valueOf, headerLength}
 use Rattle.format.specs.Data.{Place, nowhere, part, placeOf}
-use Rattle.format.specs.Settings.{beginsFine, hasKey, pairText}
+use Rattle.format.specs.Settings.{hasKey}
 use Rattle.format.specs.Calls.{formOf, readAnswer, readHeaderCall, readingOf, dataAnswer}
 use Rattle.format.specs.Writer.{decimal, spaced, nameAt}
-use Rattle.format.specs.Listing.{shown, shownRefusal, shownItem, shownKeys, shownReading, shownForm, shownPlace, shownHeader, listing, listingCall}
+use Rattle.format.specs.Listing.{shown, shownRefusal, shownPair, shownKeys, shownReading, shownForm, shownPlace, shownHeader, listing, listingCall}
 use Rattle.format.proofs.Bytes.{same-refl, same-true}
-use Rattle.format.proofs.Pairs.{mark-of-pair, begins-of-pair, pair-line, escape-injective}
+use Rattle.format.proofs.Pairs.{escape-injective, escapedPair}
 use Rattle.format.proofs.Header.{header-sound}
 use Rattle.format.proofs.Numbered.{NumberedOutcome, header-numbered}
 use Rattle.format.proofs.Places.{NumberedPlace, place-numbered}
-use Rattle.header.specs.Accepted.{IsItem, Items}
-use Rattle.header.proofs.Accepted.{items}
+use Rattle.header.specs.Accepted.{Items}
+use Rattle.header.proofs.Accepted.{header-items, item-pair}
 use Rattle.volume.specs.Places.{IsReading}
 use Rattle.volume.proofs.Headers.{header-axes, header-sizes}
 use Rattle.printed.specs.Lines.{formText, typeText, endianText, topText, middleText, endText}
-use Rattle.describe.specs.Shown.{markOf, isKey, isLater, shownMark, shownLines, linesFrom, Within, readingText}
-
--- ---- the mark of a judged line
-
-abbrev isPair : Marked → Bool
-isPair unmarked = false
-isPair (fieldMark n d) = false
-isPair (pairMark k v) = true
-
--- a pair has its escaped texts, any other line no mark of a pair
-abbrev MarkIs : Marked → Item → Type 0
-MarkIs m (magic n) = isPair m ≡ false
-MarkIs m comment = isPair m ≡ false
-MarkIs m (field f d) = isPair m ≡ false
-MarkIs m (pair k v) = m ≡ pairMark (escape k) (escape v)
-MarkIs m closing = isPair m ≡ false
-
--- what is judged by the mark of a pair is a pair
-abbrev IsPair : Judged → Type 0
-IsPair (wrong n) = Unit {0}
-IsPair (right (magic n)) = ⊥
-IsPair (right comment) = ⊥
-IsPair (right (field f d)) = ⊥
-IsPair (right (pair k v)) = Unit {0}
-IsPair (right closing) = ⊥
-
-pair-only : (version : ℕ) (k v : List ℕ) → IsPair (onPair version k v)
-unfolding onPair
-pair-only version [] v = tt
-pair-only version (b ∷ k) v = go (ltb version pairsSince) (unescape (b ∷ k)) (unescape v)
-  where
-    go : (x : Bool) (o q : Option (List ℕ)) → IsPair (if x then wrong notInVersion else unescaped o q)
-    go true o q = tt
-    go false none q = tt
-    go false (some a) none = tt
-    go false (some a) (some c) = tt
-
--- a line judged to be no pair has no mark of one
-no-pair : (version : ℕ) (gs : List Given) (i : Item) → (IsPair (right i) → ⊥) → (t : List ℕ) → judge version gs t ≡ right i → isPair (markOf t) ≡ false
-unfolding judge
-no-pair version gs i n [] e = refl
-no-pair version gs i n (b ∷ t) e = go (eqb b HASH) (every plain (b ∷ t)) (mark (b ∷ t)) e
-  where
-    go : (x y : Bool) (m : Marked) → (if x then right comment else if not y then wrong badByte else onMark version gs m) ≡ right i
-        → isPair (if x then unmarked else m) ≡ false
-    go true y m e = refl
-    go false y unmarked e = refl
-    go false y (fieldMark name rest) e = refl
-    go false true (pairMark k v) e = absurd (n (subst IsPair e (pair-only version k v)))
-    go false false (pairMark k v) e = let z : false ≡ true = cc in absurd (false≢true z)
-
--- a line that begins like a field or a pair has its mark
-marked : (t : List ℕ) → beginsFine t ≡ true → markOf t ≡ mark t
-marked [] h = absurd (false≢true h)
-marked (b ∷ t) h = rw (not-true (eqb b HASH) h)
-
-mark-is : {t : List ℕ} (i : Item) → IsItem t i → MarkIs (markOf t) i
-mark-is {t} (magic n) w = no-pair (w .version) (w .before) (magic n) (λ x. x) t (w .judged)
-mark-is {t} comment w = no-pair (w .version) (w .before) comment (λ x. x) t (w .judged)
-mark-is {t} (field f d) w = no-pair (w .version) (w .before) (field f d) (λ x. x) t (w .judged)
-mark-is {t} (pair k v) w =
-    let p = pair-line (w .version) (w .before) t k v (w .judged) in
-    ap markOf (p .text-is) ∙ marked (pairText k v) (begins-of-pair k v (p .key)) ∙ mark-of-pair k v (p .key)
-mark-is {t} closing w = no-pair (w .version) (w .before) closing (λ x. x) t (w .judged)
+use Rattle.describe.specs.Shown.{pairIn, isKey, isLater, shownTexts, shownLines, linesFrom, Within, readingText}
 
 -- ---- the keys
-
-unmarked-key : (k : List ℕ) (m : Marked) → isPair m ≡ false → isKey k m ≡ false
-unmarked-key k unmarked e = refl
-unmarked-key k (fieldMark n d) e = refl
-unmarked-key k (pairMark j v) e = absurd (false≢true (sym e))
-
-unmarked-shown : (m : Marked) (ls : List Line) → isPair m ≡ false → shownMark m ls ≡ []
-unmarked-shown unmarked ls e = refl
-unmarked-shown (fieldMark n d) ls e = refl
-unmarked-shown (pairMark k v) ls e = absurd (false≢true (sym e))
 
 -- two keys are the same where their escaped texts are
 same-escape : (k j : List ℕ) → same (escape k) (escape j) ≡ same k j
@@ -125,24 +52,20 @@ same-escape k j = go (same k j) refl (same (escape k) (escape j)) refl
     go false e true f = sym (sym e ∙ ap (λ (s : List ℕ). same s j) (escape-injective k j (same-true (escape k) (escape j) f)) ∙ same-refl j)
     go false e false f = refl
 
--- whether a line gives the key
-key-is : (k : List ℕ) (m : Marked) (i : Item) → MarkIs m i → isKey (escape k) m ≡ isSome (valueIn k i)
-key-is k m (magic n) w = unmarked-key (escape k) m w
-key-is k m comment w = unmarked-key (escape k) m w
-key-is k m (field f d) w = unmarked-key (escape k) m w
-key-is k m (pair j v) w = ap (isKey (escape k)) w ∙ same-escape k j ∙ go (same k j)
+-- whether a pair gives the key
+key-is : (k : List ℕ) (o : Option (List ℕ × List ℕ)) → isKey (escape k) (escapedPair o) ≡ isSome (valueFor k o)
+key-is k none = refl
+key-is k (some p) = same-escape k (p .0) ∙ go (same k (p .0))
   where
-    go : (x : Bool) → x ≡ isSome (if x then some v else none)
+    go : (x : Bool) → x ≡ isSome (if x then some (p .1) else none)
     go true = refl
     go false = refl
-key-is k m closing w = unmarked-key (escape k) m w
 
 -- whether a line of these gives it
 later-is : (k : List ℕ) (es : List Entry) → Items es → isLater (escape k) (linesOf es) ≡ hasKey k es
 unfolding isLater valueOf
 later-is k [] h = refl
-later-is k (entry l i ∷ es) h =
-    rw (later-is k es (h .1), key-is k (markOf (text l)) i (mark-is i (h .0))) (go (valueOf k es) (valueIn k i))
+later-is k (entry l i ∷ es) h = rw (later-is k es (h .1), item-pair (h .0), key-is k (pairOf i)) (go (valueOf k es) (valueIn k i))
   where
     go : (a b : Option (List ℕ)) → (isSome b || isSome a) ≡ isSome (orElse a b)
     go none none = refl
@@ -151,23 +74,20 @@ later-is k (entry l i ∷ es) h =
     go (some v) (some u) = refl
 
 -- what a line shows
-item-shown : (m : Marked) (i : Item) (es : List Entry) → MarkIs m i → Items es → shownMark m (linesOf es) ≡ shownItem i es
-item-shown m (magic n) es w h = unmarked-shown m (linesOf es) w
-item-shown m comment es w h = unmarked-shown m (linesOf es) w
-item-shown m (field f d) es w h = unmarked-shown m (linesOf es) w
-item-shown m (pair k v) es w h = rw (w, later-is k es h)
-item-shown m closing es w h = unmarked-shown m (linesOf es) w
+pair-shown : (o : Option (List ℕ × List ℕ)) (es : List Entry) → Items es → shownTexts (escapedPair o) (linesOf es) ≡ shownPair o es
+pair-shown none es h = refl
+pair-shown (some p) es h = rw (later-is (p .0) es h)
 
 lines-shown : (es : List Entry) → Items es → shownLines (linesOf es) ≡ shownKeys es
 unfolding shownLines shownKeys
 lines-shown [] h = refl
-lines-shown (entry l i ∷ es) h = rw (item-shown (markOf (text l)) i es (mark-is i (h .0)) (h .1), lines-shown es (h .1))
+lines-shown (entry l i ∷ es) h = rw (item-pair (h .0), pair-shown (pairOf i) es (h .1), lines-shown es (h .1))
 
 -- ---- line 1
 
 abbrev Unmarked : List ℕ → Option ℕ → Type 0
 Unmarked t none = Unit {0}
-Unmarked t (some v) = isPair (markOf t) ≡ false
+Unmarked t (some v) = pairIn t ≡ none
 
 magic-unmarked : (t : List ℕ) → Unmarked t (magicVersion t)
 unfolding magicVersion mark
@@ -177,11 +97,11 @@ magic-unmarked t =
     (is (bytes "NRRD0003") refl) (is (bytes "NRRD0004") refl) (is (bytes "NRRD0005") refl)
   where
     -- what is the same as a text without a mark has none
-    is : (s : List ℕ) → isPair (markOf s) ≡ false → same t s ≡ true → isPair (markOf t) ≡ false
-    is s n e = ap (λ (u : List ℕ). isPair (markOf u)) (same-true t s e) ∙ n
+    is : (s : List ℕ) → pairIn s ≡ none → same t s ≡ true → pairIn t ≡ none
+    is s n e = ap pairIn (same-true t s e) ∙ n
 
-    go : (a b c d e f : Bool) → (a ≡ true → isPair (markOf t) ≡ false) → (b ≡ true → isPair (markOf t) ≡ false) → (c ≡ true → isPair (markOf t) ≡ false)
-        → (d ≡ true → isPair (markOf t) ≡ false) → (e ≡ true → isPair (markOf t) ≡ false) → (f ≡ true → isPair (markOf t) ≡ false)
+    go : (a b c d e f : Bool) → (a ≡ true → pairIn t ≡ none) → (b ≡ true → pairIn t ≡ none) → (c ≡ true → pairIn t ≡ none)
+        → (d ≡ true → pairIn t ≡ none) → (e ≡ true → pairIn t ≡ none) → (f ≡ true → pairIn t ≡ none)
         → Unmarked t (if a then some 1 else if b then some 1 else if c then some 2 else if d then some 3 else if e then some 4 else if f then some 5 else none)
     go true b c d e f p q r s u v = p refl
     go false true c d e f p q r s u v = q refl
@@ -191,7 +111,7 @@ magic-unmarked t =
     go false false false false false true p q r s u v = v refl
     go false false false false false false p q r s u v = tt
 
-first-unmarked : (l : Line) {v : ℕ} → versionOfLine l ≡ some v → isPair (markOf (text l)) ≡ false
+first-unmarked : (l : Line) {v : ℕ} → versionOfLine l ≡ some v → pairIn (text l) ≡ none
 first-unmarked (line t lf) e = subst (Unmarked t) e (magic-unmarked t)
 first-unmarked (line t crlf) e = subst (Unmarked t) e (magic-unmarked t)
 first-unmarked (line t eof) e = let z : false ≡ true = cc in absurd (false≢true z)
@@ -219,11 +139,11 @@ module _ (file : List ℕ) {es : List Entry} {gs : List Given} {ls : List Line} 
   unfolding shownLines shownKeys
   header-shown =
       let x = header-sound file e in
-      let n : shownMark (markOf (text (x .first))) (linesOf (x .rest)) ≡ [] = unmarked-shown (markOf (text (x .first))) (linesOf (x .rest)) (first-unmarked (x .first) (x .magical)) in
+      let n = ap (λ (o : Option (List ℕ × List ℕ)). shownTexts o (linesOf (x .rest))) (first-unmarked (x .first) (x .magical)) in
       ap shownLines header-lines
       ∙ ap (λ (y : List Entry). shownLines (linesOf y)) (x .entries)
       ∙ ap (λ (s : List ℕ). s ++ shownLines (linesOf (x .rest))) n
-      ∙ lines-shown (x .rest) (items (x .version) (x .rest) [] gs ls (x .fine))
+      ∙ lines-shown (x .rest) (header-items x)
       ∙ sym (ap shownKeys (x .entries))
 
 form-is : (gs : List Given) → formText (formOf gs) ≡ shownForm gs

@@ -2,47 +2,44 @@
 use Prim.Native.Nat.{ℕ, _+_, _≤_}
 use mathlib.Core.Bool.{Bool, false, _||_}
 use mathlib.Core.List.{List, [], _∷_, _++_}
-use lib.Dec.{eqb}
+use mathlib.Core.Option.{Option, none, some}
 use lib.ListN.{length, take, drop}
 use Rattle.format.specs.declared.Reading.{Reading}
-use Rattle.format.specs.Bytes.{if_then_else_, same, HASH, EQUALS}
+use Rattle.format.specs.Bytes.{if_then_else_, same, EQUALS}
 use Rattle.format.specs.Limits.{maxHeader}
 use Rattle.format.specs.Lines.{Line, text, lines, unlines}
-use Rattle.format.specs.Pairs.{Marked, unmarked, fieldMark, pairMark, mark}
+use Rattle.format.specs.Pairs.{kindOf, pairTexts}
 use Rattle.format.specs.Listing.{shown}
 use Rattle.printed.specs.Lines.{topText, middleText, endText}
 
 -- ---- the lines of keys, by the lines of a header
 
--- the mark of a line; an empty line and a comment have none
-abbrev pub markOf : List ℕ → Marked
-markOf [] = unmarked
-markOf (b ∷ t) = if eqb b HASH then unmarked else mark (b ∷ t)
+-- the texts of a line's key and value, if it is that of a pair
+abbrev pub pairIn : List ℕ → Option (List ℕ × List ℕ)
+pairIn t = pairTexts (kindOf t)
 
 -- the line is that of a pair whose key has the text k
-abbrev pub isKey : List ℕ → Marked → Bool
-isKey k unmarked = false
-isKey k (fieldMark n d) = false
-isKey k (pairMark j v) = same k j
+abbrev pub isKey : List ℕ → Option (List ℕ × List ℕ) → Bool
+isKey k none = false
+isKey k (some p) = same k (p .0)
 
 -- one of the lines is
 unfoldable pub isLater : List ℕ → List Line → Bool
 isLater k [] = false
-isLater k (l ∷ ls) = isKey k (markOf (text l)) || isLater k ls
+isLater k (l ∷ ls) = isKey k (pairIn (text l)) || isLater k ls
 
 -- the texts of a key and its value
 abbrev pub keyText : List ℕ → List ℕ → List ℕ
 keyText k v = shown "key" (k ++ EQUALS ∷ v)
 
--- what a line of the header shows, by its mark and the lines after it
-abbrev pub shownMark : Marked → List Line → List ℕ
-shownMark unmarked ls = []
-shownMark (fieldMark n d) ls = []
-shownMark (pairMark k v) ls = if isLater k ls then [] else keyText k v
+-- what a line of the header shows, by its pair and the lines after it
+abbrev pub shownTexts : Option (List ℕ × List ℕ) → List Line → List ℕ
+shownTexts none ls = []
+shownTexts (some p) ls = if isLater (p .0) ls then [] else keyText (p .0) (p .1)
 
 unfoldable pub shownLines : List Line → List ℕ
 shownLines [] = []
-shownLines (l ∷ ls) = shownMark (markOf (text l)) ls ++ shownLines ls
+shownLines (l ∷ ls) = shownTexts (pairIn (text l)) ls ++ shownLines ls
 
 -- so many lines of a file from `at` on
 abbrev pub linesFrom : List ℕ → ℕ → ℕ → List Line

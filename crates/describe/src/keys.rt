@@ -1,36 +1,21 @@
 // The lines of the keys: each pair of the header that is the last one with its key, as its texts stand in the file. Two keys are the same
 // where their texts are, since a key has one escaped text.
 use header::lines::Span;
-use text::lines::Mark;
+use text::lines::Kind;
 ghost use mathlib.Core.Path.{_≡_};
 ghost use Prim.Native.Nat.{_+_, _≤_};
 ghost use lib.ListN.{length, take, drop};
 ghost use Rattle.format.specs.Limits.{maxLines, maxListed, maxReading, maxKeys, maxListing};
-ghost use Rattle.text.specs.Places.{markPlace};
 ghost use Rattle.printed.specs.Printed.{Printed};
-ghost use Rattle.describe.specs.Shown.{markOf, isKey, isLater, keyText, shownMark, shownLines, linesFrom, Within};
-
-// The mark of a line; an empty line and a comment have none.
-fn mark_of(t: &[u8]) -> Mark
-    ensures { λ r. ⌜ r ≡ markPlace (markOf (now (t .entry))) ⌝ }
-{
-    if t.len() == 0 {
-        return Mark::Nothing;
-    }
-    if t[0] == b'#' {
-        return Mark::Nothing;
-    }
-    text::lines::find_mark(t)
-}
+ghost use Rattle.describe.specs.Shown.{pairIn, isKey, isLater, keyText, shownTexts, shownLines, linesFrom, Within};
 
 // Whether a line is that of a pair whose key has this text.
 fn is_key(t: &[u8], key: &[u8]) -> bool
-    ensures { λ r. ⌜ r ≡ isKey (now (key .entry)) (markOf (now (t .entry))) ⌝ }
+    ensures { λ r. ⌜ r ≡ isKey (now (key .entry)) (pairIn (now (t .entry))) ⌝ }
 {
-    match mark_of(t) {
-        Mark::Field(_) => false,
-        Mark::Pair(i) => text::bytes::is_same(key, &t[..i]),
-        Mark::Nothing => false,
+    match text::lines::kind_of(t) {
+        Kind::Pair(i) => text::bytes::is_same(key, &t[..i]),
+        _ => false,
     }
 }
 
@@ -71,17 +56,16 @@ fn put_key(out: &mut [u8], at: usize, t: &[u8], i: usize) -> usize
 // What a line shows; `left` lines from `next` on come after it.
 fn put_item(file: &[u8], out: &mut [u8], at: usize, t: &[u8], next: usize, left: u32) -> usize
     requires { ⌜ Within (now file) next left × (at + (length (now t) + 4) ≤ maxListing) ⌝ }
-    ensures { λ r. ⌜ Printed (length (now (t .entry)) + 4) (now (out .entry)) at (shownMark (markOf (now (t .entry))) (linesFrom (now (file .entry)) next left)) (now (out .exit)) r ⌝ }
+    ensures { λ r. ⌜ Printed (length (now (t .entry)) + 4) (now (out .entry)) at (shownTexts (pairIn (now (t .entry))) (linesFrom (now (file .entry)) next left)) (now (out .exit)) r ⌝ }
 {
-    match mark_of(t) {
-        Mark::Field(_) => at,
-        Mark::Pair(i) => {
+    match text::lines::kind_of(t) {
+        Kind::Pair(i) => {
             if is_later(file, &t[..i], next, left) {
                 return at;
             }
             put_key(out, at, t, i)
         }
-        Mark::Nothing => at,
+        _ => at,
     }
 }
 

@@ -14,9 +14,8 @@ use Rattle.format.specs.Bytes.{if_then_else_, every, isSome}
 use Rattle.format.specs.Refusals.{badByte, noMark, notInVersion, repeatedField, outOfOrder, badBackslash}
 use Rattle.format.specs.Pairs.{plain, unmarked, pairMark, LineKind, otherLine, kindOf, unescape}
 use Rattle.format.specs.Fields.{pairsSince, fieldSince, Given, isGiven, needsDimension, needsSpace, inOrder}
-use Rattle.format.specs.Descriptors.{trimEnd, fromDescriptor, descriptor, dimensionOf}
+use Rattle.format.specs.Descriptors.{descriptor, dimensionOf}
 use Rattle.format.specs.Header.{Judged, wrong, right, unescaped, onPair, onField, onKind, judge}
-use Rattle.format.proofs.Descriptors.{drop-to-descriptor, take-trimmed}
 use Rattle.fields.specs.declared.state.Step.{Step}
 use Rattle.fields.specs.States.{flags, described, stepOf, stepped, wrongOf}
 use Rattle.fields.proofs.States.{flags-at}
@@ -30,19 +29,6 @@ pub order-by-flags : (f : ℕ) (gs : List Given) {g : List Bool} {axes space : B
 unfolding inOrder
 order-by-flags f gs p q e =
     rw (e, p, q, flags-at gs 0 (omega arith), flags-at gs 16 (omega arith), flags-at gs 17 (omega arith))
-
--- ---- descriptors
-
--- the part of what follows the mark that starts where the descriptor does, up to its last byte that is no blank
-pub descriptor-part : (f : ℕ) (rest : List ℕ) (from n : ℕ) → from ≡ length rest - length (fromDescriptor f rest)
-    → n ≡ length (trimEnd (take (length rest - from) (drop from rest)))
-    → take n (take (length rest - from) (drop from rest)) ≡ descriptor f rest
-unfolding descriptor
-descriptor-part f rest from n e i =
-    let d = drop from rest in
-    let all : take (length rest - from) d ≡ d = rw (← length-drop from rest, take-length) in
-    let is : d ≡ fromDescriptor f rest = rw e (drop-to-descriptor f rest) in
-    rw (i, all) (take-trimmed d ∙ ap trimEnd is)
 
 -- ---- a pair along its tests
 

@@ -27,7 +27,7 @@ use Rattle.format.proofs.Judged.{is-field, judge-keeps, after-cases}
 use Rattle.format.proofs.Rules.{needed-of}
 use Rattle.text.specs.Numbers.{noSizes, sizesAnswer}
 use Rattle.text.specs.declared.numbers.Sizes.{Sizes}
-use Rattle.read_descriptors.specs.declared.Checked.{Checked}
+use Rattle.read_descriptors.specs.declared.check.Checked.{Checked}
 use Rattle.read_descriptors.specs.Checked.{found, checked}
 use Rattle.read_descriptors.proofs.Checking.{sizes-fine}
 use Rattle.fields.specs.declared.state.Step.{Step}

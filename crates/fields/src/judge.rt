@@ -6,14 +6,13 @@ use text::words::Row;
 ghost use mathlib.Core.Path.{_≡_};
 ghost use mathlib.Core.List.{List};
 ghost use mathlib.Core.Option.{some};
-ghost use Prim.Native.Nat.{ℕ, _+_, _-_, _≤_, _<_};
+ghost use Prim.Native.Nat.{ℕ, _+_, _≤_, _<_};
 ghost use lib.ListN.{length, take, drop};
 ghost use Rattle.format.specs.Bytes.{every, if_then_else_};
 ghost use Rattle.format.specs.Limits.{maxAxes};
 ghost use Rattle.format.specs.Refusals.{badByte};
 ghost use Rattle.format.specs.Pairs.{plain, fieldMark, otherLine};
 ghost use Rattle.format.specs.Fields.{Given, fieldCount, inOrder};
-ghost use Rattle.format.specs.Descriptors.{fromDescriptor, descriptor};
 ghost use Rattle.format.specs.Header.{wrong, onPair, onField, onKind, judge};
 ghost use Rattle.fields.specs.declared.state.Step.{Step};
 ghost use Rattle.fields.specs.States.{wrongOf, flags, Known, described, stepOf, stepped};
@@ -46,26 +45,6 @@ fn is_in_order(f: usize, given: &[bool; 30]) -> bool
             | (given[field::SPACE] | given[field::SPACE_DIMENSION]))
 }
 
-// The descriptor of a field in what follows its mark.
-pub fn descriptor_of<'a>(f: usize, rest: &'a [u8]) -> &'a [u8]
-    ensures { λ r. ⌜ now r ≡ descriptor f (now (rest .entry)) ⌝ }
-{
-    let from = text_start(f, rest);
-    let d = &rest[from..];
-    let n = text::lines::without_trailing(d);
-    &d[..n]
-}
-
-// How many bytes stand before the descriptor: in understood fields the spaces and tabs.
-pub fn text_start(f: usize, rest: &[u8]) -> usize
-    ensures { λ r. ⌜ (r ≡ length (now (rest .entry)) - length (fromDescriptor f (now (rest .entry)))) × (r ≤ length (now (rest .entry))) ⌝ }
-{
-    if format_values::fields::is_understood(f) {
-        return text::lines::leading(rest);
-    }
-    0
-}
-
 // The step of a line that gives no field and does not close: the number of its refusal, 0 where it is right.
 fn refuse(number: u32) -> Step
     ensures { λ r. ⌜ r ≡ stepOf (wrong number) ⌝ }
@@ -96,7 +75,7 @@ fn take_field(f: usize, t: &[u8], dimension: u32, sizes: &mut [u64; 16]) -> Step
             number: 0,
         };
     }
-    let x = read_descriptors::check(f, t, dimension);
+    let x = read_descriptors::check::check(f, t, dimension);
     if !x.fine {
         return refuse(format::BAD_DESCRIPTOR);
     }
@@ -129,7 +108,12 @@ fn on_known(
     if !is_in_order(f, given) {
         return refuse(format::OUT_OF_ORDER);
     }
-    take_field(f, descriptor_of(f, rest), dimension, sizes)
+    take_field(
+        f,
+        read_descriptors::place::descriptor_of(f, rest),
+        dimension,
+        sizes,
+    )
 }
 
 // The line t of a field whose mark stands at i: a byte that it may not hold 5, unknown 7, not in this version 8, repeated 9, out of order 10, bad descriptor 11.

@@ -140,6 +140,8 @@ pub fn finish(
     if format::MAX_EXTENT < x {
         return refuse(format::EXTENT_TOO_LARGE, 0);
     }
+    let encoding = numbers[field::ENCODING];
+    let endian = numbers[field::ENDIAN];
     let form = given[field::DATA_FILE] as u32;
     let lineskip = wide(numbers[field::LINE_SKIP]);
     let byteskip = wide(numbers[field::BYTE_SKIP]);
@@ -151,8 +153,8 @@ pub fn finish(
             form: form,
             dimension: dimension,
             sampletype: sampletype,
-            encoding: numbers[field::ENCODING],
-            endian: numbers[field::ENDIAN],
+            encoding: encoding,
+            endian: endian,
             sizes: sizes,
             lineskip: lineskip,
             byteskip: byteskip,

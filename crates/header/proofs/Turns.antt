@@ -3,7 +3,7 @@
 use Prim.Native.Nat.{ℕ, suc, _+_, _-_, _≤_, _<_}
 use native.Mathlib.Nat.{add-zero}
 use native.Mathlib.Omega.{arith}
-use mathlib.Core.Path.{_≡_, refl, sym, ap, _∙_}
+use mathlib.Core.Path.{_≡_, refl, sym, ap, subst, _∙_}
 use mathlib.Core.Bool.{Bool, true, false, not}
 use mathlib.Core.List.{List, [], _∷_}
 use lib.Dec.{eqb, ltb}
@@ -106,7 +106,7 @@ module _ (file : List ℕ) (version : ℕ) (gs : List Given) (n at : ℕ) where
       turn-wrong h = go (judge version gs t) refl is
         where
           go : (j : Judged) → judge version gs t ≡ j → _≡_ {A = Step × List ℕ} (s, ns′) (stepped j ns) → answerAt file version gs n at ≡ refusedAt (s .wrong) n
-          go (wrong v) e q = judged few (wrong v) e ∙ rw q
+          go (wrong v) e q = judged few (wrong v) e ∙ ap (λ (x : Step × List ℕ). refusedAt (x .0 .wrong) n) (sym q)
           go (right i) e q = absurd (h (ap (λ (x : Step × List ℕ). x .0 .wrong) q))
 
       module _ (fine : s .wrong ≡ 0) where
@@ -127,9 +127,9 @@ module _ (file : List ℕ) (version : ℕ) (gs : List Given) (n at : ℕ) where
         -- what is kept once it is read
         kept-after : {marks : List Bool} {numbers : List ℕ} → Holds marks numbers ns gs
             → Holds (keptAt (s .field) true marks) (keptAt (s .field) (s .number) numbers) ns′ (afterItem (right-of .item) gs)
-        kept-after h =
-            let q = right-of .stepped-is in
-            rw (ap (λ (x : Step × List ℕ). x .0 .field) q, ap (λ (x : Step × List ℕ). x .0 .number) q, ap (λ (x : Step × List ℕ). x .1) q)
+        kept-after {marks} {numbers} h =
+            subst (λ (x : Step × List ℕ). Holds (keptAt (x .0 .field) true marks) (keptAt (x .0 .field) (x .0 .number) numbers) (x .1) (afterItem (right-of .item) gs))
+            (sym (right-of .stepped-is))
             (holds-next version (take (textEnd - at) (drop at file)) (right-of .item) h (right-of .is-right))
 
         -- the line closes the header

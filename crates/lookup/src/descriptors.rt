@@ -32,8 +32,8 @@ fn descriptor_at(rest: &[u8], field: u32, at: usize) -> FindAnswer
     ensures { λ r. ⌜ r ≡ foundAt (at + (length (now (rest .entry)) - length (fromDescriptor field (now (rest .entry))))) (length (descriptor field (now (rest .entry)))) ⌝ }
 {
     let f = field as usize;
-    let d = fields::judge::descriptor_of(f, rest);
-    crate::places::placed(at + fields::judge::text_start(f, rest), d.len())
+    let d = read_descriptors::place::descriptor_of(f, rest);
+    crate::places::placed(at + read_descriptors::place::text_start(f, rest), d.len())
 }
 
 // The place of the descriptor that a line, which starts at `at`, gives the field.

@@ -1,4 +1,4 @@
--- Laws of the checker: what the answers of the leaves say of a descriptor.
+-- Laws of descriptors: where one stands, and what the answers of the leaves say of it.
 -- Assumes nothing.
 use Prim.Native.Nat.{ℕ, suc, _+_, _≤_, _-_}
 use native.Mathlib.Omega.{arith}
@@ -7,17 +7,32 @@ use mathlib.Core.Bool.{Bool, true, false, not, _&&_, _||_}
 use mathlib.Core.List.{List, [], _∷_, _++_, map}
 use mathlib.Core.Option.{Option, none, some}
 use lib.Dec.{eqb, ltb, leb, eqb·zero-suc, eqb·suc-suc}
-use lib.ListN.{length, replicate}
+use lib.ListN.{length, replicate, take, drop, length-drop}
+use lib.Seq.{take-length}
 use borrow.Author.Tests.{le-leb, lt-leb, leb-true, leb-false, eqb-true, eqb-false, eq-eqb, ne-eqb, ltb-true}
 use Rattle.format.specs.Bytes.{bytes, PERCENT, isIn, isEmpty, isSome, orDefault, same, beginsWith, if_then_else_}
 use Rattle.format.specs.Limits.{maxAxes, maxSize}
-use Rattle.format.specs.Descriptors.{isName, mayDescribe, sizesFine, valueOfNumber, within}
+use Rattle.format.specs.Descriptors.{trimEnd, fromDescriptor, descriptor, isName, mayDescribe, sizesFine, valueOfNumber, within}
+use Rattle.format.proofs.Descriptors.{drop-to-descriptor, take-trimmed}
 use Rattle.text.specs.Numbers.{numberAnswer, noSizes, sizesAnswer}
 use Rattle.text.specs.Places.{before}
 use Rattle.text.specs.declared.numbers.Number.the-variants.{Value, Wrong}
 use Rattle.text.specs.declared.numbers.Sizes.{Sizes}
-use Rattle.read_descriptors.specs.declared.Checked.{Checked}
+use Rattle.read_descriptors.specs.declared.check.Checked.{Checked}
 use Rattle.read_descriptors.specs.Checked.{found, checked}
+
+-- ---- where a descriptor stands
+
+-- the part of what follows the mark that starts where the descriptor does, up to its last byte that is no blank
+pub descriptor-part : (f : ℕ) (rest : List ℕ) (from n : ℕ) → from ≡ length rest - length (fromDescriptor f rest)
+    → n ≡ length (trimEnd (take (length rest - from) (drop from rest)))
+    → take n (take (length rest - from) (drop from rest)) ≡ descriptor f rest
+unfolding descriptor
+descriptor-part f rest from n e i =
+    let d = drop from rest in
+    let all : take (length rest - from) d ≡ d = rw (← length-drop from rest, take-length) in
+    let is : d ≡ fromDescriptor f rest = rw e (drop-to-descriptor f rest) in
+    rw (i, all) (take-trimmed d ∙ ap trimEnd is)
 
 -- ---- numbers
 

@@ -4,7 +4,7 @@ use mathlib.Core.Bool.{Bool}
 use mathlib.Core.List.{List}
 use Rattle.format.specs.Bytes.{if_then_else_}
 use Rattle.format.specs.Descriptors.{mayDescribe, numberSaid}
-use Rattle.read_descriptors.specs.declared.Checked.{Checked}
+use Rattle.read_descriptors.specs.declared.check.Checked.{Checked}
 
 -- the number counts only where the descriptor is fine
 abbrev pub found : Bool → ℕ → Checked

@@ -7,7 +7,7 @@ use mathlib.Core.Path.{ap, subst}
 use lib.ListN.{take, drop, length-take}
 use Rattle.format.specs.Limits.{maxKeys}
 use Rattle.header.specs.Spans.{LineAt, SpanIs}
-use Rattle.describe.specs.Shown.{markOf, shownMark, shownLines, linesFrom, Within}
+use Rattle.describe.specs.Shown.{pairIn, shownTexts, shownLines, linesFrom, Within}
 use Rattle.printed.proofs.Printing.{Printing, printing-start, printing-more, printing-done}
 use Rattle.describe.proofs.KeyLines.{within-limit, within-starts, within-not-past, within-next, shown-next, lines-none}
 use Rattle.describe.proofs.keys.put_keys.Statement.{statement}
@@ -81,7 +81,7 @@ loop-again c =
     let w = lined (c .before .before .before .before .before) in
     let p = c .before .before .put-item .ensures in
     let ls = linesFrom file (c .before .before .before .before .before .before .e .given .0 .1 .0) (l .left - 1) in
-    let u = shownMark (markOf (take (c .before .before .before .before .before .before .e .given .0 .0 - l .at) (drop (l .at) file))) ls in (
+    let u = shownTexts (pairIn (take (c .before .before .before .before .before .before .e .given .0 .0 - l .at) (drop (l .at) file))) ls in (
       within-next (l .inv .0) (t .loop-test .taken) w,
       printing-more (l .inv .1) {u = u} (shownLines ls) (shown-next (l .inv .0) (t .loop-test .taken) w) p,
       omega (arith, l .inv .2, w .from, w .to, simp length-take at (p .long)),

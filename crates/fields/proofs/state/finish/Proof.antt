@@ -44,6 +44,12 @@ returns-2 c gs h =
     let l : maxExtent < extentOf gs = omega arith in
     c .refuse2 .ensures ∙ sym (finished-large (a .version) gs (a .bytes) (a .count) e l)
 
+element-copy-out-encoding : tie.Need-element-copy-out-encoding
+element-copy-out-encoding c = search needs
+
+element-copy-out-endian : tie.Need-element-copy-out-endian
+element-copy-out-endian c = search needs
+
 element-copy-out-form : tie.Need-element-copy-out-form
 element-copy-out-form c = search needs
 
@@ -62,12 +68,6 @@ element-copy-out-wide-2 c = search needs
 wide-requires-2 : tie.Need-wide-requires-2
 wide-requires-2 c κs = search needs
 
-element-copy-out-t18 : tie.Need-element-copy-out-t18
-element-copy-out-t18 c = search needs
-
-element-copy-out-t32 : tie.Need-element-copy-out-t32
-element-copy-out-t32 c = search needs
-
 returns-3 : tie.Need-returns-3
 returns-3 c gs h =
     let a = c .before .before .before .before .before .before .before .before .before .before .before .before .before .args in
@@ -77,7 +77,7 @@ returns-3 c gs h =
     let m = c .before .before .before .before .before .before .before .before .extent .ensures (axes-at h) ∙ ap capped (extent-is h (needs-sizes gs e)) in
     let l : extentOf gs ≤ maxExtent = omega arith in
     let k : x ≡ extentOf gs = omega arith in
-    rw (finished-fine (a .version) gs (a .bytes) (a .count) e l, ← reading-is h (a .version) x (a .bytes) (a .count) k, c .before .before .before .before .wide .ensures, c .before .before .wide2 .ensures)
+    rw (finished-fine (a .version) gs (a .bytes) (a .count) e l, ← reading-is h (a .version) x (a .bytes) (a .count) k, c .before .before .wide .ensures, c .wide2 .ensures)
 
 pub finish-spec : {M : Type 1} → statement M
 finish-spec =
@@ -91,12 +91,12 @@ finish-spec =
     extent-requires
     refuse-requires-2
     returns-2
+    element-copy-out-encoding
+    element-copy-out-endian
     element-copy-out-form
     cast-form
     element-copy-out-wide
     wide-requires
     element-copy-out-wide-2
     wide-requires-2
-    element-copy-out-t18
-    element-copy-out-t32
     returns-3)

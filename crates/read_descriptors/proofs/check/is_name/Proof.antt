@@ -1,10 +1,10 @@
--- `is_name` meets its contract: each answer is one law over the tests before it.
+-- `check::is_name` meets its contract: each answer is one law over the tests before it.
 -- Assumes nothing.
 use mathlib.Core.Path.{sym, _∙_}
 use borrow.Author.Needs.{needs}
 use Rattle.read_descriptors.proofs.Checking.{name-empty, name-list, name-lists, name-pattern}
-use Rattle.read_descriptors.proofs.is_name.Statement.{statement}
-use Rattle.read_descriptors.proofs.is_name.Tie as tie
+use Rattle.read_descriptors.proofs.check.is_name.Statement.{statement}
+use Rattle.read_descriptors.proofs.check.is_name.Tie as tie
 
 returns : tie.Need-returns
 returns c = sym (name-empty (c .before .before .args .t .now) (c .if1 .taken))

@@ -1,10 +1,10 @@
--- `check_sizes` meets its contract. Assumes nothing.
+-- `check::check_sizes` meets its contract. Assumes nothing.
 use mathlib.Core.Path.{sym, _∙_}
 use borrow.Author.Needs.{needs}
 use Rattle.format.specs.Descriptors.{words}
 use Rattle.read_descriptors.proofs.Checking.{says-none, sizes-fine}
-use Rattle.read_descriptors.proofs.check_sizes.Statement.{statement}
-use Rattle.read_descriptors.proofs.check_sizes.Tie as tie
+use Rattle.read_descriptors.proofs.check.check_sizes.Statement.{statement}
+use Rattle.read_descriptors.proofs.check.check_sizes.Tie as tie
 
 read-sizes-requires : tie.Need-read-sizes-requires
 read-sizes-requires c κs = search needs

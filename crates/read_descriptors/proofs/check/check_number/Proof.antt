@@ -1,12 +1,12 @@
--- `check_number` meets its contract. Assumes nothing.
+-- `check::check_number` meets its contract. Assumes nothing.
 use mathlib.Core.Path.{sym, _∙_}
 use native.Mathlib.Omega.{arith}
 use borrow.Author.Tests.{le-leb, lt-leb}
 use borrow.Author.Needs.{needs}
 use Rattle.format.specs.Descriptors.{number}
 use Rattle.read_descriptors.proofs.Checking.{number-is, number-wrong}
-use Rattle.read_descriptors.proofs.check_number.Statement.{statement}
-use Rattle.read_descriptors.proofs.check_number.Tie as tie
+use Rattle.read_descriptors.proofs.check.check_number.Statement.{statement}
+use Rattle.read_descriptors.proofs.check.check_number.Tie as tie
 
 read-number-requires : tie.Need-read-number-requires
 read-number-requires c κs = search needs

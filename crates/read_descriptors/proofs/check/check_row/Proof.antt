@@ -1,9 +1,9 @@
--- `check_row` meets its contract. Assumes nothing.
+-- `check::check_row` meets its contract. Assumes nothing.
 use mathlib.Core.Path.{sym, _∙_}
 use borrow.Author.Needs.{needs}
 use Rattle.text.proofs.Rows.{row-is, row-unknown}
-use Rattle.read_descriptors.proofs.check_row.Statement.{statement}
-use Rattle.read_descriptors.proofs.check_row.Tie as tie
+use Rattle.read_descriptors.proofs.check.check_row.Statement.{statement}
+use Rattle.read_descriptors.proofs.check.check_row.Tie as tie
 
 enum-known-row : tie.Need-enum-known-row
 enum-known-row c = search needs

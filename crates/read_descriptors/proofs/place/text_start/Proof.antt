@@ -1,10 +1,10 @@
--- `judge::text_start` meets its contract: in understood fields the spaces and tabs at the front are passed.
+-- `place::text_start` meets its contract: in understood fields the spaces and tabs at the front are passed.
 -- Assumes nothing.
 use native.Mathlib.Omega.{arith}
 use mathlib.Core.Path.{sym, _∙_}
 use borrow.Author.Needs.{needs}
-use Rattle.fields.proofs.judge.text_start.Statement.{statement}
-use Rattle.fields.proofs.judge.text_start.Tie as tie
+use Rattle.read_descriptors.proofs.place.text_start.Statement.{statement}
+use Rattle.read_descriptors.proofs.place.text_start.Tie as tie
 
 is-understood-requires : tie.Need-is-understood-requires
 is-understood-requires c κs = search needs

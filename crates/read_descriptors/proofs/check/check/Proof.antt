@@ -1,11 +1,11 @@
--- `check` meets its contract: each arm's field is the number that it matched. Assumes nothing.
+-- `check::check` meets its contract: each arm's field is the number that it matched. Assumes nothing.
 use mathlib.Core.Path.{_≡_, _∙_}
 use native.Mathlib.Omega.{arith}
 use borrow.Author.Needs.{needs}
 use Rattle.format.specs.Descriptors.{typeNamed, encodingNamed, endianNamed, noEndian, mayDescribe}
 use Rattle.read_descriptors.proofs.Checking.{says-none, carried, past-four}
-use Rattle.read_descriptors.proofs.check.Statement.{statement}
-use Rattle.read_descriptors.proofs.check.Tie as tie
+use Rattle.read_descriptors.proofs.check.check.Statement.{statement}
+use Rattle.read_descriptors.proofs.check.check.Tie as tie
 
 check-number-requires : tie.Need-check-number-requires
 check-number-requires c κs = search needs

@@ -1,11 +1,11 @@
--- `judge::descriptor_of` meets its contract: the part from the descriptor's start on, without the spaces and tabs at its end.
+-- `place::descriptor_of` meets its contract: the part from the descriptor's start on, without the spaces and tabs at its end.
 -- Assumes nothing.
 use mathlib.Core.Path.{sym}
 use lib.Seq.{length-take-le}
 use borrow.Author.Needs.{needs}
-use Rattle.fields.proofs.Judging.{descriptor-part}
-use Rattle.fields.proofs.judge.descriptor_of.Statement.{statement}
-use Rattle.fields.proofs.judge.descriptor_of.Tie as tie
+use Rattle.read_descriptors.proofs.Checking.{descriptor-part}
+use Rattle.read_descriptors.proofs.place.descriptor_of.Statement.{statement}
+use Rattle.read_descriptors.proofs.place.descriptor_of.Tie as tie
 
 text-start-requires : tie.Need-text-start-requires
 text-start-requires c κs = search needs

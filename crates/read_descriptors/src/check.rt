@@ -1,0 +1,111 @@
+// Whether a field may have a descriptor, and the number that it says.
+use format::field;
+use text::numbers::Number;
+use text::words::Row;
+ghost use mathlib.Core.Path.{_≡_};
+ghost use mathlib.Core.Option.{Option};
+ghost use Prim.Native.Nat.{ℕ, _≤_};
+ghost use Rattle.format.specs.Bytes.{isSome, orDefault};
+ghost use Rattle.format.specs.Limits.{maxAxes, maxSize};
+ghost use Rattle.format.specs.Descriptors.{isName, numberIn, sizesFine, valueOfNumber, words};
+ghost use Rattle.text.specs.Rows.{rowAnswer};
+ghost use Rattle.read_descriptors.specs.Checked.{found, checked};
+
+// Whether the descriptor is one that the field may have; the number that it says, 0 where it says none or is wrong.
+pub struct Checked {
+    pub fine: bool,
+    pub number: u32,
+}
+
+// A number from the least to the most.
+fn check_number(t: &[u8], least: u64, most: u64) -> Checked
+    requires { ⌜ most ≤ maxSize ⌝ }
+    ensures { λ r. ⌜ r ≡ found (numberIn least most (now (t .entry))) (valueOfNumber (now (t .entry))) ⌝ }
+{
+    let wrong = Checked {
+        fine: false,
+        number: 0,
+    };
+    let x = text::numbers::read_number(t);
+    match x {
+        Number::Value(n) => {
+            if n < least {
+                return wrong;
+            }
+            if most < n {
+                return wrong;
+            }
+            Checked {
+                fine: true,
+                number: n as u32,
+            }
+        }
+        Number::Wrong => wrong,
+    }
+}
+
+// A name that has a row.
+fn check_row(row: Row) -> Checked
+    ensures { λ r. ⌜ ((o : Option ℕ) (d : ℕ) → row ≡ rowAnswer o → r ≡ found (isSome o) (orDefault d o)) ⌝ }
+{
+    match row {
+        Row::Number(n) => Checked {
+            fine: true,
+            number: n,
+        },
+        Row::Unknown => Checked {
+            fine: false,
+            number: 0,
+        },
+    }
+}
+
+// As many sizes as the dimension. `text::numbers::read_sizes` answers them too.
+fn check_sizes(t: &[u8], dimension: u32) -> Checked
+    ensures { λ r. ⌜ (dimension ≤ maxAxes → r ≡ found (sizesFine dimension (words (now (t .entry)))) 0) ⌝ }
+{
+    let x = text::numbers::read_sizes(t, dimension as usize);
+    Checked {
+        fine: x.fine,
+        number: 0,
+    }
+}
+
+// Whether the text is a name of one data file.
+fn is_name(t: &[u8]) -> bool
+    ensures { λ r. ⌜ r ≡ isName (now (t .entry)) ⌝ }
+{
+    if t.len() == 0 {
+        return false;
+    }
+    if text::bytes::is_same(t, b"LIST") {
+        return false;
+    }
+    if text::bytes::begins_with(b"LIST ", t) {
+        return false;
+    }
+    text::bytes::find_byte(t, b'%') == t.len()
+}
+
+// The descriptor t of the field f, in a header of this dimension.
+pub fn check(f: usize, t: &[u8], dimension: u32) -> Checked
+    ensures { λ r. ⌜ (dimension ≤ maxAxes → r ≡ checked dimension f (now (t .entry))) ⌝ }
+{
+    match f {
+        field::DIMENSION => check_number(t, 1, format::MAX_AXES),
+        field::TYPE => check_row(text::words::type_named(t)),
+        field::ENCODING => check_row(text::words::encoding_named(t)),
+        field::ENDIAN => check_row(text::words::endian_named(t)),
+        field::SIZES => check_sizes(t, dimension),
+        field::LINE_SKIP => check_number(t, 0, format::MAX_SKIP),
+        field::BYTE_SKIP => check_number(t, 0, format::MAX_SKIP),
+        field::DATA_FILE => Checked {
+            fine: is_name(t),
+            number: 0,
+        },
+        _ => Checked {
+            fine: true,
+            number: 0,
+        },
+    }
+}
