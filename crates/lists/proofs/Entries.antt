@@ -10,13 +10,15 @@ use mathlib.Core.Option.{Option, none, some, Option·none-ne-some}
 use lib.ListN.{length}
 use Rattle.format.specs.Bytes.{if_then_else_, isSome, orElse}
 use Rattle.format.specs.Limits.{maxFile, maxHeader, maxLines}
-use Rattle.format.specs.Lines.{Ending, Line, line, ending, lines, unlines}
+use Rattle.format.specs.Lines.{Ending, Line, line, text, ending, lines, unlines}
 use Rattle.format.specs.Pairs.{plain}
 use Rattle.format.specs.Fields.{Given, pairsSince}
-use Rattle.format.specs.Header.{Item, magic, comment, field, pair, closing, Entry, entry, lineOf, itemOf, linesOf, closes, afterItem, versionOfLine, accepted, header, headerLength, valueIn, valueOf}
-use Rattle.format.specs.Settings.{beginsFine, keyFine, valueFine, pairText, hasKey, replaced, newLines}
+use Rattle.format.specs.Descriptors.{namesFollow}
+use Rattle.format.specs.Header.{Item, magic, pair, pairOf, Entry, entry, lineOf, itemOf, linesOf, closes, afterItem, versionOfLine, accepted, header, headerLength, valueFor, valueIn, valueOf}
+use Rattle.format.specs.Settings.{keyFine, valueFine, pairText, hasKey, replaced, newLines}
 use Rattle.format.proofs.Lines.{Shape, lf-line, crlf-line, eof-line, unlines-append, lines-unique, shape-of-lines, shape-after, shape-retext, ends-of}
-use Rattle.format.proofs.Pairs.{plain-no-LF, begins-of-pair, plain-of-pair, judge-of-pair}
+use Rattle.format.proofs.Judged.{is-pair, no-names-after, no-names}
+use Rattle.format.proofs.Pairs.{plain-no-LF, length-pair, plain-of-pair, judge-of-pair}
 use Rattle.format.proofs.Header.{FineBy, Fine, IsHeader, header-sound, header-fine}
 
 -- ---- the entries once k is set to v
@@ -74,18 +76,18 @@ fine-next false gs es fs gs′ P Q e q f = q f
 module _ (version : ℕ) (k v : List ℕ) (since : pairsSince ≤ version) (key : keyFine k ≡ true) (value : valueFine v ≡ true) where
   -- another pair may stand for an entry with the key k
   fine-pair : (gs : List Given) (l : Line) (e : Ending) (i : Item) (es : List Entry) (gs′ : List Given) (r : List Line)
-      → isSome (valueIn k i) ≡ true → Fine version gs (entry l i ∷ es) gs′ r → Fine version gs (pairEntry k v e ∷ es) gs′ r
-  fine-pair gs l e (magic n) es gs′ r h f = absurd (false≢true h)
-  fine-pair gs l e comment es gs′ r h f = absurd (false≢true h)
-  fine-pair gs l e (field g d) es gs′ r h f = absurd (false≢true h)
-  fine-pair gs l e (pair j w) es gs′ r h f = (judge-of-pair version gs k v since key value, f .1)
-  fine-pair gs l e closing es gs′ r h f = absurd (false≢true h)
+      → namesFollow gs ≡ false → isSome (valueIn k i) ≡ true → Fine version gs (entry l i ∷ es) gs′ r → Fine version gs (pairEntry k v e ∷ es) gs′ r
+  fine-pair gs l e i es gs′ r n h f = go (pairOf i) refl h
+    where
+      go : (o : Option (List ℕ × List ℕ)) → pairOf i ≡ o → isSome (valueFor k o) ≡ true → Fine version gs (pairEntry k v e ∷ es) gs′ r
+      go none q h = absurd (false≢true h)
+      go (some p) q h = (judge-of-pair version gs k v n since key value, rw (is-pair i q) at (f .1))
 
-  fine-replaced : (es : List Entry) (gs gs′ : List Given) (r : List Line) → Fine version gs es gs′ r
+  fine-replaced : (es : List Entry) (gs gs′ : List Given) (r : List Line) → namesFollow gs ≡ false → Fine version gs es gs′ r
       → Fine version gs (replacedEntries k v es) gs′ r
-  fine-replaced [] gs gs′ r f = f
-  fine-replaced (entry l i ∷ es) gs gs′ r f =
-      go (hasKey k es) (isSome (valueIn k i)) refl (λ g. fine-replaced es (afterItem i gs) gs′ r g)
+  fine-replaced [] gs gs′ r n f = f
+  fine-replaced (entry l i ∷ es) gs gs′ r n f =
+      go (hasKey k es) (isSome (valueIn k i)) refl (λ g. fine-replaced es (afterItem i gs) gs′ r (no-names-after version gs (text l) (f .0) n) g)
     where
       go : (x y : Bool) → isSome (valueIn k i) ≡ y
           → (Fine version (afterItem i gs) es gs′ r → Fine version (afterItem i gs) (replacedEntries k v es) gs′ r)
@@ -95,16 +97,16 @@ module _ (version : ℕ) (k v : List ℕ) (since : pairsSince ≤ version) (key 
         fine-next (closes i) gs es (replacedEntries k v es) gs′ (Fine version (afterItem i gs) es gs′ r)
             (Fine version (afterItem i gs) (replacedEntries k v es) gs′ r) (λ q. rw q) on (f .1),
       )
-      go false true e on = fine-pair gs l (ending l) i es gs′ r e f
+      go false true e on = fine-pair gs l (ending l) i es gs′ r n e f
       go false false e on = f
 
-  fine-put : (e : Ending) (es : List Entry) (gs gs′ : List Given) (r : List Line) → Fine version gs es gs′ r
+  fine-put : (e : Ending) (es : List Entry) (gs gs′ : List Given) (r : List Line) → namesFollow gs ≡ false → Fine version gs es gs′ r
       → Fine version gs (putEntries k v e es) gs′ r
-  fine-put e es gs gs′ r f = go (hasKey k es)
+  fine-put e es gs gs′ r n f = go (hasKey k es)
     where
       go : (x : Bool) → Fine version gs (if x then replacedEntries k v es else pairEntry k v e ∷ es) gs′ r
-      go true = fine-replaced es gs gs′ r f
-      go false = (judge-of-pair version gs k v since key value, f)
+      go true = fine-replaced es gs gs′ r n f
+      go false = (judge-of-pair version gs k v n since key value, f)
 
 -- ---- their lines keep the line rule
 
@@ -120,10 +122,6 @@ shape-first e (lf-line p q s) m = lf-line p q m
 shape-first e (crlf-line p s) m = crlf-line p m
 shape-first e (eof-line p n) m = absurd (Option·none-ne-some _ e)
 
-begins-length : (t : List ℕ) → beginsFine t ≡ true → 0 < length t
-begins-length [] h = absurd (false≢true h)
-begins-length (b ∷ t) h = omega arith
-
 replaced-nil : (k v : List ℕ) (es : List Entry) (r : List Line) → linesOf es ++ r ≡ [] → linesOf (replacedEntries k v es) ++ r ≡ []
 replaced-nil k v [] r e = e
 replaced-nil k v (entry l i ∷ es) r e = absurd (cons≢nil e)
@@ -134,7 +132,7 @@ module _ (k v : List ℕ) (key : keyFine k ≡ true) (value : valueFine v ≡ tr
   shape-pair (line t e) ls s =
       let p = plain-of-pair k v key value in
       shape-retext (pairText k v) (plain-no-LF (pairText k v) p) (ends-of plain refl (pairText k v) p)
-      (begins-length (pairText k v) (begins-of-pair k v key)) s
+      (omega (arith, length-pair k v)) s
 
   shape-replaced : (es : List Entry) (r : List Line) → Shape (linesOf es ++ r) → Shape (linesOf (replacedEntries k v es) ++ r)
   shape-replaced [] r s = s
@@ -180,4 +178,4 @@ header-put s l n es gs r k v e since key value b c h =
     let shape′ : Shape (l ∷ linesOf new ++ r) = shape-put k v key value l es r (y .0) shape in
     header-fine (unlines (l ∷ linesOf new) ++ unlines r) l n new gs r
     (ap lines (sym (unlines-append (l ∷ linesOf new) r)) ∙ lines-unique shape′) (y .0)
-    (fine-put n k v since key value (ending l) es [] gs r (y .1)) b c h
+    (fine-put n k v since key value (ending l) es [] gs r no-names (y .1)) b c h

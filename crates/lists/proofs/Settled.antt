@@ -8,26 +8,26 @@ use mathlib.Core.List.{List, [], _∷_, _++_}
 use mathlib.Core.Option.{Option, none, some}
 use Rattle.format.specs.Bytes.{if_then_else_, same, isSome, orElse}
 use Rattle.format.specs.Lines.{Ending, Line, line, ending}
-use Rattle.format.specs.Header.{Item, magic, comment, field, pair, closing, Entry, entry, lineOf, itemOf, linesOf, valueIn, valueOf}
+use Rattle.format.specs.Header.{Item, pair, pairOf, Entry, entry, lineOf, itemOf, linesOf, valueFor, valueIn, valueOf}
 use Rattle.format.specs.Settings.{pairText, hasKey, Setting, setting}
 use Rattle.format.proofs.Bytes.{same-refl, same-true, same-swap}
-use Rattle.lists.specs.Lists.{lastAccepted, heldLine, settledLine, settledLines, isKeyIn, newKeys, insertedLines, settled}
+use Rattle.lists.specs.Lists.{lastAccepted, heldLine, settledPair, settledLines, isKeyIn, newKeys, insertedLines, settled}
 use Rattle.lists.proofs.Entries.{pairEntry, replacedEntries, putEntries}
 
 -- ---- the closed form
 
--- the entry of a line of the key k, which has the value v, at another value; as it was where there is none
-abbrev heldEntry : Line → List ℕ → List ℕ → Option (List ℕ) → Entry
-heldEntry l k v none = entry l (pair k v)
-heldEntry l k v (some w) = pairEntry k w (ending l)
+-- the entry of a line of the key k at another value; as it was where there is none
+abbrev heldEntry : Line → Item → List ℕ → Option (List ℕ) → Entry
+heldEntry l i k none = entry l i
+heldEntry l i k (some w) = pairEntry k w (ending l)
 
--- an entry before the entries `later`: the last one of a key that was set is at the value accepted last
+-- an entry before the entries `later`, by its pair: the last one of a key that was set is at the value accepted last
+abbrev settledBy : List Setting → Line → Item → Option (List ℕ × List ℕ) → List Entry → Entry
+settledBy done l i none later = entry l i
+settledBy done l i (some p) later = if hasKey (p .0) later then entry l i else heldEntry l i (p .0) (lastAccepted (p .0) done)
+
 abbrev settledEntry : List Setting → Line → Item → List Entry → Entry
-settledEntry done l (magic n) later = entry l (magic n)
-settledEntry done l comment later = entry l comment
-settledEntry done l (field f d) later = entry l (field f d)
-settledEntry done l (pair k v) later = if hasKey k later then entry l (pair k v) else heldEntry l k v (lastAccepted k done)
-settledEntry done l closing later = entry l closing
+settledEntry done l i later = settledBy done l i (pairOf i) later
 
 -- all of the entries
 abbrev settledEntries : List Setting → List Entry → List Entry
@@ -57,30 +57,30 @@ renewed-some (some w) v p = refl
 -- of an entry that no later one of the key j follows
 value-of-entry : (done : List Setting) (j : List ℕ) (l : Line) (i : Item) (es : List Entry) → valueOf j es ≡ none
     → valueIn j (itemOf (settledEntry done l i es)) ≡ renewed (lastAccepted j done) (valueIn j i)
-value-of-entry done j l (magic n) es e = refl
-value-of-entry done j l comment es e = refl
-value-of-entry done j l (field f d) es e = refl
-value-of-entry done j l (pair k v) es e = go (same j k) refl
+value-of-entry done j l i es e = go (pairOf i) refl
   where
-    here : (o : Option (List ℕ)) → valueIn k (itemOf (heldEntry l k v o)) ≡ renewed o (some v)
-    here none = rw same-refl
-    here (some w) = rw same-refl
+    here : (k v : List ℕ) → pairOf i ≡ some (k, v) → (o : Option (List ℕ)) → valueIn k (itemOf (heldEntry l i k o)) ≡ renewed o (some v)
+    here k v q none = rw (q, same-refl)
+    here k v q (some w) = rw same-refl
 
-    away : (x : Bool) (o : Option (List ℕ)) → same j k ≡ false
-        → valueIn j (itemOf (if x then entry l (pair k v) else heldEntry l k v o)) ≡ none
-    away true o s = rw s
-    away false none s = rw s
-    away false (some w) s = rw s
+    away : (k v : List ℕ) → pairOf i ≡ some (k, v) → same j k ≡ false → (x : Bool) (o : Option (List ℕ))
+        → valueIn j (itemOf (if x then entry l i else heldEntry l i k o)) ≡ none
+    away k v q s true o = rw (q, s)
+    away k v q s false none = rw (q, s)
+    away k v q s false (some w) = rw s
 
-    go : (x : Bool) → same j k ≡ x
-        → valueIn j (itemOf (if hasKey k es then entry l (pair k v) else heldEntry l k v (lastAccepted k done)))
+    by : (k v : List ℕ) → pairOf i ≡ some (k, v) → (x : Bool) → same j k ≡ x
+        → valueIn j (itemOf (if hasKey k es then entry l i else heldEntry l i k (lastAccepted k done)))
         ≡ renewed (lastAccepted j done) (if x then some v else none)
-    go true s =
+    by k v q true s =
         let p : j ≡ k = same-true j k s in
         let n : hasKey k es ≡ false = ap isSome (rw p at e) in
-        rw (p, n) (here (lastAccepted k done))
-    go false s = away (hasKey k es) (lastAccepted k done) s
-value-of-entry done j l closing es e = refl
+        rw (p, n) (here k v q (lastAccepted k done))
+    by k v q false s = away k v q s (hasKey k es) (lastAccepted k done)
+
+    go : (o : Option (List ℕ × List ℕ)) → pairOf i ≡ o → valueIn j (itemOf (settledBy done l i o es)) ≡ renewed (lastAccepted j done) (valueFor j o)
+    go none q = rw q
+    go (some p) q = by (p .0) (p .1) q (same j (p .0)) refl
 
 -- of any entries
 value-of-settled : (done : List Setting) (j : List ℕ) (es : List Entry)
@@ -123,59 +123,58 @@ module _ (done : List Setting) (k v : List ℕ) where
   more = setting k v ∷ done
 
   -- an entry of another key stays as it is, and so does one that another entry of k follows
-  entry-other : (l : Line) (es : List Entry) (j w : List ℕ) → same j k ≡ false
-      → settledEntry done l (pair j w) es ≡ settledEntry more l (pair j w) es
+  entry-other : (l : Line) (i : Item) (es : List Entry) (p : List ℕ × List ℕ) → same (p .0) k ≡ false
+      → settledBy done l i (some p) es ≡ settledBy more l i (some p) es
   unfolding lastAccepted
-  entry-other l es j w s = rw s
+  entry-other l i es p s = rw s
 
   entry-early : (l : Line) (i : Item) (es : List Entry) → hasKey k es ≡ true → settledEntry done l i es ≡ settledEntry more l i es
-  entry-early l (magic n) es h = refl
-  entry-early l comment es h = refl
-  entry-early l (field f d) es h = refl
-  entry-early l (pair j w) es h = go (same j k) refl
+  entry-early l i es h = go (pairOf i)
     where
-      go : (x : Bool) → same j k ≡ x → settledEntry done l (pair j w) es ≡ settledEntry more l (pair j w) es
-      go true s = let n : hasKey j es ≡ true = rw (same-true j k s) h in rw n
-      go false s = entry-other l es j w s
-  entry-early l closing es h = refl
+      by : (p : List ℕ × List ℕ) (x : Bool) → same (p .0) k ≡ x → settledBy done l i (some p) es ≡ settledBy more l i (some p) es
+      by p true s = let n : hasKey (p .0) es ≡ true = rw (same-true (p .0) k s) h in rw n
+      by p false s = entry-other l i es p s
+
+      go : (o : Option (List ℕ × List ℕ)) → settledBy done l i o es ≡ settledBy more l i o es
+      go none = refl
+      go (some p) = by p (same (p .0) k) refl
 
   -- the last entry of k gets the value; no entry of k follows l
-  abbrev lastReplaced : Line → Item → List Entry → List Entry
-  lastReplaced l i es =
-      if isSome (valueIn k (itemOf (settledEntry done l i es)))
-      then pairEntry k v (ending (lineOf (settledEntry done l i es))) ∷ settledEntries done es
-      else settledEntry done l i es ∷ settledEntries done es
+  abbrev lastReplaced : Entry → List Entry → List Entry
+  lastReplaced e es =
+      if isSome (valueIn k (itemOf e)) then pairEntry k v (ending (lineOf e)) ∷ settledEntries done es else e ∷ settledEntries done es
 
   last-replaced : (l : Line) (i : Item) (es : List Entry) → hasKey k es ≡ false → settledEntries done es ≡ settledEntries more es
-      → lastReplaced l i es ≡ settledEntry more l i es ∷ settledEntries more es
+      → lastReplaced (settledEntry done l i es) es ≡ settledEntry more l i es ∷ settledEntries more es
   unfolding lastAccepted
-  last-replaced l (magic n) es h e = rw e
-  last-replaced l comment es h e = rw e
-  last-replaced l (field f d) es h e = rw e
-  last-replaced l (pair j w) es h e = go (same k j) refl
+  last-replaced l i es h e = go (pairOf i) refl
     where
-      ends : (o : Option (List ℕ)) → ending (lineOf (heldEntry l j w o)) ≡ ending l
-      ends none = refl
-      ends (some u) = refl
+      ends : (j : List ℕ) (o : Option (List ℕ)) → ending (lineOf (heldEntry l i j o)) ≡ ending l
+      ends j none = refl
+      ends j (some u) = refl
 
-      hit : (o : Option (List ℕ)) → same k j ≡ true → isSome (valueIn k (itemOf (heldEntry l j w o))) ≡ true
-      hit none s = rw s
-      hit (some u) s = rw s
+      hit : (j w : List ℕ) → pairOf i ≡ some (j, w) → same k j ≡ true → (o : Option (List ℕ)) → isSome (valueIn k (itemOf (heldEntry l i j o))) ≡ true
+      hit j w q s none = rw (q, s)
+      hit j w q s (some u) = rw s
 
-      miss : (x : Bool) (o : Option (List ℕ)) → same k j ≡ false
-          → isSome (valueIn k (itemOf (if x then entry l (pair j w) else heldEntry l j w o))) ≡ false
-      miss true o s = rw s
-      miss false none s = rw s
-      miss false (some u) s = rw s
+      miss : (j w : List ℕ) → pairOf i ≡ some (j, w) → same k j ≡ false → (x : Bool) (o : Option (List ℕ))
+          → isSome (valueIn k (itemOf (if x then entry l i else heldEntry l i j o))) ≡ false
+      miss j w q s true o = rw (q, s)
+      miss j w q s false none = rw (q, s)
+      miss j w q s false (some u) = rw s
 
-      go : (x : Bool) → same k j ≡ x → lastReplaced l (pair j w) es ≡ settledEntry more l (pair j w) es ∷ settledEntries more es
-      go true s =
+      by : (j w : List ℕ) → pairOf i ≡ some (j, w) → (x : Bool) → same k j ≡ x
+          → lastReplaced (settledBy done l i (some (j, w)) es) es ≡ settledBy more l i (some (j, w)) es ∷ settledEntries more es
+      by j w q true s =
           let p : k ≡ j = same-true k j s in
           let n : hasKey j es ≡ false = rw p at h in
           let s′ : same j k ≡ true = rw p (same-refl j) in
-          rw (n, s′, hit (lastAccepted j done) s, ends (lastAccepted j done), e, p)
-      go false s = rw (miss (hasKey j es) (lastAccepted j done) s, entry-other l es j w (same-swap k j s), e)
-  last-replaced l closing es h e = rw e
+          rw (n, s′, hit j w q s (lastAccepted j done), ends j (lastAccepted j done), e, p)
+      by j w q false s = rw (miss j w q s (hasKey j es) (lastAccepted j done), entry-other l i es (j, w) (same-swap k j s), e)
+
+      go : (o : Option (List ℕ × List ℕ)) → pairOf i ≡ o → lastReplaced (settledBy done l i o es) es ≡ settledBy more l i o es ∷ settledEntries more es
+      go none q = rw (q, e)
+      go (some p) q = by (p .0) (p .1) q (same k (p .0)) refl
 
   -- to replace the last entry of k is to accept one more setting
   replaced-settled : (es : List Entry) → replacedEntries k v (settledEntries done es) ≡ settledEntries more es
@@ -184,7 +183,7 @@ module _ (done : List Setting) (k v : List ℕ) where
       rw (has-settled done k es, replaced-settled es) (go (hasKey k es) refl (replaced-settled es))
     where
       go : (x : Bool) → hasKey k es ≡ x → replacedEntries k v (settledEntries done es) ≡ settledEntries more es
-          → (if x then settledEntry done l i es ∷ settledEntries more es else lastReplaced l i es)
+          → (if x then settledEntry done l i es ∷ settledEntries more es else lastReplaced (settledEntry done l i es) es)
           ≡ settledEntry more l i es ∷ settledEntries more es
       go true h on = rw (entry-early l i es h)
       go false h on =
@@ -208,15 +207,15 @@ module _ (done : List Setting) (k v : List ℕ) where
 -- no setting: the entries themselves
 entry-nil : (l : Line) (i : Item) (es : List Entry) → settledEntry [] l i es ≡ entry l i
 unfolding lastAccepted
-entry-nil l (magic n) es = refl
-entry-nil l comment es = refl
-entry-nil l (field f d) es = refl
-entry-nil l (pair k v) es = go (hasKey k es)
+entry-nil l i es = go (pairOf i)
   where
-    go : (x : Bool) → (if x then entry l (pair k v) else entry l (pair k v)) ≡ entry l (pair k v)
-    go true = refl
-    go false = refl
-entry-nil l closing es = refl
+    by : (x : Bool) → (if x then entry l i else entry l i) ≡ entry l i
+    by true = refl
+    by false = refl
+
+    go : (o : Option (List ℕ × List ℕ)) → settledBy [] l i o es ≡ entry l i
+    go none = refl
+    go (some p) = by (hasKey (p .0) es)
 
 pub after-list-nil : (e : Ending) (es : List Entry) → afterList [] e es ≡ es
 after-list-nil e [] = refl
@@ -256,23 +255,19 @@ has-grown (setting k v ∷ done) e es j =
 
 -- ---- the lines
 
-line-of-entry : (done : List Setting) (l : Line) (i : Item) (es : List Entry) → lineOf (settledEntry done l i es) ≡ settledLine done l i es
-line-of-entry done l (magic n) es = refl
-line-of-entry done l comment es = refl
-line-of-entry done l (field f d) es = refl
-line-of-entry done l (pair k v) es = go (hasKey k es) (lastAccepted k done)
+line-of-entry : (done : List Setting) (l : Line) (i : Item) (o : Option (List ℕ × List ℕ)) (es : List Entry) → lineOf (settledBy done l i o es) ≡ settledPair done l o es
+line-of-entry done l i none es = refl
+line-of-entry done l i (some p) es = go (hasKey (p .0) es) (lastAccepted (p .0) done)
   where
-    go : (x : Bool) (o : Option (List ℕ))
-        → lineOf (if x then entry l (pair k v) else heldEntry l k v o) ≡ (if x then l else heldLine l k o)
+    go : (x : Bool) (o : Option (List ℕ)) → lineOf (if x then entry l i else heldEntry l i (p .0) o) ≡ (if x then l else heldLine l (p .0) o)
     go true o = refl
     go false none = refl
     go false (some w) = refl
-line-of-entry done l closing es = refl
 
 lines-of-settled : (done : List Setting) (es : List Entry) → linesOf (settledEntries done es) ≡ settledLines done es
 unfolding settledLines
 lines-of-settled done [] = refl
-lines-of-settled done (entry l i ∷ es) = rw (line-of-entry done l i es, lines-of-settled done es)
+lines-of-settled done (entry l i ∷ es) = rw (line-of-entry done l i (pairOf i) es, lines-of-settled done es)
 
 -- each key of the second list is set in the first
 abbrev AllSet : List Setting → List Setting → Type 0
@@ -301,7 +296,7 @@ lines-of-grown all [] s e es = lines-of-settled all es
 lines-of-grown all (setting k v ∷ done) s e es =
     rw (← has-grown done e es k) (go (hasKey k (grown done e es)) refl (lines-of-grown all done (s .1) e es))
   where
-    held : (o : Option (List ℕ)) → isSome o ≡ true → lineOf (heldEntry (line (pairText k v) e) k v o) ≡ heldLine (line [] e) k o
+    held : (o : Option (List ℕ)) → isSome o ≡ true → lineOf (heldEntry (line (pairText k v) e) (pair k v) k o) ≡ heldLine (line [] e) k o
     held none h = absurd (false≢true h)
     held (some w) h = refl
 

@@ -16,7 +16,7 @@ use Rattle.format.specs.Limits.{maxFile, maxHeader, maxLines}
 use Rattle.format.specs.Refusals.{fileTooLong, headerTooLong, tooManyLines, notInVersion, lentTooShort, badKey, badValue, wrongTable, refusal, fine}
 use Rattle.format.specs.Lines.{Line, line, Ending, ending, unlines}
 use Rattle.format.specs.Fields.{Given, pairsSince}
-use Rattle.format.specs.Header.{Item, magic, comment, field, pair, closing, Entry, entry, linesOf, Outcome, refused, accepted, header, versionOf, valueOf, tableOf, headerLength}
+use Rattle.format.specs.Header.{pairOf, Entry, entry, linesOf, Outcome, refused, accepted, header, versionOf, valueOf, tableOf, headerLength}
 use Rattle.format.specs.Settings.{keyFine, valueFine, pairText, hasKey, newLines, tableFine, Lent, lent, Setting, setting}
 use Rattle.format.specs.Calls.{readHeaderCall, readCall, dataPlaceCall, dataCall, samplesCall, setKeyCall, callOn, left, setKeys}
 
@@ -51,16 +51,13 @@ heldLine l k none = l
 heldLine l k (some v) = line (pairText k v) (ending l)
 
 -- what becomes of a header line before the entries `later`: the last line of a key that was set holds the key's last accepted value
-abbrev pub settledLine : List Setting → Line → Item → List Entry → Line
-settledLine done l (magic n) later = l
-settledLine done l comment later = l
-settledLine done l (field f d) later = l
-settledLine done l (pair k v) later = if hasKey k later then l else heldLine l k (lastAccepted k done)
-settledLine done l closing later = l
+abbrev pub settledPair : List Setting → Line → Option (List ℕ × List ℕ) → List Entry → Line
+settledPair done l none later = l
+settledPair done l (some p) later = if hasKey (p .0) later then l else heldLine l (p .0) (lastAccepted (p .0) done)
 
 unfoldable pub settledLines : List Setting → List Entry → List Line
 settledLines done [] = []
-settledLines done (entry l i ∷ es) = settledLine done l i es ∷ settledLines done es
+settledLines done (entry l i ∷ es) = settledPair done l (pairOf i) es ∷ settledLines done es
 
 unfoldable pub isKeyIn : List ℕ → List (List ℕ) → Bool
 isKeyIn k [] = false

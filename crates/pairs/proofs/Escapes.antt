@@ -156,42 +156,39 @@ mark-of-escape (b ∷ k) = go (eqb b LF) refl (eqb b BACKSLASH) refl (mark-of-es
     go false e true f h = two 92 92 refl refl ∙ rw (eqb-true b BACKSLASH f) h
     go false e false f h = has-cons b (escape k) ∙ other (eqb b COLON) h
 
--- a key by its parts
-module _ (k : List ℕ) where
-  pub key-begins : beginsFine k ≡ false → false ≡ keyFine k
-  unfolding keyFine
-  key-begins e = rw e
+-- an escaped text is empty, or a comment, if and only if the text is; and it has a mark if and only if the text has one
+kind-of-escape : (k : List ℕ) → isUnmarked (kindOf (escape k)) ≡ isUnmarked (kindOf k)
+unfolding escape
+kind-of-escape [] = refl
+kind-of-escape (b ∷ k) = go (eqb b LF) refl (eqb b BACKSLASH) refl (mark-of-escape (b ∷ k))
+  where
+    -- by the first byte and the marks
+    first : (x : Bool) (m n : Marked) → hasMark m ≡ hasMark n
+        → isUnmarked (if x then commentLine else otherLine m) ≡ isUnmarked (if x then commentLine else otherLine n)
+    first true m n h = refl
+    first false m n h = rw h
 
-  module _ (h : beginsFine k ≡ true) where
-    pub key-bytes : valueFine k ≡ false → false ≡ keyFine k
-    unfolding keyFine valueFine
-    key-bytes e = rw (h, e)
+    go : (x : Bool) → eqb b LF ≡ x → (y : Bool) → eqb b BACKSLASH ≡ y
+        → let s = if x then bytes "\\n" ++ escape k else if y then bytes "\\\\" ++ escape k else b ∷ escape k in
+        hasMark (mark s) ≡ hasMark (mark (b ∷ k)) → isUnmarked (kindOf s) ≡ isUnmarked (kindOf (b ∷ k))
+    go true e y f h = rw (eqb-true b LF e) at h
+    go false e true f h = rw (eqb-true b BACKSLASH f) at h
+    go false e false f h = first (eqb b HASH) (mark (b ∷ escape k)) (mark (b ∷ k)) h
 
-    module _ (g : valueFine k ≡ true) where
-      key-mark : not (hasMark (mark k)) ≡ keyFine k
-      unfolding keyFine valueFine
-      key-mark = rw (h, g, mark-of-escape k)
+-- a key by what its text is
+pub key-unmarked : (k : List ℕ) → kindOf k ≡ otherLine unmarked → valueFine k ≡ keyFine k
+unfolding keyFine valueFine
+key-unmarked k e = let h : isUnmarked (kindOf (escape k)) ≡ true = kind-of-escape k ∙ ap isUnmarked e in rw h (go (every settable k))
+  where
+    go : (x : Bool) → x ≡ (x && true)
+    go true = refl
+    go false = refl
 
-      pub key-field : (i : ℕ) → markPlace (mark k) ≡ Field i → false ≡ keyFine k
-      key-field i e = go (mark k) e ∙ key-mark
-        where
-          go : (m : Marked) → markPlace m ≡ Field i → false ≡ not (hasMark m)
-          go unmarked e = cc
-          go (fieldMark a d) e = refl
-          go (pairMark a d) e = refl
+pub key-other : (k : List ℕ) → isUnmarked (kindOf k) ≡ false → false ≡ keyFine k
+unfolding keyFine
+key-other k e = let h : isUnmarked (kindOf (escape k)) ≡ false = kind-of-escape k ∙ e in rw h (go (every settable k))
+  where
+    go : (x : Bool) → false ≡ (x && false)
+    go true = refl
+    go false = refl
 
-      pub key-pair : (i : ℕ) → markPlace (mark k) ≡ Pair i → false ≡ keyFine k
-      key-pair i e = go (mark k) e ∙ key-mark
-        where
-          go : (m : Marked) → markPlace m ≡ Pair i → false ≡ not (hasMark m)
-          go unmarked e = cc
-          go (fieldMark a d) e = refl
-          go (pairMark a d) e = refl
-
-      pub key-unmarked : markPlace (mark k) ≡ Nothing → true ≡ keyFine k
-      key-unmarked e = go (mark k) e ∙ key-mark
-        where
-          go : (m : Marked) → markPlace m ≡ Nothing → true ≡ not (hasMark m)
-          go unmarked e = refl
-          go (fieldMark a d) e = cc
-          go (pairMark a d) e = cc

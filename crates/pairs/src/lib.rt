@@ -1,5 +1,5 @@
 // Keys and values as the text of a line: whether a line can hold them, how long the text is, and the text written.
-use text::lines::Mark;
+use text::lines::Kind;
 ghost use mathlib.Core.Path.{_≡_};
 ghost use mathlib.Core.List.{[], _∷_};
 ghost use Prim.Native.Nat.{_+_, _≤_, min};
@@ -36,16 +36,9 @@ pub fn value_fine(value: &[u8]) -> bool
 pub fn key_fine(key: &[u8]) -> bool
     ensures { λ r. ⌜ r ≡ keyFine (now (key .entry)) ⌝ }
 {
-    if !text::lines::begins(key) {
-        return false;
-    }
-    if !value_fine(key) {
-        return false;
-    }
-    match text::lines::find_mark(key) {
-        Mark::Field(_) => false,
-        Mark::Pair(_) => false,
-        Mark::Nothing => true,
+    match text::lines::kind_of(key) {
+        Kind::Neither => value_fine(key),
+        _ => false,
     }
 }
 
