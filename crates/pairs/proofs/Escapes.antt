@@ -1,7 +1,7 @@
 -- Keys and values as lines hold them: escaped byte by byte, how long that is, and whether a key has a mark.
 -- Assumes nothing.
 use mathlib.Core.Path.{_≡_, refl, sym, ap, _∙_}
-use mathlib.Core.Bool.{Bool, true, false, not, _||_}
+use mathlib.Core.Bool.{Bool, true, false, not, _&&_, _||_}
 use mathlib.Core.List.{List, [], _∷_, _++_, append-assoc}
 use Prim.Native.Nat.{ℕ, suc, _+_, _≤_, _<_}
 use native.Mathlib.Omega.{arith}
@@ -9,12 +9,10 @@ use lib.Dec.{eqb}
 use lib.ListN.{length, take, drop, getD, set, length-append, take-append-drop}
 use lib.Seq.{sets}
 use borrow.Author.Tests.{eqb-true, eq-eqb, ne-eqb}
-use Rattle.format.specs.Bytes.{if_then_else_, bytes, LF, COLON, SPACE, EQUALS, BACKSLASH}
-use Rattle.format.specs.Pairs.{plain, Marked, unmarked, fieldMark, pairMark, afterColon, moreBefore, firstMark, mark, escape}
-use Rattle.format.specs.Settings.{settable, hasMark, beginsFine, keyFine, valueFine, pairText}
+use Rattle.format.specs.Bytes.{if_then_else_, bytes, every, LF, HASH, COLON, SPACE, EQUALS, BACKSLASH}
+use Rattle.format.specs.Pairs.{plain, Marked, unmarked, fieldMark, pairMark, afterColon, moreBefore, firstMark, mark, hasMark, commentLine, otherLine, kindOf, isUnmarked, escape}
+use Rattle.format.specs.Settings.{settable, keyFine, valueFine, pairText}
 use Rattle.format.proofs.Stores.{sets-then, take-more}
-use Rattle.text.specs.declared.lines.Mark.the-variants.{Field, Pair, Nothing}
-use Rattle.text.specs.Places.{markPlace}
 
 -- ---- byte by byte
 
@@ -135,7 +133,7 @@ after-escape (c ∷ s) = go (eqb c LF) refl (eqb c BACKSLASH) refl
     go false e true f = rw (eqb-true c BACKSLASH f)
     go false e false f = other (eqb c SPACE) (eqb c EQUALS)
 
-pub mark-of-escape : (k : List ℕ) → hasMark (mark (escape k)) ≡ hasMark (mark k)
+mark-of-escape : (k : List ℕ) → hasMark (mark (escape k)) ≡ hasMark (mark k)
 unfolding escape mark
 mark-of-escape [] = refl
 mark-of-escape (b ∷ k) = go (eqb b LF) refl (eqb b BACKSLASH) refl (mark-of-escape k) ∙ sym (has-cons b k)
@@ -171,8 +169,8 @@ kind-of-escape (b ∷ k) = go (eqb b LF) refl (eqb b BACKSLASH) refl (mark-of-es
     go : (x : Bool) → eqb b LF ≡ x → (y : Bool) → eqb b BACKSLASH ≡ y
         → let s = if x then bytes "\\n" ++ escape k else if y then bytes "\\\\" ++ escape k else b ∷ escape k in
         hasMark (mark s) ≡ hasMark (mark (b ∷ k)) → isUnmarked (kindOf s) ≡ isUnmarked (kindOf (b ∷ k))
-    go true e y f h = rw (eqb-true b LF e) at h
-    go false e true f h = rw (eqb-true b BACKSLASH f) at h
+    go true e y f h = let p = eqb-true b LF e in rw p (ap not (rw p at h))
+    go false e true f h = let p = eqb-true b BACKSLASH f in rw p (ap not (rw p at h))
     go false e false f h = first (eqb b HASH) (mark (b ∷ escape k)) (mark (b ∷ k)) h
 
 -- a key by what its text is
@@ -191,4 +189,3 @@ key-other k e = let h : isUnmarked (kindOf (escape k)) ≡ false = kind-of-escap
     go : (x : Bool) → false ≡ (x && false)
     go true = refl
     go false = refl
-

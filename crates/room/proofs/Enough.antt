@@ -23,11 +23,11 @@ use Rattle.format.specs.declared.Refusal.{Refusal}
 use Rattle.format.specs.Refusals.{extentTooLarge, lentTooShort, refusal, fine, headerTooLong, tooManyLines, fileTooLong, notInVersion, badKey, badValue, wrongTable}
 use Rattle.format.specs.Lines.{Line, size, unlines, starts}
 use Rattle.format.specs.Fields.{pairsSince}
-use Rattle.format.specs.Header.{Item, magic, comment, field, pair, closing, Entry, entry, linesOf, Outcome, refused, accepted, header, headerLength, versionOf, valueIn, valueOf, tableOf}
+use Rattle.format.specs.Header.{Item, pairOf, Entry, entry, linesOf, Outcome, refused, accepted, header, headerLength, versionOf, valueFor, valueIn, valueOf, tableOf}
 use Rattle.format.specs.Data.{placeOf}
 use Rattle.format.specs.Settings.{lent, SetOutcome, kept, changed, keyFine, valueFine, newLines, refilled, tableFine, store, setRead, setKey}
 use Rattle.format.specs.Writer.{fileBytes, writeRefusal}
-use Rattle.format.specs.Calls.{readAnswer, readHeaderCall, withTable, readCall, noPlace, valuePlace, keyPlace, findKeyIn, findKeyCall, copyValue, copyValueIn, copyValueCall, checkIn, samplesCall, writeAnswer, writeCall, setAnswer, setKeyCall}
+use Rattle.format.specs.Calls.{readAnswer, readHeaderCall, withTable, readCall, noPlace, pairPlace, valuePlace, keyPlace, findKeyIn, findKeyCall, copyValue, copyValueIn, copyValueCall, checkIn, samplesCall, writeAnswer, writeCall, setAnswer, setKeyCall}
 use Rattle.format.proofs.Header.{header-sound}
 use Rattle.format.proofs.Numbered.{NumberedOutcome, header-numbered}
 use Rattle.format.proofs.Places.{place-numbered}
@@ -62,15 +62,15 @@ Placed p (some v) = (p .refusal ≡ fine) × (p .found ≡ true) × (length v �
 
 module _ (k : List ℕ) where
   placed-in : (at : ℕ) (i : Item) → Placed (if isSome (valueIn k i) then valuePlace at i else noPlace fine) (valueIn k i)
-  placed-in at (magic n) = refl
-  placed-in at comment = refl
-  placed-in at (field f d) = refl
-  placed-in at (pair j v) = go (same k j)
+  placed-in at i = go (pairOf i)
     where
-      go : (x : Bool) → Placed (if isSome (if x then some v else none) then valuePlace at (pair j v) else noPlace fine) (if x then some v else none)
-      go true = (refl, refl, escape-length v .0)
-      go false = refl
-  placed-in at closing = refl
+      by : (p : List ℕ × List ℕ) (x : Bool) → Placed (if isSome (if x then some (p .1) else none) then pairPlace at (some p) else noPlace fine) (if x then some (p .1) else none)
+      by p true = (refl, refl, escape-length (p .1) .0)
+      by p false = refl
+
+      go : (o : Option (List ℕ × List ℕ)) → Placed (if isSome (valueFor k o) then pairPlace at o else noPlace fine) (valueFor k o)
+      go none = refl
+      go (some p) = by p (same k (p .0))
 
   placed : (at : ℕ) (es : List Entry) → Placed (keyPlace k at es) (valueOf k es)
   unfolding keyPlace valueOf

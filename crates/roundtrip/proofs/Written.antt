@@ -17,10 +17,11 @@ use Rattle.format.specs.Limits.{maxLines, maxAxes}
 use Rattle.format.specs.Lines.{Line, line, lf, lines, unlines}
 use Rattle.format.specs.Pairs.{plain, mark}
 use Rattle.format.specs.Fields.{Given, given, descriptorOf, isGiven, inOrder, fieldAt, fieldSince, isUnderstood, dimension, type, encoding, endian, sizes, lineSkip, byteSkip, dataFile}
-use Rattle.format.specs.Descriptors.{descriptor, numberIn, valueOfNumber, words, sizesFine, mayDescribe, hasNeeded, types, typeAt, typeName, typeNames, encodings, endians, endianNeeded, noEndian, dimensionOf, typeOf, encodingOf, endianOf, sizesOf, lineSkipOf, byteSkipOf, isDetached, sampleBytes}
+use Rattle.format.specs.Descriptors.{descriptor, numberIn, valueOfNumber, words, sizesFine, mayDescribe, hasNeeded, types, typeAt, typeName, typeNames, encodings, endians, endianNeeded, noEndian, dimensionOf, typeOf, encodingOf, endianOf, sizesOf, lineSkipOf, byteSkipOf, isDetached, sampleBytes, namesFollow}
 use Rattle.format.specs.Header.{field, closing, magic, Entry, entry, linesOf, right, onField, judge, accepted, header, headerLength}
 use Rattle.format.specs.Writer.{decimal, spaced, nameAt, fieldLine, headerLines, fileBytes, dataBytes}
 use Rattle.format.proofs.Lines.{Shape, lf-line, no-lf-of, ends-of, shape-of-lines, lines-of-parts}
+use Rattle.format.proofs.Judged.{judge-by-text}
 use Rattle.format.proofs.Header.{Complete, Fine, header-fine}
 use Rattle.format.proofs.Writer.{number-of-decimal}
 use Rattle.roundtrip.proofs.Names.{Text, Named, type-named, encoding-named, endian-named, version-of-magic}
@@ -94,9 +95,9 @@ pub record Means (gs : List Given) (x : Bool) (ns : List ℕ) (t e n : ℕ) : Ty
 
 -- ---- one line of a field
 
--- a line that begins with this name is judged as one of the field f
+-- a line that begins with this name is judged as one of the field f, where no names follow
 abbrev NameOf : String → ℕ → Type 0
-NameOf name f = (version : ℕ) (gs : List Given) (d : List ℕ) → every plain d ≡ true
+NameOf name f = (version : ℕ) (gs : List Given) (d : List ℕ) → namesFollow gs ≡ false → every plain d ≡ true
     → judge version gs (bytes name ++ (bytes ": " ++ d)) ≡ onField version gs (some f) d
 
 record WrittenNames : Type 0 where
@@ -107,23 +108,23 @@ record WrittenNames : Type 0 where
   of-endian : NameOf "endian" endian
 
 names : WrittenNames
-unfolding every alike isAny rowFrom mark judge
+unfolding every alike isAny rowFrom mark
 names =
     record {
-      of-type = λ version gs d h. rw h;
-      of-dimension = λ version gs d h. rw h;
-      of-sizes = λ version gs d h. rw h;
-      of-encoding = λ version gs d h. rw h;
-      of-endian = λ version gs d h. rw h;
+      of-type = λ version gs d n h. judge-by-text version gs _ n ∙ rw h;
+      of-dimension = λ version gs d n h. judge-by-text version gs _ n ∙ rw h;
+      of-sizes = λ version gs d n h. judge-by-text version gs _ n ∙ rw h;
+      of-encoding = λ version gs d n h. judge-by-text version gs _ n ∙ rw h;
+      of-endian = λ version gs d n h. judge-by-text version gs _ n ∙ rw h;
     }
 
 -- the line of an understood field that every version has, that is new and in order, with a descriptor that it may have
 field-line : (version : ℕ) (gs : List Given) (name : String) (f : ℕ) (d : List ℕ) → 1 ≤ version → NameOf name f → Text d
-    → (isUnderstood f ≡ true) × (fieldSince f ≡ 1) × (isGiven f gs ≡ false) × (inOrder f gs ≡ true) → mayDescribe (dimensionOf gs) f d ≡ true
+    → (isUnderstood f ≡ true) × (fieldSince f ≡ 1) × (isGiven f gs ≡ false) × (inOrder f gs ≡ true) × (namesFollow gs ≡ false) → mayDescribe (dimensionOf gs) f d ≡ true
     → judge version gs (bytes name ++ (bytes ": " ++ d)) ≡ right (field f d)
 unfolding onField descriptor
 field-line version gs name f d v named text here may =
-    named version gs d (text .bytes-plain)
+    named version gs d (here .4) (text .bytes-plain)
     ∙ rw (here .1, le-ltb version 1 v, here .2, here .3, here .0, text .front, text .back, may)
 
 -- a line of plain bytes, with its LF, before lines that keep the line rule
@@ -184,15 +185,15 @@ module _ (version : ℕ) (ns : List ℕ) (t e n : ℕ) (zs : List ℤ) (a : Acce
   -- each line is judged to be its item
   fine-entries : (x : Bool) → Complete (fieldsOf x ns t e n) → (r : List Line)
       → Fine version [] (restEntries x ns t e n) (fieldsOf x ns t e n) r
-  unfolding descriptorOf inOrder fieldAt mayDescribe judge
+  unfolding descriptorOf inOrder fieldAt mayDescribe namesFollow judge
   fine-entries x c r = (
-    field-line version _ "type" type _ v (names .of-type) (of-type-name .text) (refl, refl, refl, refl) (rw (of-type-name .row)),
+    field-line version _ "type" type _ v (names .of-type) (of-type-name .text) (refl, refl, refl, refl, refl) (rw (of-type-name .row)),
     (
-      field-line version _ "dimension" dimension _ v (names .of-dimension) (decimal-text (length ns)) (refl, refl, refl, refl) dimension-may,
+      field-line version _ "dimension" dimension _ v (names .of-dimension) (decimal-text (length ns)) (refl, refl, refl, refl, refl) dimension-may,
       (
-        field-line version _ "sizes" sizes _ v (names .of-sizes) (spaced-text ns) (refl, refl, refl, refl) sizes-may,
+        field-line version _ "sizes" sizes _ v (names .of-sizes) (spaced-text ns) (refl, refl, refl, refl, refl) sizes-may,
         (
-          field-line version _ "encoding" encoding _ v (names .of-encoding) (of-encoding-name .text) (refl, refl, refl, refl) (rw (of-encoding-name .row)),
+          field-line version _ "encoding" encoding _ v (names .of-encoding) (of-encoding-name .text) (refl, refl, refl, refl, refl) (rw (of-encoding-name .row)),
           last x c,
         ),
       ),
@@ -204,7 +205,7 @@ module _ (version : ℕ) (ns : List ℕ) (t e n : ℕ) (zs : List ℤ) (a : Acce
 
       last : (x : Bool) → Complete (fieldsOf x ns t e n) → Fine version (firstFields ns t e) (lastEntries x n) (fieldsOf x ns t e n) r
       last true c = (
-        field-line version _ "endian" endian _ v (names .of-endian) (of-endian-name .text) (refl, refl, refl, refl) (rw (of-endian-name .row)),
+        field-line version _ "endian" endian _ v (names .of-endian) (of-endian-name .text) (refl, refl, refl, refl, refl) (rw (of-endian-name .row)),
         (refl, (refl, c, refl)),
       )
       last false c = (refl, (refl, c, refl))

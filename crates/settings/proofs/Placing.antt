@@ -15,18 +15,19 @@ use Rattle.format.specs.Limits.{maxHeader}
 use Rattle.format.specs.Lines.{Ending, Line, line, text, ending, endingBytes, lineBytes, size, lines, unlines, starts}
 use Rattle.format.specs.Pairs.{escape}
 use Rattle.format.specs.Fields.{Given}
-use Rattle.format.specs.Header.{Item, magic, comment, field, pair, closing, Entry, entry, lineOf, linesOf, accepted, header, headerLength, valueIn, valueOf}
+use Rattle.format.specs.Header.{Item, magic, pairOf, Entry, entry, lineOf, linesOf, right, accepted, header, headerLength, valueFor, valueIn, valueOf}
 use Rattle.format.specs.Settings.{pairText, hasKey, replaced, newLines}
 use Rattle.format.specs.Calls.{foundAt, valuePlace, keyPlace, findKeyIn, findKeyCall}
 use Rattle.format.specs.Found.{Finds, escaped, FindsKey}
 use Rattle.format.proofs.Bytes.{same-true}
 use Rattle.format.proofs.Lines.{size-line}
+use Rattle.format.proofs.Judged.{is-pair}
 use Rattle.format.proofs.Pairs.{pair-line, length-pair}
 use Rattle.format.proofs.Header.{header-sound, magic-line}
 use Rattle.format.proofs.Found.{key-found}
 use Rattle.header.specs.Accepted.{Headed, IsItem, Items}
 use Rattle.header.specs.Spans.{LineAt, PastAt}
-use Rattle.header.proofs.Accepted.{items}
+use Rattle.header.proofs.Accepted.{header-items}
 use Rattle.splice.specs.Edited.{edited}
 use Rattle.settings.specs.declared.place.Place.{Place}
 use Rattle.settings.specs.Edits.{movedBy, shifted, FirstAt, Placed}
@@ -96,17 +97,17 @@ here k at t e i es w q h g p =
 
 one : (k : List ℕ) (at : ℕ) (l : Line) (i : Item) (es : List Entry) → IsItem (text l) i → hasKey k es ≡ false → isSome (valueIn k i) ≡ true
     → Spot k at (entry l i ∷ es) (keyPlace k at (entry l i ∷ es))
-one k at l (magic n) es w h g = absurd (false≢true g)
-one k at l comment es w h g = absurd (false≢true g)
-one k at l (field f d) es w h g = absurd (false≢true g)
-one k at (line t e) (pair j v) es w h g =
-    let q : k ≡ j = same-true k j (go (same k j) g) in
-    here k at t e (pair j v) es v (rw q (pair-line (w .version) (w .before) t j v (w .judged) .text-is)) h g (rw q)
+one k at (line t e) i es w h g = go (pairOf i) refl g
   where
-    go : (x : Bool) → isSome (if x then some v else none) ≡ true → x ≡ true
-    go true g = refl
-    go false g = absurd (false≢true g)
-one k at l closing es w h g = absurd (false≢true g)
+    is-same : (x : Bool) (v : List ℕ) → isSome (if x then some v else none) ≡ true → x ≡ true
+    is-same true v g = refl
+    is-same false v g = absurd (false≢true g)
+
+    go : (o : Option (List ℕ × List ℕ)) → pairOf i ≡ o → isSome (valueFor k o) ≡ true → Spot k at (entry (line t e) i ∷ es) (keyPlace k at (entry (line t e) i ∷ es))
+    go none q y = absurd (false≢true y)
+    go (some p) q y =
+        let s : k ≡ p .0 = same-true k (p .0) (is-same (same k (p .0)) (p .1) y) in
+        here k at t e i es (p .1) (rw s (pair-line (w .version) (w .before) t (p .0) (p .1) (w .judged ∙ ap right (is-pair i q)) .text-is)) h g (rw (q, s))
 
 spot-of : (k : List ℕ) (at : ℕ) (es : List Entry) → Items es → hasKey k es ≡ true → Spot k at es (keyPlace k at es)
 unfolding valueOf
@@ -150,7 +151,7 @@ module _ (file k : List ℕ) (p : FindAnswer) (is : p ≡ findKeyCall file k) wh
         let x = header-sound file e in
         let h : hasKey k (entry (x .first) (magic (x .version)) ∷ x .rest) ≡ true = rw (x .entries) at (sym (has e) ∙ there) in
         subst (Spot k 0 es) (sym (in-header e))
-        (rw (x .entries) (spot-after k (x .first) (x .version) (x .rest) (items (x .version) (x .rest) [] gs ls (x .fine)) h))
+        (rw (x .entries) (spot-after k (x .first) (x .version) (x .rest) (header-items x) h))
 
     -- where the line's text starts and ends
     module _ (m : ℕ) (n : m ≡ min (length (escape k)) (maxHeader + 1)) where

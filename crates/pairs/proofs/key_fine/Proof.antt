@@ -1,73 +1,47 @@
--- `pairs::key_fine` meets its contract: its parts in order; escaping makes no mark and hides none.
+-- `pairs::key_fine` meets its contract: escaping makes no mark and hides none.
 -- Assumes nothing.
-use mathlib.Core.Bool.{true}
-use mathlib.Core.Path.{_≡_, sym, _∙_}
-use borrow.Author.Tests.{not-true, not-false}
-use Rattle.format.specs.Settings.{beginsFine, valueFine}
-use Rattle.pairs.proofs.Escapes.{key-begins, key-bytes, key-field, key-pair, key-unmarked}
+use Prim.Native.Nat.{ℕ}
+use mathlib.Core.Path.{_≡_, sym, ap, _∙_}
+use mathlib.Core.Bool.{false}
+use mathlib.Core.List.{List, [], _∷_}
 use borrow.Author.Needs.{needs}
+use denote.Enum.Declared.{tagOf}
+use types.Run.{OneOf, miss}
+use Rattle.format.specs.Pairs.{kindOf, isUnmarked}
+use Rattle.text.specs.declared.lines.Kind.{Kind}
+use Rattle.text.specs.declared.lines.Kind.the-variants.{Empty, Comment, Field, Pair, Neither}
+use Rattle.text.specs.Places.{kindPlace}
+use Rattle.text.proofs.Places.{kind-told}
+use Rattle.text.proofs.lines.Kind.{the-type}
+use Rattle.pairs.proofs.Escapes.{key-unmarked, key-other}
 use Rattle.pairs.proofs.key_fine.Statement.{statement}
 use Rattle.pairs.proofs.key_fine.Tie as tie
 
--- the key begins as a line may, and holds what a line may hold
-begun : (c : tie.Else1) → beginsFine (c .before .before .before .args .key .now) ≡ true
-begun c = sym (c .before .begins .ensures) ∙ not-false (c .before .begins .result) (c .if1 .left)
+-- an answer that is not that of a line without a mark
+told-other : (t : List ℕ) (r : Kind) → r ≡ kindPlace (kindOf t) → OneOf (0 ∷ 1 ∷ 2 ∷ 3 ∷ []) (tagOf the-type r) → isUnmarked (kindOf t) ≡ false
+told-other t Empty e h = ap isUnmarked (kind-told t e)
+told-other t Comment e h = ap isUnmarked (kind-told t e)
+told-other t (Field i) e h = ap isUnmarked (kind-told t e .0)
+told-other t (Pair i) e h = ap isUnmarked (kind-told t e .0)
+told-other t Neither e h = absurd (miss (0 ∷ 1 ∷ 2 ∷ 3 ∷ []) 4 tt h)
 
-held : (c : tie.Else2) → valueFine (c .before .before .before .before .before .args .key .now) ≡ true
-held c = sym (c .before .value-fine .ensures) ∙ not-false (c .before .value-fine .result) (c .if2 .left)
-
-begins-requires : tie.Need-begins-requires
-begins-requires c κs = search needs
-
-returns : tie.Need-returns
-returns c = key-begins _ (sym (c .before .begins .ensures) ∙ not-true (c .before .begins .result) (c .if1 .taken))
-
-value-fine-requires : tie.Need-value-fine-requires
-value-fine-requires c κs = search needs
-
-returns-2 : tie.Need-returns-2
-returns-2 c =
-    key-bytes _ (begun (c .before .before)) (sym (c .before .value-fine .ensures) ∙ not-true (c .before .value-fine .result) (c .if2 .taken))
-
-find-mark-requires : tie.Need-find-mark-requires
-find-mark-requires c κs = search needs
+kind-of-requires : tie.Need-kind-of-requires
+kind-of-requires c κs = search needs
 
 enum-told : tie.Need-enum-told
 enum-told c = search needs
 
-enum-told-2 : tie.Need-enum-told-2
-enum-told-2 c = search needs
+value-fine-requires : tie.Need-value-fine-requires
+value-fine-requires c κs = search needs
 
-enum-told-3 : tie.Need-enum-told-3
-enum-told-3 c = search needs
+returns : tie.Need-returns
+returns c =
+    let t = c .before .before .before .before .before .args .key .now in
+    c .value-fine .ensures ∙ key-unmarked t (kind-told t (sym (c .before .enum-told .given .1) ∙ c .before .before .before .kind-of .ensures))
 
-returns-3 : tie.Need-returns-3
-returns-3 c =
-    let b = c .before .before .before in
-    key-field _ (begun (b .before .before)) (held b) _ (sym (c .before .before .find-mark .ensures) ∙ c .enum-told .given .1)
-
-returns-4 : tie.Need-returns-4
-returns-4 c =
-    let b = c .before .before .before in
-    key-pair _ (begun (b .before .before)) (held b) _ (sym (c .before .before .find-mark .ensures) ∙ c .enum-told2 .given .1)
-
-returns-5 : tie.Need-returns-5
-returns-5 c =
-    let b = c .before .before .before in
-    key-unmarked _ (begun (b .before .before)) (held b) (sym (c .before .before .find-mark .ensures) ∙ c .enum-told3 .given .1)
+returns-2 : tie.Need-returns-2
+returns-2 c =
+    key-other (c .before .before .before .args .key .now) (told-other (c .before .before .before .args .key .now) (c .before .kind-of .result) (c .before .kind-of .ensures) (c .match .keys2))
 
 pub key-fine-spec : {M : Type 1} → statement M
-key-fine-spec =
-    tie.close
-    (tie.spec
-    begins-requires
-    returns
-    value-fine-requires
-    returns-2
-    find-mark-requires
-    enum-told
-    enum-told-2
-    enum-told-3
-    returns-3
-    returns-4
-    returns-5)
+key-fine-spec = tie.close (tie.spec kind-of-requires enum-told value-fine-requires returns returns-2)
