@@ -16,8 +16,8 @@ use Rattle.format.proofs.Lines.{length-lines-le, length-unlines-cons}
 use Rattle.text.specs.declared.lines.Mark.the-variants.{Field, Pair, Nothing}
 use Rattle.text.specs.Places.{markPlace}
 use Rattle.text.proofs.Places.{mark-split-pair}
-use Rattle.header.specs.Spans.{LineAt, PastAt}
-use Rattle.header.proofs.LineCuts.{rest-of}
+use Rattle.read_lines.specs.Spans.{LineAt, PastAt}
+use Rattle.read_lines.proofs.LineCuts.{rest-of}
 use Rattle.describe.specs.Shown.{markOf, isKey, isLater, keyText, shownMark, shownLines, linesFrom, Within}
 
 -- ---- the mark of a line

@@ -23,7 +23,7 @@ use Rattle.format.proofs.Numbered.{Numbered, judge-numbered}
 use Rattle.fields.specs.declared.state.State.{State}
 use Rattle.fields.specs.declared.state.Step.{Step}
 use Rattle.fields.specs.States.{flags, stateOf, Kept, Holds, stepOf, readingAt, completeNumber, finished, answerFrom}
-use Rattle.header.specs.Spans.{LineAt, PastAt}
+use Rattle.read_lines.specs.Spans.{LineAt, PastAt}
 use Rattle.fields.proofs.States.{kept-none, kept-next}
 
 -- ---- answers

@@ -31,9 +31,9 @@ use Rattle.text.specs.Places.{markPlace}
 use Rattle.text.specs.Rows.{rowAnswer}
 use Rattle.text.specs.Meanings.{meansKey}
 use Rattle.text.proofs.Places.{mark-split-field, mark-split-pair, mark-split-nothing}
-use Rattle.header.specs.Spans.{LineAt, PastAt}
+use Rattle.read_lines.specs.Spans.{LineAt, PastAt}
 use Rattle.header.specs.Accepted.{Headed, IsItem, Items}
-use Rattle.header.proofs.LineCuts.{rest-of}
+use Rattle.read_lines.proofs.LineCuts.{rest-of}
 use Rattle.header.proofs.Accepted.{items}
 use Rattle.lookup.specs.Lookup.{Left, latestOf, keyThen, keyElse, KeyLeft, FieldLeft, isField, SecondAt}
 

@@ -15,7 +15,7 @@ use Rattle.format.specs.Calls.{noPlace}
 use Rattle.text.specs.declared.lines.Mark.the-variants.{Field}
 use Rattle.text.specs.Places.{markPlace}
 use Rattle.text.proofs.Places.{mark-split-field}
-use Rattle.header.proofs.LineCuts.{rest-of}
+use Rattle.read_lines.proofs.LineCuts.{rest-of}
 use Rattle.lookup.proofs.Finding.{field-bare, field-field, field-there, field-pair, field-unmarked}
 use Rattle.lookup.proofs.descriptors.field_in.Statement.{statement}
 use Rattle.lookup.proofs.descriptors.field_in.Tie as tie

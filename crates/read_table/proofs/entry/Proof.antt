@@ -1,0 +1,49 @@
+-- `read_table::entry` meets its contract: entry k of the list, or of the bytes.
+-- Assumes nothing.
+use Prim.Native.Nat.{_*_, _<_}
+use mathlib.Core.Path.{sym, ap, _∙_}
+use lib.ListN.{length, take, drop, getD}
+use borrow.Author.Tests.{eq-eqb, ne-eqb}
+use borrow.Author.Needs.{needs}
+use Rattle.format.specs.Samples.{fromBytes}
+use Rattle.read_table.proofs.Lent.{listed-is, packed-room, packed-at}
+use Rattle.read_table.proofs.entry.Statement.{statement}
+use Rattle.read_table.proofs.entry.Tie as tie
+
+entry-at-requires : tie.Need-entry-at-requires
+entry-at-requires c κs =
+    let s = c .before .before .before in
+    let a = s .args in
+    let e = c .if1 .taken in
+    rw e at (packed-room (a .width) (a .list .now) (a .bytes .now) (eq-eqb (a .width) 4 e) (a .k) (s .pre))
+
+returns : tie.Need-returns
+returns c =
+    let s = c .before .before .before .before in
+    let a = s .args in
+    let e = c .before .if1 .taken in
+    c .entry-at .ensures
+    ∙ ap (λ w. fromBytes (take w (drop (w * a .k) (a .bytes .now)))) (sym e)
+    ∙ sym (packed-at (a .width) (a .list .now) (a .bytes .now) (eq-eqb (a .width) 4 e) (a .k) (s .pre))
+
+-- entry k of the list is there
+listed : (c : tie.Else1) → c .before .before .before .args .k < length (c .before .before .before .args .list .now)
+listed c =
+    let s = c .before .before .before in
+    let a = s .args in
+    rw (listed-is (a .width) (a .list .now) (a .bytes .now) (ne-eqb (a .width) 4 (c .if1 .left))) at (s .pre)
+
+mul-result : tie.Need-mul-result
+mul-result c = let h = listed c in search (needs, h)
+
+shared-slice-read-result : tie.Need-shared-slice-read-result
+shared-slice-read-result c = listed (c .before)
+
+returns-2 : tie.Need-returns-2
+returns-2 c =
+    let a = c .before .before .before .before .args in
+    sym (ap (λ l. getD l (a .k) 0) (listed-is (a .width) (a .list .now) (a .bytes .now) (ne-eqb (a .width) 4 (c .before .if1 .left))))
+
+pub entry-spec : {M : Type 1} → statement M
+entry-spec =
+    tie.close (tie.spec entry-at-requires returns mul-result shared-slice-read-result returns-2)
