@@ -29,6 +29,9 @@ module _ (width : ℕ) (list bytes : List ℕ) where
     unfolding lentEntries
     listed-is = rw listed
 
+    pub listed-there : {k : ℕ} → k < length (lentEntries width list bytes) → k < length list
+    listed-there h = rw listed-is at h
+
     pub listed-put : (k x : ℕ) → Becomes width list bytes (set (lentEntries width list bytes) k x) (set list k x) bytes
     unfolding lentEntries listWith bytesWith
     listed-put k x = record { holds = record { list-is = rw listed; bytes-is = rw listed }; entries = rw listed }

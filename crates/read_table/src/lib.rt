@@ -21,7 +21,7 @@ pub fn entries(list: &[u32], bytes: &[u8], width: usize) -> usize
     ensures { λ r. ⌜ r ≡ length (lentEntries width (now (list .entry)) (now (bytes .entry))) ⌝ }
 {
     if width == IN_BYTES {
-        return bytes.len() / 4;
+        return bytes.len() / IN_BYTES;
     }
     list.len()
 }
@@ -69,14 +69,14 @@ pub fn fill(file: &[u8], list: &mut [u32], bytes: &mut [u8], width: usize, count
     }
 }
 
-// Whether the first `count` entries are where the first `count` lines start.
-fn starts_match(file: &[u8], list: &[u32], bytes: &[u8], width: usize, count: usize) -> bool
-    requires { ⌜ Lined (now file) 0 count × (count ≤ length (lentEntries width (now list) (now bytes))) ⌝ }
-    ensures { λ r. ⌜ r ≡ same (take count (lentEntries width (now (list .entry)) (now (bytes .entry)))) (startsOf (now (file .entry)) count) ⌝ }
+// Whether the first n entries are where the first n lines start.
+fn starts_match(file: &[u8], list: &[u32], bytes: &[u8], width: usize, n: usize) -> bool
+    requires { ⌜ Lined (now file) 0 n × (n ≤ length (lentEntries width (now list) (now bytes))) ⌝ }
+    ensures { λ r. ⌜ r ≡ same (take n (lentEntries width (now (list .entry)) (now (bytes .entry)))) (startsOf (now (file .entry)) n) ⌝ }
 {
     let mut at: usize = 0;
     let mut k: usize = 0;
-    while k < count {
+    while k < n {
         if entry(list, bytes, width, k) != at as u32 {
             return false;
         }

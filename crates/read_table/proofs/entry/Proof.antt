@@ -1,12 +1,12 @@
 -- `read_table::entry` meets its contract: entry k of the list, or of the bytes.
 -- Assumes nothing.
-use Prim.Native.Nat.{_*_, _<_}
+use Prim.Native.Nat.{_*_}
 use mathlib.Core.Path.{sym, ap, _∙_}
-use lib.ListN.{length, take, drop, getD}
+use lib.ListN.{take, drop, getD}
 use borrow.Author.Tests.{eq-eqb, ne-eqb}
 use borrow.Author.Needs.{needs}
 use Rattle.format.specs.Samples.{fromBytes}
-use Rattle.read_table.proofs.Lent.{listed-is, packed-room, packed-at}
+use Rattle.read_table.proofs.Lent.{listed-is, listed-there, packed-room, packed-at}
 use Rattle.read_table.proofs.entry.Statement.{statement}
 use Rattle.read_table.proofs.entry.Tie as tie
 
@@ -26,18 +26,16 @@ returns c =
     ∙ ap (λ w. fromBytes (take w (drop (w * a .k) (a .bytes .now)))) (sym e)
     ∙ sym (packed-at (a .width) (a .list .now) (a .bytes .now) (eq-eqb (a .width) 4 e) (a .k) (s .pre))
 
--- entry k of the list is there
-listed : (c : tie.Else1) → c .before .before .before .args .k < length (c .before .before .before .args .list .now)
-listed c =
-    let s = c .before .before .before in
-    let a = s .args in
-    rw (listed-is (a .width) (a .list .now) (a .bytes .now) (ne-eqb (a .width) 4 (c .if1 .left))) at (s .pre)
-
 mul-result : tie.Need-mul-result
-mul-result c = let h = listed c in search (needs, h)
+mul-result c =
+    let s = c .before .before .before in
+    let h = listed-there (s .args .width) (s .args .list .now) (s .args .bytes .now) (ne-eqb (s .args .width) 4 (c .if1 .left)) (s .pre) in
+    search (needs, h)
 
 shared-slice-read-result : tie.Need-shared-slice-read-result
-shared-slice-read-result c = listed (c .before)
+shared-slice-read-result c =
+    let s = c .before .before .before .before in
+    listed-there (s .args .width) (s .args .list .now) (s .args .bytes .now) (ne-eqb (s .args .width) 4 (c .before .if1 .left)) (s .pre)
 
 returns-2 : tie.Need-returns-2
 returns-2 c =

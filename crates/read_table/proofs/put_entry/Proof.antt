@@ -1,12 +1,10 @@
 -- `read_table::put_entry` meets its contract: entry k of the list, or of the bytes, is stored.
 -- Assumes nothing.
 use native.Mathlib.Omega.{arith}
-use Prim.Native.Nat.{_<_}
-use lib.ListN.{length}
 use borrow.Author.Tests.{eq-eqb, ne-eqb}
 use borrow.Author.Needs.{needs}
 use Rattle.format.proofs.Samples.{all-bytes}
-use Rattle.read_table.proofs.Lent.{listed-is, listed-put, packed-room, packed-put}
+use Rattle.read_table.proofs.Lent.{listed-there, listed-put, packed-room, packed-put}
 use Rattle.read_table.proofs.put_entry.Statement.{statement}
 use Rattle.read_table.proofs.put_entry.Tie as tie
 
@@ -29,18 +27,13 @@ returns c =
     let bytes = all-bytes (a .bytes .now) λ i. p .before .before .before .slice-known2 .given i .fits in
     packed-put (a .width) (a .list .now) (a .bytes .now) (eq-eqb (a .width) 4 e) (a .k) (s .pre) bytes (a .x) (rw e (omega arith)) _ (rw e (p .put-entry .ensures))
 
--- entry k of the list is there
-listed : (c : tie.Else1) → c .before .before .before .args .k < length (c .before .before .before .args .list .now)
-listed c =
+slice-write-list : tie.Need-slice-write-list
+slice-write-list c =
     let s = c .before .before .before in
-    let a = s .args in
-    rw (listed-is (a .width) (a .list .now) (a .bytes .now) (ne-eqb (a .width) 4 (c .if1 .left))) at (s .pre)
+    listed-there (s .args .width) (s .args .list .now) (s .args .bytes .now) (ne-eqb (s .args .width) 4 (c .if1 .left)) (s .pre)
 
 mul-list : tie.Need-mul-list
-mul-list c = let h = listed c in search (needs, h)
-
-slice-write-list : tie.Need-slice-write-list
-slice-write-list c = listed c
+mul-list c = let h = slice-write-list c in search (needs, h)
 
 same-length-2 : tie.Need-same-length-2
 same-length-2 c = search needs

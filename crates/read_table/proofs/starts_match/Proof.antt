@@ -12,10 +12,10 @@ use Rattle.read_table.proofs.starts_match.Statement.{statement}
 use Rattle.read_table.proofs.starts_match.Tie as tie
 
 abbrev Inv-loop : tie.InvT-loop
-Inv-loop file list bytes width count at₀ k₀ at k = Matching file (lentEntries width list bytes) count at k
+Inv-loop file list bytes width n at₀ k₀ at k = Matching file (lentEntries width list bytes) n at k
 
 abbrev μ-loop : tie.MeasureT-loop
-μ-loop file list bytes width count at₀ k₀ at k = count - k
+μ-loop file list bytes width n at₀ k₀ at k = n - k
 
 loop-holds : tie.Need-loop-holds Inv-loop μ-loop
 loop-holds c = let s = c .before .before .before in matching-start (s .pre .0) (s .pre .1)
