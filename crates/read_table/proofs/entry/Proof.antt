@@ -1,5 +1,6 @@
 -- `read_table::entry` meets its contract: entry k of the list, or of the bytes.
 -- Assumes nothing.
+use native.Mathlib.Omega.{arith}
 use Prim.Native.Nat.{_*_}
 use mathlib.Core.Path.{sym, ap, _∙_}
 use lib.ListN.{take, drop, getD}
@@ -15,7 +16,8 @@ entry-at-requires c κs =
     let s = c .before .before .before in
     let a = s .args in
     let e = c .if1 .taken in
-    rw e at (packed-room (a .width) (a .list .now) (a .bytes .now) (eq-eqb (a .width) 4 e) (a .k) (s .pre))
+    let h = rw e at (packed-room (a .width) (a .list .now) (a .bytes .now) (eq-eqb (a .width) 4 e) (a .k) (s .pre)) in
+    omega (arith, h)
 
 returns : tie.Need-returns
 returns c =

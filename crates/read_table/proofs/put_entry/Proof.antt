@@ -13,7 +13,8 @@ put-entry-requires c κs =
     let s = c .before .before .before .before in
     let a = s .args in
     let e = c .before .if1 .taken in
-    rw e at (packed-room (a .width) (a .list .now) (a .bytes .now) (eq-eqb (a .width) 4 e) (a .k) (s .pre))
+    let h = rw e at (packed-room (a .width) (a .list .now) (a .bytes .now) (eq-eqb (a .width) 4 e) (a .k) (s .pre)) in
+    omega (arith, h)
 
 same-length : tie.Need-same-length
 same-length c = search needs
