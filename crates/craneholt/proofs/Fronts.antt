@@ -1,11 +1,11 @@
--- Numbers unpacked to the front of a local list, and packed again.
+-- Numbers unpacked to the front of a local list.
 -- Assumes nothing.
-use Prim.Native.Nat.{ℕ, min, _/_, _≤_}
+use Prim.Native.Nat.{ℕ, min, _/_}
 use native.Mathlib.Omega.{arith}
 use mathlib.Core.Path.{_≡_, ap, _∙_}
-use mathlib.Core.List.{List, _++_}
+use mathlib.Core.List.{List}
 use lib.ListN.{length, take, drop}
-use lib.Seq.{take-at, length-take-le, length-front}
+use lib.Seq.{take-at, length-take-le}
 use Rattle.format.specs.Bytes.{over}
 use Rattle.format.specs.Boundary.{numbersOf}
 use Rattle.format.proofs.Boundary.{length-numbers}
@@ -17,7 +17,3 @@ front-lent w s l d n m e q =
     let t : List ℕ = numbersOf w s in
     let k : length (take n t) ≡ n = length-take-le n t (omega (arith, length-numbers w s)) in
     ap (take n) q ∙ take-at (take n t) (drop (length (take n t)) d) n k ∙ take-least t m n (omega (arith, length-numbers w s))
-
--- of a list of m elements whose first n came back as `front`, the first k are there
-pub back-within : (k n m : ℕ) (front l : List ℕ) → length front ≡ length (take n l) → length l ≡ m → k ≤ m → k ≤ length (front ++ drop n l)
-back-within k n m front l e q h = omega (arith, length-front l front n e)

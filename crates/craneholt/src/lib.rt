@@ -9,29 +9,21 @@ use format::ValueAnswer;
 use format::WriteAnswer;
 ghost use mathlib.Core.Path.{_≡_};
 ghost use mathlib.Core.List.{List};
-ghost use Prim.Native.Nat.{ℕ, _/_, _≤_, min};
+ghost use Prim.Native.Nat.{ℕ, _/_, _≤_};
 ghost use lib.ListN.{length};
 ghost use Rattle.format.specs.declared.ReadAnswer.{ReadAnswer};
 ghost use Rattle.format.specs.declared.ValueAnswer.{ValueAnswer};
 ghost use Rattle.format.specs.declared.CountAnswer.{CountAnswer};
 ghost use Rattle.format.specs.declared.WriteAnswer.{WriteAnswer};
 ghost use Rattle.format.specs.declared.SetAnswer.{SetAnswer};
-ghost use Rattle.format.specs.Limits.{maxLines, maxListing};
-ghost use Rattle.format.specs.Boundary.{entryBytes, wordBytes};
+ghost use Rattle.format.specs.Limits.{maxListing};
+ghost use Rattle.format.specs.Boundary.{wordBytes};
 ghost use Rattle.format.specs.Header.{header};
 ghost use Rattle.format.specs.Calls.{readHeaderCall, findFieldCall, findKeyCall, copyValueCall, dataPlaceCall, checkSamplesCall};
 ghost use Rattle.format.specs.Found.{FindsField, FindsKey};
 ghost use Rattle.format.specs.EntryPoints.{readEntry, samplesEntry, sampleNumberEntry, writeEntry, setKeyEntry};
 ghost use Rattle.format.specs.Listing.{listingCall};
 ghost use Rattle.room.specs.Room.{Enough, tableRoom, samplesRoom, sizesRoom, writeRoom, valueRoom, Copied, setRoom};
-
-// How many entries a table of so many bytes has, at most 1,024: no header has more lines.
-fn room_of(bytes: usize) -> usize
-    ensures { λ r. ⌜ r ≡ min (bytes / entryBytes) maxLines ⌝ }
-{
-    let entries = bytes / 4;
-    if entries < 1024 { entries } else { 1024 }
-}
 
 // The reading of a file's header.
 #[no_mangle]
@@ -47,13 +39,7 @@ pub extern "C" fn craneholt_read(file: &[u8], table: &mut [u8]) -> ReadAnswer
     ensures call { λ r. ⌜ _≡_ {A = ReadAnswer × List ℕ} (r, now (table .exit)) (readEntry (now (file .entry)) (now (table .entry))) ⌝ }
     ensures enough { λ r. ⌜ (tableRoom ≤ length (now (table .entry)) → (r ≡ readHeaderCall (now (file .entry))) × Enough (r .refusal)) ⌝ }
 {
-    let mut local = [0u32; 1024];
-    let room = room_of(table.len());
-    let answer = header::read::read(file, &mut local[..room]);
-    // a refused file has no lines
-    let count = answer.reading.lines as usize;
-    words::put_entries(&local[..count], table);
-    answer
+    header::read::read_to_bytes(file, table)
 }
 
 // Where the descriptor of a field lies in the file, or nowhere if the field is not given.
@@ -150,16 +136,7 @@ pub extern "C" fn craneholt_set_key(
     ensures call { λ r. ⌜ _≡_ {A = SetAnswer × (List ℕ × List ℕ)} (r, (now (buf .exit), now (table .exit))) (setKeyEntry (now (buf .entry)) used (now (table .entry)) count (now (key .entry)) (now (value .entry))) ⌝ }
     ensures enough { λ r. ⌜ (tableRoom ≤ length (now (table .entry)) → setRoom used (now (key .entry)) (now (value .entry)) ≤ length (now (buf .entry)) → Enough (r .refusal)) ⌝ }
 {
-    // a header has at most 1,024 lines
-    let mut local = [0u32; 1024];
-    let n = words::entries(table, &mut local);
-    let answer = settings::set::set_key(buf, used, &mut local[..n], count, key, value);
-    // refused: the table is not written
-    if answer.refusal.number != 0 {
-        return answer;
-    }
-    words::put_entries(&local[..n], table);
-    answer
+    settings::set::set_key_in_bytes(buf, used, table, count, key, value)
 }
 
 // The listing of a file to the front of `out`.

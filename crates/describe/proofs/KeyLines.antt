@@ -14,8 +14,8 @@ use Rattle.format.specs.Pairs.{kindOf, pairTexts}
 use Rattle.format.proofs.Lines.{length-lines-le, length-unlines-cons}
 use Rattle.text.specs.declared.lines.Kind.the-variants.{Pair}
 use Rattle.text.proofs.Places.{KindAt}
-use Rattle.header.specs.Spans.{LineAt, PastAt}
-use Rattle.header.proofs.LineCuts.{rest-of}
+use Rattle.read_lines.specs.Spans.{LineAt, PastAt}
+use Rattle.read_lines.proofs.LineCuts.{rest-of}
 use Rattle.describe.specs.Shown.{pairIn, isKey, isLater, keyText, shownTexts, shownLines, linesFrom, Within}
 
 -- ---- the pair of a line

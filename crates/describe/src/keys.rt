@@ -1,6 +1,6 @@
 // The lines of the keys: each pair of the header that is the last one with its key, as its texts stand in the file. Two keys are the same
 // where their texts are, since a key has one escaped text.
-use header::lines::Span;
+use read_lines::Span;
 use text::lines::Kind;
 ghost use mathlib.Core.Path.{_≡_};
 ghost use Prim.Native.Nat.{_+_, _≤_};
@@ -27,7 +27,7 @@ fn is_later(file: &[u8], key: &[u8], from: usize, count: u32) -> bool
     let mut at = from;
     let mut left = count;
     while 0 < left {
-        match header::lines::line_at(file, at) {
+        match read_lines::line_at(file, at) {
             Span::Found(e, next) => {
                 if is_key(&file[at..e], key) {
                     return true;
@@ -78,7 +78,7 @@ pub(crate) fn put_keys(file: &[u8], out: &mut [u8], start: usize, count: u32) ->
     let mut at: usize = 0;
     let mut left = count;
     while 0 < left {
-        match header::lines::line_at(file, at) {
+        match read_lines::line_at(file, at) {
             Span::Found(e, next) => {
                 o = put_item(file, out, o, &file[at..e], next, left - 1);
                 at = next;

@@ -1,6 +1,7 @@
 -- The answer of the reading with the table, by the answer without it.
 -- Assumes nothing.
 use Prim.Native.Nat.{ℕ, _≤_, _<_}
+use native.Mathlib.Nat.{zero-add}
 use native.Mathlib.Omega.{arith}
 use mathlib.Core.Path.{_≡_, refl, ap, _∙_}
 use mathlib.Core.List.{List}
@@ -16,7 +17,8 @@ use Rattle.format.specs.Header.{Entry, lineOf, linesOf, Outcome, refused, accep
 use Rattle.format.specs.Calls.{readingOf, readAnswer, readHeaderCall, withTable, readCall}
 use Rattle.format.proofs.Header.{header-sound}
 use Rattle.format.proofs.Numbered.{NumberedOutcome, header-numbered}
-use Rattle.header.specs.Tables.{Tabled, startsOf}
+use Rattle.read_table.specs.Tables.{lentEntries, listWith, bytesWith, Holds, Lined, startsOf}
+use Rattle.header.specs.Tables.{readInto}
 use Rattle.header.specs.Accepted.{Headed}
 use Rattle.header.proofs.Turns.{refusedAt}
 
@@ -25,15 +27,14 @@ module _ (file : List ℕ) {es : List Entry} {gs : List Given} {ls : List Line} 
   header-lines : take (length es) (lines file) ≡ linesOf es
   header-lines = rw (header-sound file e .split) (take-at (linesOf es) ls (length es) (length-map es lineOf))
 
-  starts-of : startsOf file (length es) ≡ tableOf es
+  pub starts-of : startsOf file (length es) ≡ tableOf es
   starts-of = rw header-lines
 
-  tabled : (table : List ℕ) → length es ≤ length table → Tabled file table (length es)
-  tabled table h =
+  pub header-lined : Lined file 0 (length es)
+  header-lined =
       record {
         there = rw (header-sound file e .split, length-append, length-map) (omega arith);
-        short = rw header-lines (header-sound file e .short);
-        room = h;
+        short = rw (zero-add, header-lines) (header-sound file e .short);
       }
 
 module _ (file table : List ℕ) (a : ReadAnswer) (is : a ≡ readHeaderCall file) where
@@ -61,15 +62,19 @@ module _ (file table : List ℕ) (a : ReadAnswer) (is : a ≡ readHeaderCall fil
     unfolding withTable
     call-short h = let t = taken in rw (t .is, lt-ltb (length table) (length (t .entries)) (omega (arith, t .many)))
 
-    module _ (room : a .reading .lines ≤ length table) where
-      pub call-tabled : Tabled file table (a .reading .lines)
-      call-tabled = let t = taken in rw (t .many) (tabled file (t .is) table (omega (arith, t .many)))
+    pub call-lined : Lined file 0 (a .reading .lines)
+    call-lined = let t = taken in rw (t .many) (header-lined file (t .is))
 
-      pub call-filled : (table′ : List ℕ) → table′ ≡ over (startsOf file (a .reading .lines)) table
-          → _≡_ {A = ReadAnswer × List ℕ} (a, table′) (readCall file table)
-      unfolding withTable
-      call-filled table′ e =
-          let t = taken in
-          let p : a ≡ readAnswer (accepted (t .entries) (t .fields) (t .after)) = is ∙ ap readAnswer (t .is) in
-          let q : table′ ≡ over (tableOf (t .entries)) table = rw (t .many, starts-of file (t .is)) at e in
-          rw (t .is, le-ltb (length table) (length (t .entries)) (omega (arith, t .many))) (λ i. (p i, q i))
+    pub call-filled : a .reading .lines ≤ length table → _≡_ {A = ReadAnswer × List ℕ} (a, over (startsOf file (a .reading .lines)) table) (readCall file table)
+    unfolding withTable
+    call-filled room =
+        let t = taken in
+        let p : a ≡ readAnswer (accepted (t .entries) (t .fields) (t .after)) = is ∙ ap readAnswer (t .is) in
+        let q : over (startsOf file (a .reading .lines)) table ≡ over (tableOf (t .entries)) table = ap (λ s. over s table) (ap (startsOf file) (t .many) ∙ starts-of file (t .is)) in
+        rw (t .is, le-ltb (length table) (length (t .entries)) (omega (arith, t .many))) (λ i. (p i, q i))
+
+-- the answer with a table that is lent as a list or as bytes, by that with its entries
+pub call-into : (width : ℕ) (file list bytes : List ℕ) {a : ReadAnswer} {ns list′ bytes′ : List ℕ} → _≡_ {A = ReadAnswer × List ℕ} (a, ns) (readCall file (lentEntries width list bytes))
+    → Holds width list bytes ns list′ bytes′ → _≡_ {A = ReadAnswer × (List ℕ × List ℕ)} (a, (list′, bytes′)) (readInto width file list bytes)
+call-into width file list bytes {a} q h =
+    (λ i. (a, (h .list-is i, h .bytes-is i))) ∙ ap (λ (x : ReadAnswer × List ℕ). (x .0, (listWith width (x .1) list, bytesWith width (x .1) bytes))) q

@@ -17,7 +17,7 @@ use Rattle.format.specs.Calls.{readAnswer, readHeaderCall}
 use Rattle.format.proofs.Lines.{lines-none, length-unlines-cons}
 use Rattle.format.proofs.Header.{magic-line}
 use Rattle.fields.specs.States.{answerFrom}
-use Rattle.header.specs.Spans.{LineAt, PastAt}
+use Rattle.read_lines.specs.Spans.{LineAt, PastAt}
 use Rattle.fields.proofs.States.{reading-at}
 use Rattle.header.proofs.Turns.{answerAt, refusedAt}
 

@@ -1,7 +1,5 @@
 -- Laws on plain lists and on the definitions, for the proofs of this crate.
-pub mod LineCuts
 pub mod Turns
 pub mod FirstLine
-pub mod Tables
 pub mod Calls
 pub mod Accepted

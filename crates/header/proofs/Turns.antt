@@ -23,7 +23,7 @@ use Rattle.format.proofs.Judged.{is-closing}
 use Rattle.format.proofs.Numbered.{Numbered, judge-numbered}
 use Rattle.fields.specs.declared.state.Step.{Step}
 use Rattle.fields.specs.States.{flags, numbersOf, Holds, Known, stepped, keptAt, completeNumber, finished, answerFrom}
-use Rattle.header.specs.Spans.{LineAt, PastAt}
+use Rattle.read_lines.specs.Spans.{LineAt, PastAt}
 use Rattle.fields.proofs.States.{given-at, holds-none, holds-next, known-of}
 
 -- ---- answers

@@ -1,16 +1,10 @@
--- The first lines of a file, whose starts go to a table.
-use Prim.Native.Nat.{ℕ, _≤_}
+-- The reading with a table that is lent as a list or as bytes.
+use Prim.Native.Nat.{ℕ}
 use mathlib.Core.List.{List}
-use lib.ListN.{length, take}
-use Rattle.format.specs.Limits.{maxHeader}
-use Rattle.format.specs.Lines.{lines, unlines, starts}
+use Rattle.format.specs.declared.ReadAnswer.{ReadAnswer}
+use Rattle.format.specs.Calls.{readCall}
+use Rattle.read_table.specs.Tables.{lentEntries, listWith, bytesWith}
 
--- there are so many lines, they end within the limit of a header, and the table has room for their starts
-pub record Tabled (file table : List ℕ) (count : ℕ) : Type 0 where
-  pub there : count ≤ length (lines file)
-  pub short : length (unlines (take count (lines file))) ≤ maxHeader
-  pub room : count ≤ length table
-
--- where the first lines start
-abbrev pub startsOf : List ℕ → ℕ → List ℕ
-startsOf file count = starts 0 (take count (lines file))
+abbrev pub readInto : ℕ → List ℕ → List ℕ → List ℕ → ReadAnswer × (List ℕ × List ℕ)
+readInto width file list bytes =
+    let a = readCall file (lentEntries width list bytes) in (a .0, (listWith width (a .1) list, bytesWith width (a .1) bytes))

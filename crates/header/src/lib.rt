@@ -1,4 +1,2 @@
 // The reader: headers read, refused and tabled.
-pub mod lines;
 pub mod read;
-mod table;

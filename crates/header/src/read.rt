@@ -1,7 +1,7 @@
 // The reading of a header: line 1, the lines after it, and the table of lines.
-use crate::lines::Span;
 use format::ReadAnswer;
 use format::field;
+use read_lines::Span;
 ghost use mathlib.Core.Path.{_≡_};
 ghost use mathlib.Core.List.{List, []};
 ghost use Prim.Native.Nat.{ℕ, _≤_};
@@ -13,7 +13,9 @@ ghost use Rattle.format.specs.Lines.{lines};
 ghost use Rattle.format.specs.Header.{magicVersion, walk};
 ghost use Rattle.format.specs.Calls.{readHeaderCall, readCall};
 ghost use Rattle.fields.specs.States.{answerFrom};
-ghost use Rattle.room.specs.Room.{Enough, tableEntries};
+ghost use Rattle.format.specs.EntryPoints.{readEntry};
+ghost use Rattle.header.specs.Tables.{readInto};
+ghost use Rattle.room.specs.Room.{Enough, tableEntries, tableRoom};
 
 // The version of a magic, 0 for any other text.
 fn magic_version(t: &[u8]) -> u32
@@ -51,7 +53,7 @@ fn read_lines(file: &[u8], from: usize, version: u32) -> ReadAnswer
     let mut at = from;
     let mut n: u32 = 2;
     while at < file.len() {
-        match crate::lines::line_at(file, at) {
+        match read_lines::line_at(file, at) {
             Span::Past => {
                 return fields::state::refuse(format::HEADER_TOO_LONG, n);
             }
@@ -95,7 +97,7 @@ pub fn read_header(file: &[u8]) -> ReadAnswer
     if file.len() == 0 {
         return fields::state::refuse(format::NO_MAGIC, 1);
     }
-    match crate::lines::line_at(file, 0) {
+    match read_lines::line_at(file, 0) {
         Span::Past => {
             return fields::state::refuse(format::NO_MAGIC, 1);
         }
@@ -112,19 +114,36 @@ pub fn read_header(file: &[u8]) -> ReadAnswer
     }
 }
 
-// The reading of a file's header, and where each of its lines starts, at the front of the table. 1,024 entries are enough for any file.
-pub fn read(file: &[u8], table: &mut [u32]) -> ReadAnswer
-    ensures call { λ r. ⌜ _≡_ {A = ReadAnswer × List ℕ} (r, now (table .exit)) (readCall (now (file .entry)) (now (table .entry))) ⌝ }
-    ensures enough { λ r. ⌜ (tableEntries ≤ length (now (table .entry)) → (r ≡ readHeaderCall (now (file .entry))) × Enough (r .refusal)) ⌝ }
+// The reading of a file's header, and where each of its lines starts, at the front of a table that is lent as a list or as bytes.
+fn read_into(file: &[u8], list: &mut [u32], bytes: &mut [u8], width: usize) -> ReadAnswer
+    ensures { λ r. ⌜ _≡_ {A = ReadAnswer × (List ℕ × List ℕ)} (r, (now (list .exit), now (bytes .exit))) (readInto width (now (file .entry)) (now (list .entry)) (now (bytes .entry))) ⌝ }
 {
     let answer = read_header(file);
     if answer.refusal.number != 0 {
         return answer;
     }
     let count = answer.reading.lines as usize;
-    if table.len() < count {
+    if read_table::entries(list, bytes, width) < count {
         return fields::state::refuse(format::LENT_TOO_SHORT, 0);
     }
-    crate::table::fill_table(file, table, count);
+    read_table::fill(file, list, bytes, width, count);
     answer
+}
+
+// The same for a table of numbers. 1,024 entries are enough for any file.
+pub fn read(file: &[u8], table: &mut [u32]) -> ReadAnswer
+    ensures call { λ r. ⌜ _≡_ {A = ReadAnswer × List ℕ} (r, now (table .exit)) (readCall (now (file .entry)) (now (table .entry))) ⌝ }
+    ensures enough { λ r. ⌜ (tableEntries ≤ length (now (table .entry)) → (r ≡ readHeaderCall (now (file .entry))) × Enough (r .refusal)) ⌝ }
+{
+    let mut none = [0u8; 1];
+    read_into(file, table, &mut none, read_table::LISTED)
+}
+
+// The same for a table in bytes, 4 an entry.
+pub fn read_to_bytes(file: &[u8], table: &mut [u8]) -> ReadAnswer
+    ensures call { λ r. ⌜ _≡_ {A = ReadAnswer × List ℕ} (r, now (table .exit)) (readEntry (now (file .entry)) (now (table .entry))) ⌝ }
+    ensures enough { λ r. ⌜ (tableRoom ≤ length (now (table .entry)) → (r ≡ readHeaderCall (now (file .entry))) × Enough (r .refusal)) ⌝ }
+{
+    let mut none = [0u32; 1];
+    read_into(file, &mut none, table, read_table::IN_BYTES)
 }

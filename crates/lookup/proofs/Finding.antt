@@ -31,9 +31,9 @@ use Rattle.text.specs.declared.words.Row.the-variants.{Number, Unknown}
 use Rattle.text.specs.Rows.{rowAnswer}
 use Rattle.text.specs.Meanings.{meansKey}
 use Rattle.text.proofs.Places.{KindAt}
-use Rattle.header.specs.Spans.{LineAt, PastAt}
+use Rattle.read_lines.specs.Spans.{LineAt, PastAt}
 use Rattle.header.specs.Accepted.{Headed, IsItem, Items}
-use Rattle.header.proofs.LineCuts.{rest-of}
+use Rattle.read_lines.proofs.LineCuts.{rest-of}
 use Rattle.header.proofs.Accepted.{header-items, item-pair, item-field}
 use Rattle.lookup.specs.Lookup.{Left, latestOf, keyThen, keyElse, KeyLeft, FieldLeft, isField, SecondAt}
 

@@ -1,6 +1,6 @@
 // Where a field's descriptor lies in a file.
 use format::FindAnswer;
-use header::lines::Span;
+use read_lines::Span;
 use text::lines::Kind;
 use text::words::Row;
 ghost use mathlib.Core.Path.{_≡_};
@@ -61,7 +61,7 @@ fn first_field(file: &[u8], field: u32, from: usize, count: u32) -> FindAnswer
     let mut at = from;
     let mut left = count;
     while 0 < left {
-        match header::lines::line_at(file, at) {
+        match read_lines::line_at(file, at) {
             Span::Found(e, next) => {
                 let place = field_in(&file[at..e], field, at);
                 if place.found {

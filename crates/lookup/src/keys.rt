@@ -2,7 +2,7 @@
 use format::FindAnswer;
 use format::ValueAnswer;
 use format_values::refusals;
-use header::lines::Span;
+use read_lines::Span;
 use text::lines::Kind;
 ghost use mathlib.Core.Path.{_≡_};
 ghost use mathlib.Core.List.{List};
@@ -54,7 +54,7 @@ fn last_pair(file: &[u8], key: &[u8], from: usize, count: u32) -> FindAnswer
     let mut at = from;
     let mut left = count;
     while 0 < left {
-        match header::lines::line_at(file, at) {
+        match read_lines::line_at(file, at) {
             Span::Found(e, next) => {
                 let here = pair_in(&file[at..e], key, at, none);
                 found = latest(found, here);

@@ -2,7 +2,7 @@
 use format::FindAnswer;
 use format::Refusal;
 use format_values::refusals;
-use header::lines::Span;
+use read_lines::Span;
 ghost use mathlib.Core.Path.{_≡_};
 ghost use Prim.Native.Nat.{_<_};
 ghost use lib.ListN.{length};
@@ -46,7 +46,7 @@ pub(crate) fn second_line(file: &[u8]) -> usize
     requires { ⌜ 0 < length (now file) ⌝ }
     ensures { λ r. ⌜ SecondAt (now (file .entry)) r ⌝ }
 {
-    match header::lines::line_at(file, 0) {
+    match read_lines::line_at(file, 0) {
         Span::Found(_, next) => next,
         Span::Past => 0,
     }

@@ -28,10 +28,13 @@ use Rattle.format.specs.Data.{placeOf}
 use Rattle.format.specs.Settings.{lent, SetOutcome, kept, changed, keyFine, valueFine, newLines, refilled, tableFine, store, setRead, setKey}
 use Rattle.format.specs.Writer.{fileBytes, writeRefusal}
 use Rattle.format.specs.Calls.{readAnswer, readHeaderCall, withTable, readCall, noPlace, pairPlace, valuePlace, keyPlace, findKeyIn, findKeyCall, copyValue, copyValueIn, copyValueCall, checkIn, samplesCall, writeAnswer, writeCall, setAnswer, setKeyCall}
+use Rattle.format.specs.Boundary.{entryBytes, numbersOf}
+use Rattle.format.specs.EntryPoints.{readEntry, setKeyEntry}
+use Rattle.format.proofs.Boundary.{length-numbers}
 use Rattle.format.proofs.Header.{header-sound}
 use Rattle.format.proofs.Numbered.{NumberedOutcome, header-numbered}
 use Rattle.format.proofs.Places.{place-numbered}
-use Rattle.room.specs.Room.{Enough, tableEntries, writeRoom, valueRoom, Copied, samplesRoom, setRoom, RoomEnough}
+use Rattle.room.specs.Room.{Enough, tableEntries, tableRoom, writeRoom, valueRoom, Copied, samplesRoom, setRoom, RoomEnough}
 use Rattle.room.proofs.Written.{room-for-file}
 use Rattle.room.proofs.Checked.{list-long}
 use Rattle.room.proofs.Grown.{escape-length, header-grown}
@@ -216,3 +219,21 @@ pub set-answered : (buf : List ℕ) (used : ℕ) (table : List ℕ) (count : ℕ
     → _≡_ {A = SetAnswer × (List ℕ × List ℕ)} (a, after) (setKeyCall buf used table count k v) → tableEntries ≤ length table → setRoom used k v ≤ length buf → Enough (a .refusal)
 set-answered buf used table count k v q r h =
     same-refusal (ap (λ (x : SetAnswer × (List ℕ × List ℕ)). x .0 .refusal) q) (set-enough buf used table r count k v h)
+
+-- ---- where tables cross in bytes
+
+-- the entries of such a table
+many-entries : (table : List ℕ) → tableRoom ≤ length table → tableEntries ≤ length (numbersOf entryBytes table)
+many-entries table h = omega (arith, length-numbers entryBytes table)
+
+pub read-in-bytes : (file table : List ℕ) {a : ReadAnswer} {after : List ℕ} → _≡_ {A = ReadAnswer × List ℕ} (a, after) (readEntry file table)
+    → tableRoom ≤ length table → (a ≡ readHeaderCall file) × Enough (a .refusal)
+read-in-bytes file table e h =
+    let c = readCall file (numbersOf entryBytes table) in
+    read-answered file (numbersOf entryBytes table) (λ i. (ap (λ (x : ReadAnswer × List ℕ). x .0) e i, c .1)) (many-entries table h)
+
+pub set-in-bytes : (buf : List ℕ) (used : ℕ) (table : List ℕ) (count : ℕ) (k v : List ℕ) {a : SetAnswer} {after : List ℕ × List ℕ}
+    → _≡_ {A = SetAnswer × (List ℕ × List ℕ)} (a, after) (setKeyEntry buf used table count k v) → tableRoom ≤ length table → setRoom used k v ≤ length buf → Enough (a .refusal)
+set-in-bytes buf used table count k v e h =
+    let c = setKeyCall buf used (numbersOf entryBytes table) count k v in
+    set-answered buf used (numbersOf entryBytes table) count k v (λ i. (ap (λ (x : SetAnswer × (List ℕ × List ℕ)). x .0) e i, c .1)) (many-entries table h)

@@ -1,7 +1,7 @@
 -- The answer of a setting, with the buffer and the table as it leaves them.
 -- Assumes nothing.
 use Prim.Native.Nat.{ℕ, _+_, _-_, _≤_, _<_}
-use mathlib.Core.Path.{_≡_, refl}
+use mathlib.Core.Path.{_≡_, refl, ap, _∙_}
 use mathlib.Core.List.{List}
 use lib.ListN.{length, take}
 use lib.Seq.{length-take-le}
@@ -11,9 +11,11 @@ use Rattle.format.specs.Bytes.{over}
 use Rattle.format.specs.Refusals.{lentTooShort, refusal}
 use Rattle.format.specs.Settings.{pairText, refilled, setKey}
 use Rattle.format.specs.Calls.{setKeyCall}
+use Rattle.read_table.specs.Tables.{lentEntries, listWith, bytesWith, Holds}
+use Rattle.read_table.specs.Shifts.{shifted, Shiftable}
 use Rattle.splice.specs.Edited.{edited}
 use Rattle.settings.specs.declared.plan.Plan.{Plan}
-use Rattle.settings.specs.Edits.{shifted, Shiftable, Ready, Planned}
+use Rattle.settings.specs.Edits.{Ready, Planned, setInto}
 
 module _ (buf : List ℕ) (used : ℕ) (table : List ℕ) (count : ℕ) (k v : List ℕ) where
   -- the used length passes the buffer
@@ -51,9 +53,18 @@ module _ (buf : List ℕ) (used : ℕ) (table : List ℕ) (count : ℕ) (k v : L
       table-shiftable = r .shift
 
       -- done
-      pub call-done : (buf′ : List ℕ) → buf′ ≡ refilled buf used edit
-          → (table′ : List ℕ) → table′ ≡ over (shifted (p .from) (p .to) (p .front) (p .more) (take count table)) table
-          → _≡_ {A = SetAnswer × (List ℕ × List ℕ)} (record { refusal = p .refusal; length = p .length; count = p .count }, (buf′, table′)) (setKeyCall buf used table count k v)
+      pub call-done : (a : SetAnswer) → a ≡ record { refusal = p .refusal; length = p .length; count = p .count } → (buf′ : List ℕ) → buf′ ≡ refilled buf used edit
+          → _≡_ {A = SetAnswer × (List ℕ × List ℕ)} (a, (buf′, over (shifted (p .from) (p .to) (p .front) (p .more) (take count table)) table)) (setKeyCall buf used table count k v)
       unfolding setKey
-      call-done buf′ e table′ f =
-          rw (le-ltb (length buf) used h, r .answer buf used refl) (λ i. (record { refusal = r .told i; length = p .length; count = p .count }, (e i, f i)))
+      call-done a q buf′ e =
+          rw (le-ltb (length buf) used h, r .answer buf used refl)
+          (λ i. ((q ∙ λ j. record { refusal = r .told j; length = p .length; count = p .count }) i, (e i, over (shifted (p .from) (p .to) (p .front) (p .more) (take count table)) table)))
+
+-- the answer with a table that is lent as a list or as bytes, by that with its entries
+pub call-into : (width : ℕ) (buf : List ℕ) (used : ℕ) (list bytes : List ℕ) (count : ℕ) (k v : List ℕ) {a : SetAnswer} {buf′ ns list′ bytes′ : List ℕ}
+    → _≡_ {A = SetAnswer × (List ℕ × List ℕ)} (a, (buf′, ns)) (setKeyCall buf used (lentEntries width list bytes) count k v)
+    → Holds width list bytes ns list′ bytes′
+    → _≡_ {A = SetAnswer × (List ℕ × (List ℕ × List ℕ))} (a, (buf′, (list′, bytes′))) (setInto width buf used list bytes count k v)
+call-into width buf used list bytes count k v {a} {buf′} q h =
+    (λ i. (a, (buf′, (h .list-is i, h .bytes-is i))))
+    ∙ ap (λ (x : SetAnswer × (List ℕ × List ℕ)). (x .0, (x .1 .0, (listWith width (x .1 .1) list, bytesWith width (x .1 .1) bytes)))) q

@@ -1,5 +1,3 @@
-pub mod Shifting
 pub mod Placing
-pub mod Matching
 pub mod Planning
 pub mod Answers

@@ -26,12 +26,13 @@ use Rattle.format.proofs.Pairs.{pair-line, length-pair}
 use Rattle.format.proofs.Header.{header-sound, magic-line}
 use Rattle.format.proofs.Found.{key-found}
 use Rattle.header.specs.Accepted.{Headed, IsItem, Items}
-use Rattle.header.specs.Spans.{LineAt, PastAt}
+use Rattle.read_lines.specs.Spans.{LineAt, PastAt}
 use Rattle.header.proofs.Accepted.{header-items}
 use Rattle.splice.specs.Edited.{edited}
 use Rattle.settings.specs.declared.place.Place.{Place}
-use Rattle.settings.specs.Edits.{movedBy, shifted, FirstAt, Placed}
-use Rattle.settings.proofs.Shifting.{moved-below, cons, starts-moved}
+use Rattle.read_table.specs.Shifts.{movedBy, shifted}
+use Rattle.settings.specs.Edits.{FirstAt, Placed}
+use Rattle.read_table.proofs.Shifting.{moved-below, cons, starts-moved}
 
 -- ---- the last line of a key
 

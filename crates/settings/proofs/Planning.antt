@@ -23,12 +23,15 @@ use Rattle.format.proofs.Header.{header-sound, length-table}
 use Rattle.format.proofs.Numbered.{NumberedOutcome, header-numbered}
 use Rattle.header.specs.Accepted.{Headed}
 use Rattle.header.proofs.Accepted.{was-refused, was-accepted}
+use Rattle.header.proofs.Calls.{starts-of, header-lined}
+use Rattle.read_table.specs.Tables.{Lined, startsOf}
+use Rattle.read_table.specs.Shifts.{movedBy, shifted, Shiftable}
 use Rattle.splice.specs.Edited.{edited}
 use Rattle.splice.proofs.Held.{length-edited}
 use Rattle.settings.specs.declared.place.Place.{Place}
 use Rattle.settings.specs.declared.plan.Plan.{Plan}
-use Rattle.settings.specs.Edits.{Placed, Small, askedNumber, noPlan, fitted, movedBy, shifted, Shiftable, Ready, Planned}
-use Rattle.settings.proofs.Shifting.{moved-within, start-within, fine-many, fine-is}
+use Rattle.settings.specs.Edits.{Placed, Small, askedNumber, noPlan, fitted, Ready, Planned}
+use Rattle.read_table.proofs.Shifting.{moved-within, start-within, fine-many, fine-is}
 
 -- ---- what was read
 
@@ -67,6 +70,14 @@ module _ (file : List ℕ) (a : ReadAnswer) (is : a ≡ readHeaderCall file) whe
 
 pub headed : {file : List ℕ} {a : ReadAnswer} → Read file a → Headed file (a .reading .lines)
 headed r = record { entries = r .entries; fields = r .fields; after = r .after; is = r .is; many = r .lines }
+
+-- its lines are there, and their starts are its table
+module _ {file : List ℕ} {a : ReadAnswer} (r : Read file a) where
+  pub read-lined : Lined file 0 (a .reading .lines)
+  read-lined = subst (Lined file 0) (sym (r .lines)) (header-lined file (r .is))
+
+  pub read-starts : startsOf file (a .reading .lines) ≡ tableOf (r .entries)
+  read-starts = ap (startsOf file) (r .lines) ∙ starts-of file (r .is)
 
 -- ---- the key, the value, the table
 

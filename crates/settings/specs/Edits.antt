@@ -1,11 +1,12 @@
--- One setting as an edit of the file's bytes: where the line goes, the numbers of the new file, and what `prepare` answers.
-use Prim.Native.Nat.{ℕ, zero, suc, _+_, _-_, _≤_, _<_}
+-- One setting as an edit of the file's bytes: where the line goes, the numbers of the new file, and what `prepare` and `set_into` answer.
+use Prim.Native.Nat.{ℕ, _+_, _-_, _≤_}
 use mathlib.Core.Path.{_≡_}
 use mathlib.Core.Bool.{Bool, not, _||_}
-use mathlib.Core.List.{List, [], _∷_, map}
+use mathlib.Core.List.{List, _∷_}
 use lib.Dec.{ltb}
-use lib.ListN.{length, take, getD}
+use lib.ListN.{length, take}
 use Rattle.format.specs.declared.Refusal.{Refusal}
+use Rattle.format.specs.declared.SetAnswer.{SetAnswer}
 use Rattle.format.specs.Bytes.{if_then_else_, over}
 use Rattle.format.specs.Limits.{maxFile, maxHeader, maxLines}
 use Rattle.format.specs.Refusals.{fileTooLong, headerTooLong, tooManyLines, notInVersion, lentTooShort, badKey, badValue, wrongTable, refusal, fine}
@@ -13,27 +14,12 @@ use Rattle.format.specs.Lines.{Line, text, size, lines, unlines, starts}
 use Rattle.format.specs.Fields.{pairsSince}
 use Rattle.format.specs.Header.{Entry, linesOf, header, headerLength, tableOf}
 use Rattle.format.specs.Settings.{pairText, newLines, lent, kept, changed, refilled, setRead}
+use Rattle.read_table.specs.Tables.{lentEntries, listWith, bytesWith}
+use Rattle.read_table.specs.Shifts.{shifted, Shiftable}
+use Rattle.format.specs.Calls.{setKeyCall}
 use Rattle.splice.specs.Edited.{edited}
 use Rattle.settings.specs.declared.place.Place.{Place}
 use Rattle.settings.specs.declared.plan.Plan.{Plan}
-
--- where a line that started at x starts, once what ended at `to` ends at `front`
-unfoldable pub movedBy : ℕ → ℕ → ℕ → ℕ
-movedBy to front x = if ltb x to then x else front + (x - to)
-
--- the starts of the lines after an edit; `more` is 1 for a new line 2, which starts at `from`
-unfoldable pub shifted : ℕ → ℕ → ℕ → ℕ → List ℕ → List ℕ
-shifted from to front zero ss = map (movedBy to front) ss
-shifted from to front (suc more) [] = []
-shifted from to front (suc more) (s ∷ ss) = s ∷ from ∷ map (movedBy to front) ss
-
--- a table whose first `count` entries can be moved
-pub record Shiftable (table : List ℕ) (count more from to front : ℕ) : Type 0 where
-  pub some : 0 < count
-  pub few : more ≤ 1
-  pub room : count + more ≤ length table
-  pub second : from ≤ maxFile
-  pub small : (k : ℕ) → k < count → movedBy to front (getD table k 0) ≤ maxFile
 
 -- line 1 as a place: a line after it, with its ending, is put in where its text ends
 abbrev pub FirstAt : List ℕ → Place → Type 0
@@ -101,3 +87,10 @@ pub record Planned (file : List ℕ) (room : ℕ) (table : List ℕ) (count : �
   pub refuses : (p .refusal .number ≡ 0 → ⊥) → (buf : List ℕ) (used : ℕ) → length buf ≡ room
       → setRead buf used table count k v (header file) ≡ kept (p .refusal)
   pub ready : p .refusal .number ≡ 0 → Ready file room table count k v p
+
+-- ---- the answer
+
+-- with a table that is lent as a list or as bytes
+abbrev pub setInto : ℕ → List ℕ → ℕ → List ℕ → List ℕ → ℕ → List ℕ → List ℕ → SetAnswer × (List ℕ × (List ℕ × List ℕ))
+setInto width buf used list bytes count k v =
+    let a = setKeyCall buf used (lentEntries width list bytes) count k v in (a .0, (a .1 .0, (listWith width (a .1 .1) list, bytesWith width (a .1 .1) bytes)))

@@ -2,4 +2,3 @@
 mod place;
 mod plan;
 pub mod set;
-mod tables;

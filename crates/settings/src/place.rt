@@ -1,5 +1,5 @@
 // Where a key's line goes.
-use header::lines::Span;
+use read_lines::Span;
 ghost use mathlib.Core.Path.{_≡_};
 ghost use mathlib.Core.List.{List};
 ghost use Prim.Native.Nat.{_<_};
@@ -24,7 +24,7 @@ fn after_first(file: &[u8]) -> Place
     requires { ⌜ 0 < length (now file) ⌝ }
     ensures { λ r. ⌜ FirstAt (now (file .entry)) r ⌝ }
 {
-    match header::lines::line_at(file, 0) {
+    match read_lines::line_at(file, 0) {
         Span::Found(text_end, next) => Place {
             from: next,
             to: text_end,

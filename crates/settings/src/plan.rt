@@ -3,15 +3,9 @@ use crate::place::Place;
 use format::Refusal;
 use format_values::refusals;
 ghost use mathlib.Core.Path.{_≡_};
-ghost use mathlib.Core.List.{List};
-ghost use Prim.Native.Nat.{_+_};
-ghost use lib.ListN.{length};
 ghost use Rattle.format.specs.Refusals.{refusal};
-ghost use Rattle.format.specs.Lines.{Line};
-ghost use Rattle.format.specs.Fields.{Given};
-ghost use Rattle.format.specs.Header.{Entry, accepted, header, tableOf};
-ghost use Rattle.format.specs.Settings.{keyFine, valueFine, tableFine};
-ghost use Rattle.header.specs.Accepted.{Headed};
+ghost use Rattle.format.specs.Settings.{keyFine, valueFine};
+ghost use Rattle.read_table.specs.Tables.{lentEntries};
 ghost use Rattle.settings.specs.Edits.{Small, askedNumber, noPlan, fitted, Planned};
 
 // A refusal, or the edit: the pair's text between `from` and `to`, where it ends, how many lines more there are, and the new file's bytes and
@@ -48,18 +42,9 @@ fn refuse(number: u32) -> Plan
     no_plan(refusals::refusal(number))
 }
 
-// The refusal of the key, the value or the table, in a file whose header has this version and so many lines, or 0.
-fn asked(
-    file: &[u8],
-    version: u32,
-    lines: usize,
-    table: &[u32],
-    count: usize,
-    key: &[u8],
-    value: &[u8],
-) -> u32
-    requires { ⌜ Headed (now file) lines ⌝ }
-    ensures { λ r. ⌜ ((es : List Entry) (gs : List Given) (ls : List Line) → header (now (file .entry)) ≡ accepted es gs ls → r ≡ askedNumber version (keyFine (now (key .entry))) (valueFine (now (value .entry))) (tableFine (now (table .entry)) count (tableOf es))) ⌝ }
+// The refusal of the key, the value or the table, in a file of this version, or 0. `fine` tells whether the table is the file's.
+fn asked(version: u32, key: &[u8], value: &[u8], fine: bool) -> u32
+    ensures { λ r. ⌜ r ≡ askedNumber version (keyFine (now (key .entry))) (valueFine (now (value .entry))) fine ⌝ }
 {
     if version < 2 {
         return format::NOT_IN_VERSION;
@@ -70,7 +55,7 @@ fn asked(
     if !pairs::value_fine(value) {
         return format::BAD_VALUE;
     }
-    if !crate::tables::table_fine(file, lines, table, count) {
+    if !fine {
         return format::WRONG_TABLE;
     }
     0
@@ -115,16 +100,18 @@ fn fit(
     }
 }
 
-// The plan of a setting of a file in a buffer of `room` bytes.
+// The plan of a setting of a file in a buffer of `room` bytes, whose table is lent as a list or as bytes.
 pub(crate) fn prepare(
     file: &[u8],
     room: usize,
-    table: &[u32],
+    list: &[u32],
+    bytes: &[u8],
+    width: usize,
     count: usize,
     key: &[u8],
     value: &[u8],
 ) -> Plan
-    ensures { λ r. ⌜ Planned (now (file .entry)) room (now (table .entry)) count (now (key .entry)) (now (value .entry)) r ⌝ }
+    ensures { λ r. ⌜ Planned (now (file .entry)) room (lentEntries width (now (list .entry)) (now (bytes .entry))) count (now (key .entry)) (now (value .entry)) r ⌝ }
 {
     let read = header::read::read_header(file);
     let refusal = read.refusal;
@@ -133,7 +120,8 @@ pub(crate) fn prepare(
     if lines == 0 {
         return no_plan(refusal);
     }
-    let number = asked(file, read.reading.version, lines, table, count, key, value);
+    let fine = read_table::is_table(file, lines, list, bytes, width, count);
+    let number = asked(read.reading.version, key, value, fine);
     if number != 0 {
         return refuse(number);
     }
@@ -146,6 +134,6 @@ pub(crate) fn prepare(
         lines,
         file.len(),
         room,
-        table.len(),
+        read_table::entries(list, bytes, width),
     )
 }

@@ -5,14 +5,14 @@ use native.Mathlib.Nat.{zero-add, suc-add, mul-zero, mul-suc}
 use native.Mathlib.Omega.{arith}
 use mathlib.Core.Path.{_≡_, refl, sym, ap, _∙_}
 use mathlib.Core.Bool.{Bool, true, false}
-use mathlib.Core.List.{List, [], _∷_, _++_, append-nil, append-assoc, flatMap}
+use mathlib.Core.List.{List, [], _∷_, _++_, append-assoc, flatMap}
 use lib.Dec.{leb}
 use lib.ListN.{length, take, drop, getD, set, length-append, length-set}
 use lib.Seq.{sets, sets-eq, take-all, drop-at, length-take-le}
 use borrow.Author.Tests.{leb-true, leb-false}
 use Rattle.format.specs.Bytes.{over}
 use Rattle.format.proofs.Stores.{sets-then, take-more}
-use Rattle.format.proofs.Boundary.{flat-append, flat-length}
+use Rattle.format.proofs.Boundary.{flat-length}
 
 module _ {ℓ} {A : Type ℓ} where
   -- a run past a front
@@ -84,17 +84,3 @@ module _ {A : Type 0} (f : A → List ℕ) (w : ℕ) (size : (a : A) → length 
   over-set l d j a h =
       let e : length (flatMap f l) ≡ length (flatMap f (set l j a)) = flat-length f w size l ∙ ap (λ (n : ℕ). w * n) (sym (length-set l j a)) ∙ sym (flat-length f w size (set l j a)) in
       flat-set l (drop (length (flatMap f l)) d) j a h ∙ ap (λ (n : ℕ). flatMap f (set l j a) ++ drop n d) e
-
-  -- one turn of a loop that stores f of each element of ns at the front of d
-  pub flat-more : (ns : List A) (d d′ d₀ : List ℕ) (i : ℕ) (z : A) → d ≡ over (flatMap f (take i ns)) d₀ → d′ ≡ sets d (w * i) (f (getD ns i z))
-      → i < length ns → w * i + w ≤ length d₀ → d′ ≡ over (flatMap f (take (i + 1) ns)) d₀
-  unfolding flatMap
-  flat-more ns d d′ d₀ i z e q h l =
-      let p : List ℕ = flatMap f (take i ns) in
-      let a : A = getD ns i z in
-      let k : length p ≡ w * i = flat-length f w size (take i ns) ∙ ap (λ (m : ℕ). w * m) (length-take-le i ns (omega arith)) in
-      q
-      ∙ ap (λ (r : List ℕ). sets r (w * i) (f a)) e
-      ∙ over-then p (f a) d₀ (w * i) k (omega (arith, size a))
-      ∙ ap (λ (r : List ℕ). over r d₀)
-      (ap (λ (r : List ℕ). p ++ r) (sym (append-nil (f a))) ∙ sym (flat-append f (take i ns) (a ∷ [])) ∙ ap (flatMap f) (sym (take-more ns i z h)))

@@ -6,7 +6,7 @@ ghost use lib.Seq.{sets};
 ghost use Rattle.format.specs.Bytes.{over};
 ghost use Rattle.format.specs.Descriptors.{little};
 ghost use Rattle.format.specs.Samples.{fromBytes, toBytes, toSigned, fromSigned, valueBytes};
-ghost use Rattle.format.specs.Boundary.{numbersOf, numberBytes};
+ghost use Rattle.format.specs.Boundary.{numbersOf};
 ghost use Rattle.words.specs.Bits.{Bits};
 ghost use Rattle.words.specs.Widths.{isWidth};
 
@@ -89,14 +89,14 @@ pub fn bits_of(z: i64) -> u64
 }
 
 // Table entry k.
-fn entry_at(s: &[u8], k: usize) -> u32
+pub fn entry_at(s: &[u8], k: usize) -> u32
     requires { ⌜ 4 * k + 4 ≤ length (now s) ⌝ }
     ensures { λ r. ⌜ r ≡ fromBytes (take 4 (drop (4 * k) (now (s .entry)))) ⌝ }
 {
     load4(s, 4 * k) as u32
 }
 
-fn put_entry(d: &mut [u8], k: usize, x: u32)
+pub fn put_entry(d: &mut [u8], k: usize, x: u32)
     requires { ⌜ 4 * k + 4 ≤ length (now d) ⌝ }
     ensures { λ _. ⌜ now (d .exit) ≡ sets (now (d .entry)) (4 * k) (toBytes 4 x) ⌝ }
 {
@@ -125,20 +125,7 @@ fn least(a: usize, b: usize) -> usize
     if a < b { a } else { b }
 }
 
-// The entries of lent bytes to the front of t: as many as are there and have room.
-pub fn entries(s: &[u8], t: &mut [u32]) -> usize
-    ensures { λ r. ⌜ (r ≡ min (length (now (s .entry)) / 4) (length (now (t .entry)))) × (now (t .exit) ≡ over (take r (numbersOf 4 (now (s .entry)))) (now (t .entry))) ⌝ }
-{
-    let n = least(s.len() / 4, t.len());
-    let mut i: usize = 0;
-    while i < n {
-        t[i] = entry_at(s, i);
-        i += 1;
-    }
-    n
-}
-
-// The same for sizes and coordinates.
+// The sizes or coordinates of lent bytes to the front of t: as many as are there and have room.
 pub fn numbers(s: &[u8], t: &mut [u64]) -> usize
     ensures { λ r. ⌜ (r ≡ min (length (now (s .entry)) / 8) (length (now (t .entry)))) × (now (t .exit) ≡ over (take r (numbersOf 8 (now (s .entry)))) (now (t .entry))) ⌝ }
 {
@@ -149,18 +136,6 @@ pub fn numbers(s: &[u8], t: &mut [u64]) -> usize
         i += 1;
     }
     n
-}
-
-// The entries t to the front of lent bytes: as many as have room.
-pub fn put_entries(t: &[u32], d: &mut [u8])
-    ensures { λ _. ⌜ now (d .exit) ≡ over (numberBytes 4 (take (length (now (d .entry)) / 4) (now (t .entry)))) (now (d .entry)) ⌝ }
-{
-    let n = least(d.len() / 4, t.len());
-    let mut i: usize = 0;
-    while i < n {
-        put_entry(d, i, t[i]);
-        i += 1;
-    }
 }
 
 // Whether samples have so many bytes.

@@ -3,7 +3,7 @@
 use borrow.Author.Needs.{needs}
 use native.Mathlib.Omega.{arith}
 use mathlib.Core.Path.{_≡_, refl, sym, ap, subst, _∙_}
-use Rattle.header.specs.Spans.{LineAt, SpanIs}
+use Rattle.read_lines.specs.Spans.{LineAt, SpanIs}
 use Rattle.describe.specs.Shown.{isLater, linesFrom, Within}
 use Rattle.describe.proofs.KeyLines.{within-limit, within-starts, within-not-past, within-next, later-here, later-next, lines-none}
 use Rattle.describe.proofs.keys.is_later.Statement.{statement}

@@ -6,7 +6,7 @@ use native.Mathlib.Omega.{arith}
 use mathlib.Core.Path.{ap, subst}
 use lib.ListN.{take, drop, length-take}
 use Rattle.format.specs.Limits.{maxKeys}
-use Rattle.header.specs.Spans.{LineAt, SpanIs}
+use Rattle.read_lines.specs.Spans.{LineAt, SpanIs}
 use Rattle.describe.specs.Shown.{pairIn, shownTexts, shownLines, linesFrom, Within}
 use Rattle.printed.proofs.Printing.{Printing, printing-start, printing-more, printing-done}
 use Rattle.describe.proofs.KeyLines.{within-limit, within-starts, within-not-past, within-next, shown-next, lines-none}

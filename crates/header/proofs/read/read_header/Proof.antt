@@ -3,8 +3,8 @@
 use borrow.Author.Needs.{needs}
 use native.Mathlib.Omega.{arith}
 use mathlib.Core.Path.{_∙_}
-use Rattle.header.specs.Spans.{LineAt}
-use Rattle.header.proofs.LineCuts.{found-at, past-at}
+use Rattle.read_lines.specs.Spans.{LineAt}
+use Rattle.read_lines.proofs.LineCuts.{found-at, past-at}
 use Rattle.header.proofs.FirstLine.{read-long, read-none, read-past, read-unended, read-other, read-on}
 use Rattle.header.proofs.read.read_header.Statement.{statement}
 use Rattle.header.proofs.read.read_header.Tie as tie

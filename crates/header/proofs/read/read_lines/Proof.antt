@@ -4,9 +4,9 @@ use Prim.Native.Nat.{_-_}
 use native.Mathlib.Omega.{arith}
 use mathlib.Core.Path.{_∙_}
 use lib.ListN.{length}
-use Rattle.header.specs.Spans.{LineAt}
+use Rattle.read_lines.specs.Spans.{LineAt}
 use borrow.Author.Needs.{needs}
-use Rattle.header.proofs.LineCuts.{found-at, past-at}
+use Rattle.read_lines.proofs.LineCuts.{found-at, past-at}
 use Rattle.header.proofs.Turns.{Going, going-start, going-end, going-no-end, going-past, going-many, going-wrong, going-closes, going-closed, going-next}
 use Rattle.header.proofs.read.read_lines.Statement.{statement}
 use Rattle.header.proofs.read.read_lines.Tie as tie

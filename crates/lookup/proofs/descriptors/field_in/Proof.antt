@@ -11,7 +11,7 @@ use Rattle.format.specs.Pairs.{kindOf}
 use Rattle.format.specs.Calls.{noPlace}
 use Rattle.text.specs.declared.lines.Kind.the-variants.{Field}
 use Rattle.text.proofs.Places.{KindAt, kind-told}
-use Rattle.header.proofs.LineCuts.{rest-of}
+use Rattle.read_lines.proofs.LineCuts.{rest-of}
 use Rattle.header.proofs.Accepted.{told-no-field}
 use Rattle.lookup.proofs.Finding.{field-other, field-field, field-there}
 use Rattle.lookup.proofs.descriptors.field_in.Statement.{statement}

@@ -4,7 +4,7 @@ use native.Mathlib.Omega.{arith}
 use mathlib.Core.Path.{subst, _∙_}
 use lib.ListN.{length-take}
 use borrow.Author.Needs.{needs}
-use Rattle.header.specs.Spans.{LineAt, SpanIs}
+use Rattle.read_lines.specs.Spans.{LineAt, SpanIs}
 use Rattle.lookup.specs.Lookup.{FieldLeft}
 use Rattle.lookup.proofs.Finding.{left-starts, left-short, left-not-past, field-found, field-on, field-end}
 use Rattle.lookup.proofs.descriptors.first_field.Statement.{statement}

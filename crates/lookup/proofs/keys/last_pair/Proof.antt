@@ -4,7 +4,7 @@ use native.Mathlib.Omega.{arith}
 use mathlib.Core.Path.{sym, subst}
 use lib.ListN.{length-take}
 use borrow.Author.Needs.{needs}
-use Rattle.header.specs.Spans.{LineAt, SpanIs}
+use Rattle.read_lines.specs.Spans.{LineAt, SpanIs}
 use Rattle.lookup.specs.Lookup.{KeyLeft}
 use Rattle.lookup.proofs.Finding.{left-starts, left-short, left-not-past, key-next, key-end}
 use Rattle.lookup.proofs.keys.last_pair.Statement.{statement}

@@ -2,7 +2,7 @@
 -- Assumes nothing.
 use mathlib.Core.Path.{subst}
 use borrow.Author.Needs.{needs}
-use Rattle.header.specs.Spans.{SpanIs}
+use Rattle.read_lines.specs.Spans.{SpanIs}
 use Rattle.lookup.proofs.Finding.{second-found, second-past}
 use Rattle.lookup.proofs.places.second_line.Statement.{statement}
 use Rattle.lookup.proofs.places.second_line.Tie as tie

@@ -1,7 +1,7 @@
 -- `settings::place::after_first` meets its contract: line 1 is the line that starts at 0.
 -- Assumes nothing.
 use Rattle.settings.proofs.Placing.{first-found, first-past}
-use Rattle.header.specs.Spans.{SpanIs}
+use Rattle.read_lines.specs.Spans.{SpanIs}
 use mathlib.Core.Path.{subst}
 use borrow.Author.Needs.{needs}
 use Rattle.settings.proofs.place.after_first.Statement.{statement}

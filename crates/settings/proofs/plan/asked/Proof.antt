@@ -9,7 +9,7 @@ use Rattle.settings.proofs.plan.asked.Tie as tie
 
 returns : tie.Need-returns
 unfolding askedNumber
-returns c = λ es gs ls e. simp (lt-ltb _ _ (c .if1 .taken))
+returns c = simp (lt-ltb _ _ (c .if1 .taken))
 
 key-fine-requires : tie.Need-key-fine-requires
 key-fine-requires c κs = search needs
@@ -17,7 +17,7 @@ key-fine-requires c κs = search needs
 returns-2 : tie.Need-returns-2
 unfolding askedNumber
 returns-2 c =
-    λ es gs ls e. simp (le-ltb _ _ (c .before .before .if1 .left), sym (c .before .key-fine .ensures) ∙ not-true (c .before .key-fine .result) (c .if2 .taken))
+    simp (le-ltb _ _ (c .before .before .if1 .left), sym (c .before .key-fine .ensures) ∙ not-true (c .before .key-fine .result) (c .if2 .taken))
 
 value-fine-requires : tie.Need-value-fine-requires
 value-fine-requires c κs = search needs
@@ -26,24 +26,21 @@ returns-3 : tie.Need-returns-3
 unfolding askedNumber
 returns-3 c =
     let b = c .before .before in
-    λ es gs ls e. simp (le-ltb _ _ (b .before .before .if1 .left), sym (b .before .key-fine .ensures) ∙ not-false (b .before .key-fine .result) (b .if2 .left), sym (c .before .value-fine .ensures) ∙ not-true (c .before .value-fine .result) (c .if3 .taken))
-
-table-fine-requires : tie.Need-table-fine-requires
-table-fine-requires c κs = search needs
+    simp (le-ltb _ _ (b .before .before .if1 .left), sym (b .before .key-fine .ensures) ∙ not-false (b .before .key-fine .result) (b .if2 .left), sym (c .before .value-fine .ensures) ∙ not-true (c .before .value-fine .result) (c .if3 .taken))
 
 returns-4 : tie.Need-returns-4
 unfolding askedNumber
 returns-4 c =
-    let d = c .before .before in
+    let d = c .before in
     let b = d .before .before in
-    λ es gs ls e. simp (le-ltb _ _ (b .before .before .if1 .left), sym (b .before .key-fine .ensures) ∙ not-false (b .before .key-fine .result) (b .if2 .left), sym (d .before .value-fine .ensures) ∙ not-false (d .before .value-fine .result) (d .if3 .left), sym (c .before .table-fine .ensures es gs ls e) ∙ not-true (c .before .table-fine .result) (c .if4 .taken))
+    simp (le-ltb _ _ (b .before .before .if1 .left), sym (b .before .key-fine .ensures) ∙ not-false (b .before .key-fine .result) (b .if2 .left), sym (d .before .value-fine .ensures) ∙ not-false (d .before .value-fine .result) (d .if3 .left), not-true (b .before .before .before .before .before .args .fine) (c .if4 .taken))
 
 returns-5 : tie.Need-returns-5
 unfolding askedNumber
 returns-5 c =
-    let d = c .before .before in
+    let d = c .before in
     let b = d .before .before in
-    λ es gs ls e. simp (le-ltb _ _ (b .before .before .if1 .left), sym (b .before .key-fine .ensures) ∙ not-false (b .before .key-fine .result) (b .if2 .left), sym (d .before .value-fine .ensures) ∙ not-false (d .before .value-fine .result) (d .if3 .left), sym (c .before .table-fine .ensures es gs ls e) ∙ not-false (c .before .table-fine .result) (c .if4 .left))
+    simp (le-ltb _ _ (b .before .before .if1 .left), sym (b .before .key-fine .ensures) ∙ not-false (b .before .key-fine .result) (b .if2 .left), sym (d .before .value-fine .ensures) ∙ not-false (d .before .value-fine .result) (d .if3 .left), not-false (b .before .before .before .before .before .args .fine) (c .if4 .left))
 
 pub asked-spec : {M : Type 1} → statement M
 asked-spec =
@@ -54,6 +51,5 @@ asked-spec =
     returns-2
     value-fine-requires
     returns-3
-    table-fine-requires
     returns-4
     returns-5)
