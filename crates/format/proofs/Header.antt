@@ -15,11 +15,11 @@ use Rattle.format.specs.Limits.{maxFile, maxHeader, maxLines, maxExtent}
 use Rattle.format.specs.Refusals.{fileTooLong, missingField, extentTooLarge, noEnd, headerTooLong, tooManyLines, atLine, refusal}
 use Rattle.format.specs.Lines.{Line, line, lf, crlf, eof, text, size, lines, unlines}
 use Rattle.format.specs.Fields.{Given}
-use Rattle.format.specs.Descriptors.{hasNeeded, extentOf, isDetached}
+use Rattle.format.specs.Descriptors.{hasNeeded, extentOf, isDetached, namesFollow}
 use Rattle.format.specs.Header.{Item, magic, closing, Entry, entry, lineOf, linesOf, magicVersion, versionOfLine, Judged, wrong, right, judge, Outcome, refused, accepted, withEntry, closes, afterItem, complete, onJudged, walk, afterMagic, fromFirst, header, tableOf, headerLength}
 use Rattle.format.specs.Rules.{Keeps, closed}
 use Rattle.format.proofs.Lines.{unlines-of-lines, unlines-append, length-unlines-cons, Shape, lf-line, crlf-line, eof-line, shape-of-lines, shape-before, shape-after, lines-of-parts, bytes-after, length-starts}
-use Rattle.format.proofs.Judged.{is-closing, judge-keeps}
+use Rattle.format.proofs.Judged.{is-closing, judge-keeps, no-names-after, no-names}
 
 -- ---- what an accepted header is, the limits left out
 
@@ -302,6 +302,17 @@ module _ (version : ℕ) where
   fine-complete [] gs gs′ r f = rw (f .3) (f .2)
   fine-complete (entry l i ∷ es) gs gs′ r f =
       fine-cases gs l i es gs′ r (λ es gs′. Complete gs′) f (λ k c q. rw (after-closing i gs c) q) (λ k c g. fine-complete es (afterItem i gs) gs′ r g)
+
+module _ (version : ℕ) where
+  fine-no-names : (es : List Entry) (gs gs′ : List Given) (r : List Line) → Fine version gs es gs′ r → namesFollow gs ≡ false → namesFollow gs′ ≡ false
+  fine-no-names [] gs gs′ r f n = rw (f .3) n
+  fine-no-names (entry l i ∷ es) gs gs′ r f n =
+      let m = no-names-after version gs (text l) (f .0) n in
+      fine-cases version gs l i es gs′ r (λ es gs′. namesFollow gs′ ≡ false) f (λ k c q. m) (λ k c g. fine-no-names es (afterItem i gs) gs′ r g m)
+
+-- no names follow the fields of an accepted header, since a data file of the form LIST is refused
+pub header-no-names : (s : List ℕ) {es : List Entry} {gs : List Given} {r : List Line} → header s ≡ accepted es gs r → namesFollow gs ≡ false
+header-no-names s {es} {gs} {r} e = let x = header-sound s e in fine-no-names (x .version) (x .rest) [] gs r (x .fine) no-names
 
 -- ---- where an accepted header ends
 

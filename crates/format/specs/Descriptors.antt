@@ -247,7 +247,7 @@ abbrev pub isName : List ℕ → Bool
 isName t = not (isEmpty t) && (not (isList t) && not (isIn PERCENT t))
 
 -- Whether the lines after these fields are names, whatever their text is. In a header that is accepted it is never so,
--- since `isName` refuses the form (law `no-names-after`, proofs/Judged.antt).
+-- since `isName` refuses the form (law `header-no-names`, proofs/Header.antt).
 unfoldable pub namesFollow : List Given → Bool
 namesFollow gs = meaning false isList (descriptorOf dataFile gs)
 

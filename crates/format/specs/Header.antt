@@ -28,7 +28,7 @@ pub data Item : Type 0 where
   -- the empty line that closes the header
   closing : Item
 
--- Views of an item. What is said of items is said over these four, so that a new kind of line costs a clause in each of them and none elsewhere.
+-- Views of an item. Definitions are over these four where they can be, so that a new kind of line costs a clause in each and not in every definition.
 
 -- the key and the value of a pair
 abbrev pub pairOf : Item → Option (List ℕ × List ℕ)
@@ -196,6 +196,7 @@ abbrev pub valueFor : List ℕ → Option (List ℕ × List ℕ) → Option (Lis
 valueFor k none = none
 valueFor k (some p) = if same k (p .0) then some (p .1) else none
 
+-- the value that a line gives it
 abbrev pub valueIn : List ℕ → Item → Option (List ℕ)
 valueIn k i = valueFor k (pairOf i)
 
