@@ -1,6 +1,9 @@
 // What holds after a list of settings.
 use crate::list::Left;
 use crate::packed;
+use crate::packed::BUFFER;
+use crate::packed::TABLE;
+use crate::packed::VALUE;
 use format::Reading;
 use format::ValueAnswer;
 use frames::parts::number_at;
@@ -8,22 +11,22 @@ use frames::parts::part;
 use frames::parts::run_at;
 use frames::parts::run_end;
 
-fn same_buffers(a: &[u8; packed::BUFFER], b: &[u8; packed::BUFFER]) -> bool {
+fn same_buffers(a: &[u8; BUFFER], b: &[u8; BUFFER]) -> bool {
     check::same(a, b)
 }
 
 // Whether the buffer is the one that is packed.
-fn buffer_right(buf: &[u8; packed::BUFFER], s: &[u8]) -> bool {
-    let mut expected = [packed::UNTOUCHED; packed::BUFFER];
+fn buffer_right(buf: &[u8; BUFFER], s: &[u8]) -> bool {
+    let mut expected = [packed::UNTOUCHED; BUFFER];
     packed::unpack(&mut expected, s);
     same_buffers(buf, &expected)
 }
 
 // Whether the table has the entries of the run.
-fn table_right(table: &[u32; packed::TABLE], s: &[u8]) -> bool {
+fn table_right(table: &[u32; TABLE], s: &[u8]) -> bool {
     let mut right = true;
     let mut i: usize = 0;
-    while i < packed::TABLE {
+    while i < TABLE {
         right = right & (table[i] == packed::entry_at(s, i));
         i += 1;
     }
@@ -31,10 +34,10 @@ fn table_right(table: &[u32; packed::TABLE], s: &[u8]) -> bool {
 }
 
 // Whether the first `n` entries are the same.
-fn same_entries(a: &[u32; packed::TABLE], b: &[u32; packed::TABLE], n: usize) -> bool {
+fn same_entries(a: &[u32; TABLE], b: &[u32; TABLE], n: usize) -> bool {
     let mut right = true;
     let mut i: usize = 0;
-    while i < packed::TABLE {
+    while i < TABLE {
         right = right & ((n <= i) | (a[i] == b[i]));
         i += 1;
     }
@@ -42,8 +45,8 @@ fn same_entries(a: &[u32; packed::TABLE], b: &[u32; packed::TABLE], n: usize) ->
 }
 
 // Whether a reading of the file gives the count and the table.
-fn lines_right(file: &[u8], table: &[u32; packed::TABLE], count: usize) -> bool {
-    let mut fresh = [0u32; packed::TABLE];
+fn lines_right(file: &[u8], table: &[u32; TABLE], count: usize) -> bool {
+    let mut fresh = [0u32; TABLE];
     let a = header::read::read(file, &mut fresh);
     let accepted = (a.refusal.number == 0) & (a.reading.lines as usize == count);
     accepted & same_entries(&fresh, table, count)
@@ -80,14 +83,14 @@ fn rest<'a>(file: &'a [u8], n: usize) -> &'a [u8] {
 }
 
 // Whether the answer is the value, which stands at the front of the buffer.
-fn holds(out: &[u8; packed::VALUE], a: ValueAnswer, value: &[u8]) -> bool {
+fn holds(out: &[u8; VALUE], a: ValueAnswer, value: &[u8]) -> bool {
     let found = (a.refusal.number == 0) & a.found & (a.length == value.len() as u64);
     found & check::same(part(out, 0, value.len()), value)
 }
 
 // Whether the value of the key is the one given.
 fn value_right(file: &[u8], key: &[u8], value: &[u8]) -> bool {
-    let mut out = [0u8; packed::VALUE];
+    let mut out = [0u8; VALUE];
     let a = lookup::keys::copy_value(file, key, &mut out);
     holds(&out, a, value)
 }
@@ -124,22 +127,17 @@ fn reading_fault(first: &[u8], file: &[u8], keys: &[u8]) -> u32 {
 }
 
 // As `reading_fault`, for the first `used` bytes of the buffer before the settings.
-fn file_fault(first: &[u8; packed::BUFFER], used: usize, file: &[u8], keys: &[u8]) -> u32 {
+fn file_fault(first: &[u8; BUFFER], used: usize, file: &[u8], keys: &[u8]) -> u32 {
     reading_fault(part(first, 0, used), file, keys)
 }
 
 // The part that a fresh reading shows to be wrong, 0 for none.
-fn fresh_fault(
-    buf: &[u8; packed::BUFFER],
-    table: &[u32; packed::TABLE],
-    left: Left,
-    s: &[u8],
-) -> u32 {
+fn fresh_fault(buf: &[u8; BUFFER], table: &[u32; TABLE], left: Left, s: &[u8]) -> u32 {
     let file = part(buf, 0, left.used);
     if !lines_right(file, table, left.count) {
         return 4;
     }
-    let mut first = [packed::UNTOUCHED; packed::BUFFER];
+    let mut first = [packed::UNTOUCHED; BUFFER];
     packed::unpack(&mut first, packed::given(s, packed::LENT_BUFFER));
     file_fault(
         &first,
@@ -150,12 +148,7 @@ fn fresh_fault(
 }
 
 // The part that is wrong of what a list of settings left, 0 for none.
-pub fn fault(
-    buf: &[u8; packed::BUFFER],
-    table: &[u32; packed::TABLE],
-    left: Left,
-    s: &[u8],
-) -> u32 {
+pub fn fault(buf: &[u8; BUFFER], table: &[u32; TABLE], left: Left, s: &[u8]) -> u32 {
     if !left.right {
         return 1;
     }

@@ -105,7 +105,7 @@ fn has_needed(given: &[bool; 30], numbers: &[u32; 30]) -> bool
         & (given[field::TYPE] & (given[field::ENCODING] & (given[field::SIZES] & endian)))
 }
 
-// The extent, or 2 to the 32 where it is above.
+// The extent, or the least number that is none where it is above.
 fn extent(dimension: u32, sampletype: u32, sizes: [u64; 16]) -> u64
     ensures { λ r. ⌜ (dimension ≤ maxAxes → r ≡ capped (extent (take dimension sizes) sampletype)) ⌝ }
 {

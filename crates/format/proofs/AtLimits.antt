@@ -1,9 +1,10 @@
 -- The limits of a header, at both sides, by induction: neither the bytes nor the lines are counted out.
 use Prim.Native.Nat.{ℕ, zero, suc, _+_, _*_, _-_, _≤_}
+use Prim.Native.String.{String}
 use native.Mathlib.Omega.{arith}
 use mathlib.Core.Path.{_≡_, refl, ap, _∙_}
 use mathlib.Core.Bool.{Bool, true}
-use mathlib.Core.List.{List, [], _∷_, _++_, append-assoc}
+use mathlib.Core.List.{List, [], _∷_, _++_, map, append-assoc}
 use lib.Dec.{eqb}
 use lib.ListN.{length, replicate, length-append, length-replicate}
 use borrow.Author.Tests.{le-ltb}
@@ -57,21 +58,14 @@ abbrev answered : Outcome → Refusal
 answered o = readAnswer o .refusal
 
 abbrev fields : List Given
-fields =
-    given encoding (bytes "raw") ∷ given sizes (bytes "1") ∷ given dimension (bytes "1") ∷ given type (bytes "int8") ∷ []
+fields = given encoding (bytes "raw") ∷ given sizes (bytes "1") ∷ given dimension (bytes "1") ∷ given type (bytes "int8") ∷ []
 
 abbrev walked : ℕ → ℕ → List Line → Refusal
 walked n at ls = answered (walk 1 n at fields ls)
 
 -- the lines of `headerWith`, before others
 abbrev fiveLines : List Line → List Line
-fiveLines ls =
-    line (bytes "NRRD0001") lf
-    ∷ line (bytes "type: int8") lf
-    ∷ line (bytes "dimension: 1") lf
-    ∷ line (bytes "sizes: 1") lf
-    ∷ line (bytes "encoding: raw") lf
-    ∷ ls
+fiveLines ls = map (λ (s : String). line (bytes s) lf) ("NRRD0001" ∷ "type: int8" ∷ "dimension: 1" ∷ "sizes: 1" ∷ "encoding: raw" ∷ []) ++ ls
 
 from-lines : (s : List ℕ) (ls : List Line) → lines (s ++ LF ∷ []) ≡ ls → length s + 57 ≤ maxFile → header (headerWith s) ≡ fromFirst (fiveLines ls)
 unfolding lines header texts
@@ -85,9 +79,6 @@ past-five ls = go (walk 1 6 56 fields ls) refl
     go : (o : Outcome) → walk 1 6 56 fields ls ≡ o → answered (fromFirst (fiveLines ls)) ≡ answered o
     go (refused r) e = rw e
     go (accepted es gs r) e = rw e
-
-five-lines : (s : List ℕ) (ls : List Line) → lines (s ++ LF ∷ []) ≡ ls → length s + 57 ≤ maxFile → refusalOf (headerWith s) ≡ walked 6 56 ls
-five-lines s ls p h = ap answered (from-lines s ls p h) ∙ past-five ls
 
 over-comment : (n at : ℕ) (t : List ℕ) (ls : List Line) → at + size (line (HASH ∷ t) lf) ≤ maxHeader → n ≤ maxLines
     → walked n at (line (HASH ∷ t) lf ∷ ls) ≡ walked (n + 1) (at + size (line (HASH ∷ t) lf)) ls
@@ -114,26 +105,27 @@ closings = (refl, refl, refl, refl)
 
 -- ---- both limits
 
--- a comment of n bytes: the closing line starts at n + 57
-with-comment : (n : ℕ) → n + 57 ≤ maxHeader → 1 ≤ n → refusalOf (headerWith (comment n)) ≡ walked 7 (n + 57) closingLine
-with-comment zero h k = absurd (omega arith)
-with-comment (suc n) h k =
-    let e : 56 + size (line (HASH ∷ replicate n HASH) lf) ≡ suc n + 57 = simp (length-append, length-replicate) (omega arith) in
-    five-lines (comment (suc n)) _ (comment-lines (suc n)) (simp (length-append, length-replicate) (omega (arith, header-in-file)))
+-- a comment of n + 1 bytes: the closing line starts at n + 58
+with-comment : (n : ℕ) → n + 58 ≤ maxHeader → refusalOf (headerWith (comment (suc n))) ≡ walked 7 (n + 58) closingLine
+with-comment n h =
+    let e : 56 + size (line (HASH ∷ replicate n HASH) lf) ≡ n + 58 = simp (length-append, length-replicate) (omega arith) in
+    ap answered (from-lines (comment (suc n)) _ (comment-lines (suc n)) (simp (length-append, length-replicate) (omega (arith, header-in-file))))
+    ∙ past-five (line (HASH ∷ replicate n HASH) lf ∷ closingLine)
     ∙ over-comment 6 56 (replicate n HASH) closingLine (omega arith) (omega (arith, lines-in-header))
     ∙ ap (λ (b : ℕ). walked 7 b closingLine) e
 
 -- n comments of a byte: the closing line is line n + 6
 with-comments : (n : ℕ) → n + 5 ≤ maxLines → refusalOf (headerWith (comments n)) ≡ walked (n + 6) (56 + 2 * n) closingLine
 with-comments n h =
-    five-lines (comments n) (hashLines n) (comments-lines n) (omega (arith, comments-long n, header-in-file, lines-in-header))
+    ap answered (from-lines (comments n) (hashLines n) (comments-lines n) (omega (arith, comments-long n, header-in-file, lines-in-header)))
+    ∙ past-five (hashLines n)
     ∙ over-comments n 6 56 (n + 6) (56 + 2 * n) (omega arith) refl (omega (arith, lines-in-header)) (omega arith)
 
 pub at-limits : AtLimits
 at-limits =
     record {
-      bytes-taken = with-comment (maxHeader - 58) (omega arith) (omega arith) ∙ closings .0;
-      bytes-refused = with-comment (maxHeader - 57) (omega arith) (omega arith) ∙ closings .1;
+      bytes-taken = with-comment (maxHeader - 59) (omega arith) ∙ closings .0;
+      bytes-refused = with-comment (maxHeader - 58) (omega arith) ∙ closings .1;
       lines-taken = with-comments (maxLines - 6) (omega arith) ∙ closings .2;
       lines-refused = with-comments (maxLines - 5) (omega arith) ∙ closings .3;
     }

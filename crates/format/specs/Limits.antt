@@ -64,16 +64,4 @@ maxListing = maxReading + maxKeys
 
 abbrev pub limits : Limits
 limits =
-    record {
-      file = maxFile;
-      header = maxHeader;
-      lines = maxLines;
-      axes = maxAxes;
-      size = maxSize;
-      skip = maxSkip;
-      extent = maxExtent;
-      version = maxVersion;
-      sample = maxSample;
-      listed = maxListed;
-      listing = maxListing;
-    }
+    record { file = maxFile; header = maxHeader; lines = maxLines; axes = maxAxes; size = maxSize; skip = maxSkip; extent = maxExtent; version = maxVersion; sample = maxSample; listed = maxListed; listing = maxListing }
