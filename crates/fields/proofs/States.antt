@@ -166,9 +166,9 @@ needed-is gs a b = rw (a, b)
 pub needs-sizes : (gs : List Given) → hasNeeded gs ≡ true → isGiven sizes gs ≡ true
 needs-sizes gs e = needed-of gs e .has-sizes
 
--- the reading by the flags, numbers and sizes, with the extent x
-abbrev pub readingBy : ℕ → List Bool → List ℕ → List ℕ → ℕ → ℕ → ℕ → Reading
-readingBy version marks numbers ns x bytes count =
+-- the reading by the flags, numbers and sizes, with the skips and the extent x
+abbrev pub readingBy : ℕ → List Bool → List ℕ → List ℕ → ℕ → ℕ → ℕ → ℕ → ℕ → Reading
+readingBy version marks numbers ns skip skipped x bytes count =
     let n : ℕ → ℕ = λ f. getD numbers f 0 in
     record {
       version = version;
@@ -178,8 +178,8 @@ readingBy version marks numbers ns x bytes count =
       encoding = n encoding;
       endian = n endian;
       sizes = ns;
-      lineskip = n lineSkip;
-      byteskip = n byteSkip;
+      lineskip = skip;
+      byteskip = skipped;
       extent = x;
       length = bytes;
       lines = count;
@@ -200,9 +200,10 @@ module _ {marks : List Bool} {numbers ns : List ℕ} {gs : List Given} (h : Hold
       rw (number-at dimension (omega arith), number-at type (omega arith), h .sizes-are, s)
 
   -- the reading that they make
-  pub reading-is : (version x bytes count : ℕ) → x ≡ extentOf gs → readingBy version marks numbers ns x bytes count ≡ readingAt version gs bytes count
+  pub reading-is : (version bytes count : ℕ) {skip skipped x : ℕ} → skip ≡ getD numbers lineSkip 0 → skipped ≡ getD numbers byteSkip 0 → x ≡ extentOf gs
+      → readingBy version marks numbers ns skip skipped x bytes count ≡ readingAt version gs bytes count
   unfolding each
-  reading-is version x bytes count e = rw (h .marks-are, h .numbers-are, h .sizes-are, e, form-of (isDetached gs))
+  reading-is version bytes count p q e = rw (p, q, h .marks-are, h .numbers-are, h .sizes-are, e, form-of (isDetached gs))
     where
       form-of : (b : Bool) → boolByte b ≡ (if b then 1 else 0)
       form-of true = refl

@@ -3,7 +3,9 @@ use Prim.Native.Nat.{_≤_, _<_}
 use native.Mathlib.Omega.{arith}
 use mathlib.Core.Path.{_≡_, sym, ap, _∙_}
 use borrow.Author.Tests.{not-true, not-false}
+use Rattle.format.specs.declared.Reading.{Reading}
 use Rattle.format.specs.Limits.{maxExtent}
+use Rattle.format.specs.Refusals.{fine}
 use Rattle.format.specs.Descriptors.{extentOf, capped}
 use borrow.Author.Needs.{needs}
 use Rattle.fields.proofs.States.{needs-sizes, axes-at, extent-is, reading-is, finished-missing, finished-large, finished-fine}
@@ -77,7 +79,8 @@ returns-3 c gs h =
     let m = c .before .before .before .before .before .before .before .before .extent .ensures (axes-at h) ∙ ap capped (extent-is h (needs-sizes gs e)) in
     let l : extentOf gs ≤ maxExtent = omega arith in
     let k : x ≡ extentOf gs = omega arith in
-    rw (finished-fine (a .version) gs (a .bytes) (a .count) e l, ← reading-is h (a .version) x (a .bytes) (a .count) k, c .before .before .wide .ensures, c .wide2 .ensures)
+    ap (λ (r : Reading). record { refusal = fine; reading = r }) (reading-is h (a .version) (a .bytes) (a .count) (c .before .before .wide .ensures) (c .wide2 .ensures) k)
+    ∙ sym (finished-fine (a .version) gs (a .bytes) (a .count) e l)
 
 pub finish-spec : {M : Type 1} → statement M
 finish-spec =
