@@ -12,7 +12,7 @@ use Rattle.format.specs.Limits.{maxAxes, maxExtent}
 use Rattle.format.specs.Refusals.{badDescriptor, missingField, extentTooLarge, refusal, fine}
 use Rattle.format.specs.Fields.{Given, given, fieldCount, isGiven, dimension, sizes}
 use Rattle.format.specs.Descriptors.{numberSaid, numberOf, dimensionOf, sizesSaid, sizesOf, mayDescribe, hasNeeded, extentOf}
-use Rattle.format.specs.Header.{Item, Judged, wrong, right, field, fieldOf, closes, Outcome, refused, accepted, headerLength}
+use Rattle.format.specs.Header.{Judged, wrong, right, field, fieldOf, closes, Outcome, refused, accepted, headerLength}
 use Rattle.format.specs.Calls.{noReading, padded, readingAt}
 use Rattle.fields.specs.declared.state.Step.{Step}
 

@@ -10,7 +10,7 @@ use lib.Dec.{eqb, ltb, leb, eqb·zero-suc, eqb·suc-suc}
 use lib.ListN.{length, replicate, take, drop, length-drop}
 use lib.Seq.{take-length}
 use borrow.Author.Tests.{le-leb, lt-leb, leb-true, leb-false, eqb-true, eqb-false, eq-eqb, ne-eqb, ltb-true}
-use Rattle.format.specs.Bytes.{bytes, PERCENT, isIn, isEmpty, isSome, orDefault, same, beginsWith, if_then_else_}
+use Rattle.format.specs.Bytes.{bytes, PERCENT, isIn, isEmpty, same, beginsWith, if_then_else_}
 use Rattle.format.specs.Limits.{maxAxes, maxSize}
 use Rattle.format.specs.Descriptors.{trimEnd, fromDescriptor, descriptor, isName, mayDescribe, sizesFine, valueOfNumber, within}
 use Rattle.format.proofs.Descriptors.{drop-to-descriptor, take-trimmed}
@@ -18,7 +18,6 @@ use Rattle.text.specs.Numbers.{numberAnswer, noSizes, sizesAnswer}
 use Rattle.text.specs.Places.{before}
 use Rattle.text.specs.declared.numbers.Number.the-variants.{Value, Wrong}
 use Rattle.text.specs.declared.numbers.Sizes.{Sizes}
-use Rattle.read_descriptors.specs.declared.check.Checked.{Checked}
 use Rattle.read_descriptors.specs.Checked.{found, checked}
 
 -- ---- where a descriptor stands

@@ -1,5 +1,5 @@
 -- `check::check` meets its contract: each arm's field is the number that it matched. Assumes nothing.
-use mathlib.Core.Path.{_≡_, _∙_}
+use mathlib.Core.Path.{_≡_}
 use native.Mathlib.Omega.{arith}
 use borrow.Author.Needs.{needs}
 use Rattle.format.specs.Descriptors.{typeNamed, encodingNamed, endianNamed, noEndian, mayDescribe}

@@ -1,6 +1,6 @@
 -- `check::check_number` meets its contract. Assumes nothing.
-use mathlib.Core.Path.{sym, _∙_}
-use native.Mathlib.Omega.{arith}
+use mathlib.Core.Path.{_≡_, sym, _∙_}
+use mathlib.Core.Option.{some}
 use borrow.Author.Tests.{le-leb, lt-leb}
 use borrow.Author.Needs.{needs}
 use Rattle.format.specs.Descriptors.{number}
@@ -14,19 +14,15 @@ read-number-requires c κs = search needs
 enum-known-x : tie.Need-enum-known-x
 enum-known-x c = search needs
 
+-- the number that is read
+said : (c : tie.After-known-told) → number (c .before .before .before .before .before .args .t .now) ≡ some (c .before .x .given .0 .0)
+said c = number-is _ _ (sym (c .before .x .given .1) ∙ c .before .before .before .read-number .ensures) .0
+
 returns : tie.Need-returns
-returns c =
-    let a = c .before .before .before .before .before .before .args in
-    let n = c .before .before .x .given .0 .0 in
-    let e = number-is (number (a .t .now)) n (sym (c .before .before .x .given .1) ∙ c .before .before .before .before .read-number .ensures) in
-    rw (e .0, lt-leb (a .least) n (c .if1 .taken))
+returns c = rw (said (c .before), lt-leb _ _ (c .if1 .taken))
 
 returns-2 : tie.Need-returns-2
-returns-2 c =
-    let a = c .before .before .before .before .before .before .before .args in
-    let n = c .before .before .before .x .given .0 .0 in
-    let e = number-is (number (a .t .now)) n (sym (c .before .before .before .x .given .1) ∙ c .before .before .before .before .before .read-number .ensures) in
-    rw (e .0, le-leb (a .least) n (c .before .if1 .left), lt-leb n (a .most) (c .if2 .taken))
+returns-2 c = rw (said (c .before .before), le-leb _ _ (c .before .if1 .left), lt-leb _ _ (c .if2 .taken))
 
 cast-t9 : tie.Need-cast-t9
 cast-t9 c = search needs
@@ -35,11 +31,7 @@ enum-told : tie.Need-enum-told
 enum-told c = search needs
 
 returns-3 : tie.Need-returns-3
-returns-3 c =
-    let a = c .before .before .before .before .before .before .before .args in
-    let n = c .before .before .before .x .given .0 .0 in
-    let e = number-is (number (a .t .now)) n (sym (c .before .before .before .x .given .1) ∙ c .before .before .before .before .before .read-number .ensures) in
-    rw (e .0, le-leb (a .least) n (c .before .if1 .left), le-leb n (a .most) (c .if2 .left))
+returns-3 c = rw (said (c .before .before), le-leb _ _ (c .before .if1 .left), le-leb _ _ (c .if2 .left))
 
 returns-4 : tie.Need-returns-4
 returns-4 c =

@@ -1,5 +1,4 @@
 -- `check::check_sizes` meets its contract. Assumes nothing.
-use mathlib.Core.Path.{sym, _∙_}
 use borrow.Author.Needs.{needs}
 use Rattle.format.specs.Descriptors.{words}
 use Rattle.read_descriptors.proofs.Checking.{says-none, sizes-fine}
