@@ -1,6 +1,6 @@
 /*
  * Bytes that are put together, and the framed input of a program that the gate
- * runs, as crates/frames/src/lib.rt tells it, with what the program must print.
+ * runs, as crates/gate_frames/src/lib.rt tells it, with what the program must print.
  */
 #ifndef FRAME_H
 #define FRAME_H

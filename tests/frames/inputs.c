@@ -196,10 +196,10 @@ int main(int arguments, char **argument)
         size_t longest;
         void (*put)(void);
     } programs[] = {
-        {"trials", 131072, reading},
-        {"calls", 131072, calls},
-        {"corrections", 65536, settings},
-        {"listings", 147456, listings},
+        {"gate_reading", 131072, reading},
+        {"gate_calls", 131072, calls},
+        {"gate_settings", 65536, settings},
+        {"gate_listings", 147456, listings},
     };
     ensure(arguments == 4, "usage: inputs vectors folder-of-headers.txt crates");
     vectors_folder = argument[1];

@@ -13,8 +13,8 @@ use Rattle.format.specs.Limits.{maxAxes}
 use Rattle.format.specs.Descriptors.{sizesOf}
 use Rattle.format.specs.Header.{Outcome, refused, accepted, header}
 use Rattle.format.specs.Calls.{numberAnswer, sampleNumberCall}
-use Rattle.volume.proofs.Numbers.{inside-lengths}
-use Rattle.volume.proofs.Headers.{header-few}
+use Rattle.data_place.proofs.Numbers.{inside-lengths}
+use Rattle.data_place.proofs.Headers.{header-few}
 
 pub number-cut : (file cs : List ℕ) (m : ℕ) → maxAxes < m → sampleNumberCall file (take m cs) ≡ sampleNumberCall file cs
 number-cut file cs m h = go (header file) refl (ltb m (length cs)) refl

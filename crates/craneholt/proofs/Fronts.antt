@@ -9,7 +9,7 @@ use lib.Seq.{take-at, length-take-le}
 use Rattle.format.specs.Bytes.{over}
 use Rattle.format.specs.Boundary.{numbersOf}
 use Rattle.format.proofs.Boundary.{length-numbers}
-use Rattle.words.proofs.Stores.{take-least}
+use Rattle.lent_numbers.proofs.Stores.{take-least}
 
 -- of n numbers at the front of a list with room for m, as many as there are and have room, the front is that of the numbers
 pub front-lent : (w : ℕ) (s l d : List ℕ) (n m : ℕ) → n ≡ min (length s / w) m → l ≡ over (take n (numbersOf w s)) d → take n l ≡ take m (numbersOf w s)

@@ -23,14 +23,14 @@ ghost use Rattle.format.specs.Calls.{readHeaderCall, findFieldCall, findKeyCall
 ghost use Rattle.format.specs.Found.{FindsField, FindsKey};
 ghost use Rattle.format.specs.EntryPoints.{readEntry, samplesEntry, sampleNumberEntry, writeEntry, setKeyEntry};
 ghost use Rattle.format.specs.Listing.{listingCall};
-ghost use Rattle.room.specs.Room.{Enough, tableRoom, samplesRoom, sizesRoom, writeRoom, valueRoom, Copied, setRoom};
+ghost use Rattle.theorem_room.specs.Room.{Enough, tableRoom, samplesRoom, sizesRoom, writeRoom, valueRoom, Copied, setRoom};
 
 // The reading of a file's header.
 #[no_mangle]
 pub extern "C" fn craneholt_read_header(file: &[u8]) -> ReadAnswer
     ensures { λ r. ⌜ r ≡ readHeaderCall (now (file .entry)) ⌝ }
 {
-    header::read::read_header(file)
+    read_header::read::read_header(file)
 }
 
 // The reading of a file's header, and where each of its lines starts, 4 bytes each, at the front of the table.
@@ -39,7 +39,7 @@ pub extern "C" fn craneholt_read(file: &[u8], table: &mut [u8]) -> ReadAnswer
     ensures call { λ r. ⌜ _≡_ {A = ReadAnswer × List ℕ} (r, now (table .exit)) (readEntry (now (file .entry)) (now (table .entry))) ⌝ }
     ensures enough { λ r. ⌜ (tableRoom ≤ length (now (table .entry)) → (r ≡ readHeaderCall (now (file .entry))) × Enough (r .refusal)) ⌝ }
 {
-    header::read::read_to_bytes(file, table)
+    read_header::read::read_to_bytes(file, table)
 }
 
 // Where the descriptor of a field lies in the file, or nowhere if the field is not given.
@@ -48,7 +48,7 @@ pub extern "C" fn craneholt_find_field(file: &[u8], field: u32) -> FindAnswer
     ensures call { λ r. ⌜ r ≡ findFieldCall (now (file .entry)) field ⌝ }
     ensures finds { λ r. ⌜ FindsField (now (file .entry)) field (header (now (file .entry))) r ⌝ }
 {
-    lookup::descriptors::find_field(file, field)
+    read_lookup::descriptors::find_field(file, field)
 }
 
 // Where the value's text of a key lies in the file: that of its last value, escaped, or nowhere if no pair has the key.
@@ -57,7 +57,7 @@ pub extern "C" fn craneholt_find_key(file: &[u8], key: &[u8]) -> FindAnswer
     ensures call { λ r. ⌜ r ≡ findKeyCall (now (file .entry)) (now (key .entry)) ⌝ }
     ensures finds { λ r. ⌜ FindsKey (now (file .entry)) (now (key .entry)) (header (now (file .entry))) r ⌝ }
 {
-    lookup::keys::find_key(file, key)
+    read_lookup::keys::find_key(file, key)
 }
 
 // The value of a key to the front of `out`, escapes resolved.
@@ -66,7 +66,7 @@ pub extern "C" fn craneholt_copy_value(file: &[u8], key: &[u8], out: &mut [u8]) 
     ensures call { λ r. ⌜ _≡_ {A = ValueAnswer × List ℕ} (r, now (out .exit)) (copyValueCall (now (file .entry)) (now (key .entry)) (now (out .entry))) ⌝ }
     ensures enough { λ r. ⌜ (valueRoom (findKeyCall (now (file .entry)) (now (key .entry))) ≤ length (now (out .entry)) → Copied (findKeyCall (now (file .entry)) (now (key .entry))) r) ⌝ }
 {
-    lookup::keys::copy_value(file, key, out)
+    read_lookup::keys::copy_value(file, key, out)
 }
 
 // Where the data lies: in the file or in the second one.
@@ -74,7 +74,7 @@ pub extern "C" fn craneholt_copy_value(file: &[u8], key: &[u8], out: &mut [u8]) 
 pub extern "C" fn craneholt_data(file: &[u8], second: &[u8]) -> DataAnswer
     ensures { λ r. ⌜ r ≡ dataPlaceCall (now (file .entry)) (now (second .entry)) ⌝ }
 {
-    volume::place::data_place(file, second)
+    data_place::place::data_place(file, second)
 }
 
 // The refusal that a list of `room` samples would meet, or how many samples there are.
@@ -82,7 +82,7 @@ pub extern "C" fn craneholt_data(file: &[u8], second: &[u8]) -> DataAnswer
 pub extern "C" fn craneholt_check_samples(file: &[u8], second: &[u8], room: usize) -> CountAnswer
     ensures { λ r. ⌜ r ≡ checkSamplesCall (now (file .entry)) (now (second .entry)) room ⌝ }
 {
-    samples::check_samples(file, second, room)
+    data_samples::check_samples(file, second, room)
 }
 
 // The samples to the front of the list, 8 bytes each; untouched where they are refused.
@@ -92,7 +92,7 @@ pub extern "C" fn craneholt_samples(file: &[u8], second: &[u8], list: &mut [u8])
     ensures enough { λ r. ⌜ (samplesRoom (header (now (file .entry))) ≤ length (now (list .entry)) / wordBytes → Enough (r .refusal)) ⌝ }
     ensures known { λ _. ⌜ samplesRoom (header (now (file .entry))) ≤ sizesRoom (readHeaderCall (now (file .entry)) .reading) ⌝ }
 {
-    samples::samples_to_bytes(file, second, list)
+    data_samples::samples_to_bytes(file, second, list)
 }
 
 // The number of the sample at the coordinates, 8 bytes each.
@@ -102,8 +102,8 @@ pub extern "C" fn craneholt_sample_number(file: &[u8], coords: &[u8]) -> NumberA
 {
     // one more than there can be axes
     let mut local = [0u64; 17];
-    let n = words::numbers(coords, &mut local);
-    volume::axes::sample_number(file, &local[..n])
+    let n = lent_numbers::numbers(coords, &mut local);
+    data_place::axes::sample_number(file, &local[..n])
 }
 
 // Writes the samples, 8 bytes each as the sizes are, as an attached file to the front of `out`.
@@ -120,7 +120,7 @@ pub extern "C" fn craneholt_write(
     ensures call { λ r. ⌜ _≡_ {A = WriteAnswer × List ℕ} (r, now (out .exit)) (writeEntry version (now (sizes .entry)) sampletype encoding endian (now (samples .entry)) (now (out .entry))) ⌝ }
     ensures enough { λ r. ⌜ (writeRoom (length (now (samples .entry)) / wordBytes) ≤ length (now (out .entry)) → Enough (r .refusal)) ⌝ }
 {
-    writer::write_bytes(version, sizes, sampletype, encoding, endian, samples, out)
+    write_file::write_bytes(version, sizes, sampletype, encoding, endian, samples, out)
 }
 
 // Sets a key to a value in the file in the first `used` bytes of a buffer, whose line table has `count` entries, 4 bytes each.
@@ -136,7 +136,7 @@ pub extern "C" fn craneholt_set_key(
     ensures call { λ r. ⌜ _≡_ {A = SetAnswer × (List ℕ × List ℕ)} (r, (now (buf .exit), now (table .exit))) (setKeyEntry (now (buf .entry)) used (now (table .entry)) count (now (key .entry)) (now (value .entry))) ⌝ }
     ensures enough { λ r. ⌜ (tableRoom ≤ length (now (table .entry)) → setRoom used (now (key .entry)) (now (value .entry)) ≤ length (now (buf .entry)) → Enough (r .refusal)) ⌝ }
 {
-    settings::set::set_key_in_bytes(buf, used, table, count, key, value)
+    set_key::set::set_key_in_bytes(buf, used, table, count, key, value)
 }
 
 // The listing of a file to the front of `out`.
@@ -145,5 +145,5 @@ pub extern "C" fn craneholt_listing(file: &[u8], out: &mut [u8]) -> WriteAnswer
     ensures call { λ r. ⌜ _≡_ {A = WriteAnswer × List ℕ} (r, now (out .exit)) (listingCall (now (file .entry)) (now (out .entry))) ⌝ }
     ensures enough { λ r. ⌜ (maxListing ≤ length (now (out .entry)) → Enough (r .refusal)) ⌝ }
 {
-    describe::listing(file, out)
+    listing_text::listing(file, out)
 }

@@ -11,8 +11,6 @@ pub mod Places
 pub mod Rules
 pub mod Samples
 pub mod Boundary
-pub mod TypeLaws
-pub mod ProductLaws
 pub mod Writer
 pub mod Descriptors
 pub mod Found

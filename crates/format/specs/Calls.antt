@@ -32,7 +32,7 @@ use Rattle.format.specs.Axes.{inside, sampleNumber}
 use Rattle.format.specs.Writer.{fileBytes, writeRefusal}
 use Rattle.format.specs.Settings.{Lent, lent, Setting, setting, SetOutcome, kept, changed, setKey, hasKey}
 
--- ---- header::read_header: the reading without the table
+-- ---- read_header::read_header: the reading without the table
 
 unfoldable pub noReading : Reading
 noReading =
@@ -73,7 +73,7 @@ readAnswer (accepted es gs ls) = record { refusal = fine; reading = readingOf es
 abbrev pub readHeaderCall : List ℕ → ReadAnswer
 readHeaderCall file = readAnswer (header file)
 
--- ---- header::read: the reading, then 22 for the table; the lent table as it returns
+-- ---- read_header::read: the reading, then 22 for the table; the lent table as it returns
 
 -- the answer and the table, by the reading of the file
 unfoldable pub withTable : List ℕ → Outcome → ReadAnswer × List ℕ
@@ -85,7 +85,7 @@ withTable table (accepted es gs ls) =
 abbrev pub readCall : List ℕ → List ℕ → ReadAnswer × List ℕ
 readCall file table = withTable table (header file)
 
--- ---- lookup::find_key, lookup::find_field: where the bytes lie in the file, or that they are absent; which bytes these are says specs/Found.antt
+-- ---- read_lookup::find_key, read_lookup::find_field: where the bytes lie in the file, or that they are absent; which bytes these are says specs/Found.antt
 
 abbrev pub noPlace : Refusal → FindAnswer
 noPlace r = record { refusal = r; found = false; start = 0; length = 0 }
@@ -145,7 +145,7 @@ findFieldIn f (accepted es gs ls) = fieldPlace f 0 es
 abbrev pub findFieldCall : List ℕ → ℕ → FindAnswer
 findFieldCall file f = findFieldIn f (header file)
 
--- ---- lookup::copy_value: the value of a key, escapes resolved, at the front of a lent buffer; 22 if it is short
+-- ---- read_lookup::copy_value: the value of a key, escapes resolved, at the front of a lent buffer; 22 if it is short
 
 abbrev pub noValue : Refusal → ValueAnswer
 noValue r = record { refusal = r; found = false; length = 0 }
@@ -163,7 +163,7 @@ copyValueIn k buf (accepted es gs ls) = copyValue buf (valueOf k es)
 abbrev pub copyValueCall : List ℕ → List ℕ → List ℕ → ValueAnswer × List ℕ
 copyValueCall file k buf = copyValueIn k buf (header file)
 
--- ---- volume::data_place and volume::data
+-- ---- data_place::data_place and data_place::data
 
 abbrev pub noData : Refusal → DataAnswer
 noData r = record { refusal = r; second = false; start = 0; length = 0 }
@@ -191,7 +191,7 @@ dataCall file second = dataIn file second (header file)
 abbrev pub dataPointer : ℕ × ℕ → ℕ × ℕ → DataAnswer → ℕ × ℕ
 dataPointer file second d = if d .second then (second .0, d .start + second .1) else (file .0, d .start + file .1)
 
--- ---- samples::check_samples and samples::samples: a list of `room` entries is lent
+-- ---- data_samples::check_samples and data_samples::samples: a list of `room` entries is lent
 
 abbrev pub noSamples : Refusal → CountAnswer
 noSamples r = record { refusal = r; count = 0 }
@@ -232,7 +232,7 @@ abbrev pub samplesCall : List ℕ → List ℕ → List ℤ → CountAnswer × L
 samplesCall file second list =
     let a = checkSamplesCall file second (length list) in (a, listAfter a (seenIn file second (header file)) list)
 
--- ---- volume::sample_number
+-- ---- data_place::sample_number
 
 abbrev pub numberAnswer : List ℕ → Outcome → NumberAnswer
 numberAnswer cs (refused r) = record { refusal = r; number = 0 }
@@ -243,7 +243,7 @@ numberAnswer cs (accepted es gs ls) =
 abbrev pub sampleNumberCall : List ℕ → List ℕ → NumberAnswer
 sampleNumberCall file cs = numberAnswer cs (header file)
 
--- ---- writer::write: the answer, and the lent buffer as it returns
+-- ---- write_file::write: the answer, and the lent buffer as it returns
 
 abbrev pub writeAnswer : ℕ → List ℕ → List ℕ → WriteAnswer × List ℕ
 writeAnswer n file out =
@@ -254,7 +254,7 @@ abbrev pub writeCall : ℕ → List ℕ → ℕ → ℕ → ℕ → List ℤ →
 writeCall version sizes t e endian zs out =
     writeAnswer (writeRefusal version sizes t e endian zs (length out)) (fileBytes version sizes t e endian zs) out
 
--- ---- settings::set_key: the answer, and the lent buffer and table as it returns
+-- ---- set_key::set_key: the answer, and the lent buffer and table as it returns
 
 abbrev pub setAnswer : List ℕ → ℕ → List ℕ → ℕ → SetOutcome → SetAnswer × (List ℕ × List ℕ)
 setAnswer buf used table count (kept r) = (record { refusal = r; length = used; count = count }, (buf, table))

@@ -78,7 +78,7 @@ shownHeader file (accepted es gs ls) =
 unfoldable pub listing : List ℕ → List ℕ
 listing file = if ltb maxListed (length file) then shownRefusal (refusal lentTooShort) else shownHeader file (header file)
 
--- ---- describe::listing: the answer, and the lent buffer as it returns
+-- ---- listing_text::listing: the answer, and the lent buffer as it returns
 
 -- 22 where the buffer is too short
 abbrev pub listingCall : List ℕ → List ℕ → WriteAnswer × List ℕ

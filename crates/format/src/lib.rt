@@ -8,8 +8,6 @@ ghost use Rattle.format.specs.Refusals.{refusalNumbers};
 ghost use Rattle.format.specs.Trials.{StarredTrials};
 
 pub mod field;
-pub mod products;
-pub mod types;
 
 // The limits of document 01.
 pub const MAX_FILE: usize = 4294967295;
@@ -98,7 +96,7 @@ pub const WRONG_TABLE: u32 = 26;
 
 pub const WRONG_COUNT: u32 = 27;
 
-// Encodings and endians are numbered from 0 as document 01 lists them: those that the code asks for. The types are in `types`.
+// Encodings and endians are numbered from 0 as document 01 lists them: those that the code asks for. The types are in `format_values::types`.
 pub const RAW: u32 = 0;
 
 pub const TEXT: u32 = 1;

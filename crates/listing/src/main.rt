@@ -8,8 +8,8 @@ const FILE: usize = format::MAX_LISTED + 1;
 fn main() {
     let mut file = [0u8; FILE];
     let n = io::read_full(STDIN_FILENO, &mut file);
-    // enough for any listing, as `describe::listing` ensures
+    // enough for any listing, as `listing_text::listing` ensures
     let mut out = [0u8; format::MAX_LISTING];
-    let answer = describe::listing(&file[..n], &mut out);
+    let answer = listing_text::listing(&file[..n], &mut out);
     io::write_all(STDOUT_FILENO, &out[..answer.length as usize]);
 }

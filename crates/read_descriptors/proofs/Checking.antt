@@ -14,10 +14,10 @@ use Rattle.format.specs.Bytes.{bytes, PERCENT, isIn, isEmpty, same, beginsWith,
 use Rattle.format.specs.Limits.{maxAxes, maxSize}
 use Rattle.format.specs.Descriptors.{trimEnd, fromDescriptor, descriptor, isName, mayDescribe, sizesFine, valueOfNumber, within}
 use Rattle.format.proofs.Descriptors.{drop-to-descriptor, take-trimmed}
-use Rattle.text.specs.Numbers.{numberAnswer, noSizes, sizesAnswer}
-use Rattle.text.specs.Places.{before}
-use Rattle.text.specs.declared.numbers.Number.the-variants.{Value, Wrong}
-use Rattle.text.specs.declared.numbers.Sizes.{Sizes}
+use Rattle.read_text.specs.Numbers.{numberAnswer, noSizes, sizesAnswer}
+use Rattle.read_text.specs.Places.{before}
+use Rattle.read_text.specs.declared.numbers.Number.the-variants.{Value, Wrong}
+use Rattle.read_text.specs.declared.numbers.Sizes.{Sizes}
 use Rattle.read_descriptors.specs.Checked.{found, checked}
 
 -- ---- where a descriptor stands

@@ -1,4 +1,4 @@
--- The answer of the checker of descriptors.
+-- Internal to the library. The answer of the checker of descriptors.
 use Prim.Native.Nat.{ℕ}
 use mathlib.Core.Bool.{Bool}
 use mathlib.Core.List.{List}

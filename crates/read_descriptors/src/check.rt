@@ -1,14 +1,14 @@
 // Whether a field may have a descriptor, and the number that it says.
 use format::field;
-use text::numbers::Number;
-use text::words::Row;
+use read_text::numbers::Number;
+use read_text::words::Row;
 ghost use mathlib.Core.Path.{_≡_};
 ghost use mathlib.Core.Option.{Option};
 ghost use Prim.Native.Nat.{ℕ, _≤_};
 ghost use Rattle.format.specs.Bytes.{isSome, orDefault};
 ghost use Rattle.format.specs.Limits.{maxAxes, maxSize};
 ghost use Rattle.format.specs.Descriptors.{isName, numberIn, sizesFine, valueOfNumber, words};
-ghost use Rattle.text.specs.Rows.{rowAnswer};
+ghost use Rattle.read_text.specs.Rows.{rowAnswer};
 ghost use Rattle.read_descriptors.specs.Checked.{found, checked};
 
 // Whether the descriptor is one that the field may have; the number that it says, 0 where it says none or is wrong.
@@ -26,7 +26,7 @@ fn check_number(t: &[u8], least: u64, most: u64) -> Checked
         fine: false,
         number: 0,
     };
-    let x = text::numbers::read_number(t);
+    let x = read_text::numbers::read_number(t);
     match x {
         Number::Value(n) => {
             if n < least {
@@ -60,11 +60,11 @@ fn check_row(row: Row) -> Checked
     }
 }
 
-// As many sizes as the dimension. `text::numbers::read_sizes` answers them too.
+// As many sizes as the dimension. `read_text::numbers::read_sizes` answers them too.
 fn check_sizes(t: &[u8], dimension: u32) -> Checked
     ensures { λ r. ⌜ (dimension ≤ maxAxes → r ≡ found (sizesFine dimension (words (now (t .entry)))) 0) ⌝ }
 {
-    let x = text::numbers::read_sizes(t, dimension as usize);
+    let x = read_text::numbers::read_sizes(t, dimension as usize);
     Checked {
         fine: x.fine,
         number: 0,
@@ -78,13 +78,13 @@ fn is_name(t: &[u8]) -> bool
     if t.len() == 0 {
         return false;
     }
-    if text::bytes::is_same(t, b"LIST") {
+    if read_text::bytes::is_same(t, b"LIST") {
         return false;
     }
-    if text::bytes::begins_with(b"LIST ", t) {
+    if read_text::bytes::begins_with(b"LIST ", t) {
         return false;
     }
-    text::bytes::find_byte(t, b'%') == t.len()
+    read_text::bytes::find_byte(t, b'%') == t.len()
 }
 
 // The descriptor t of the field f, in a header of this dimension.
@@ -93,9 +93,9 @@ pub fn check(f: usize, t: &[u8], dimension: u32) -> Checked
 {
     match f {
         field::DIMENSION => check_number(t, 1, format::MAX_AXES),
-        field::TYPE => check_row(text::words::type_named(t)),
-        field::ENCODING => check_row(text::words::encoding_named(t)),
-        field::ENDIAN => check_row(text::words::endian_named(t)),
+        field::TYPE => check_row(read_text::words::type_named(t)),
+        field::ENCODING => check_row(read_text::words::encoding_named(t)),
+        field::ENDIAN => check_row(read_text::words::endian_named(t)),
         field::SIZES => check_sizes(t, dimension),
         field::LINE_SKIP => check_number(t, 0, format::MAX_SKIP),
         field::BYTE_SKIP => check_number(t, 0, format::MAX_SKIP),

@@ -10,7 +10,7 @@ pub fn descriptor_of<'a>(f: usize, rest: &'a [u8]) -> &'a [u8]
 {
     let from = text_start(f, rest);
     let d = &rest[from..];
-    let n = text::lines::without_trailing(d);
+    let n = read_text::lines::without_trailing(d);
     &d[..n]
 }
 
@@ -19,7 +19,7 @@ pub fn text_start(f: usize, rest: &[u8]) -> usize
     ensures { λ r. ⌜ (r ≡ length (now (rest .entry)) - length (fromDescriptor f (now (rest .entry)))) × (r ≤ length (now (rest .entry))) ⌝ }
 {
     if format_values::fields::is_understood(f) {
-        return text::lines::leading(rest);
+        return read_text::lines::leading(rest);
     }
     0
 }

@@ -14,8 +14,8 @@ use Rattle.format.specs.Bytes.{if_then_else_, LF, CR}
 use Rattle.format.specs.Limits.{maxHeader}
 use Rattle.format.specs.Lines.{Line, line, lf, crlf, eof, size, lines}
 use Rattle.format.proofs.Lines.{lines-none}
-use Rattle.text.specs.Places.{before, withoutCR, endingAt}
-use Rattle.text.proofs.Places.{before-le, take-without-cr, lines-by-lf, size-by-lf, lines-to-end}
+use Rattle.read_text.specs.Places.{before, withoutCR, endingAt}
+use Rattle.read_text.proofs.Places.{before-le, take-without-cr, lines-by-lf, size-by-lf, lines-to-end}
 use Rattle.read_lines.specs.declared.Span.{Span}
 use Rattle.read_lines.specs.declared.Span.the-variants.{Found, Past}
 use Rattle.read_lines.specs.Spans.{LineAt, PastAt, SpanIs}

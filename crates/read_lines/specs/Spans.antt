@@ -1,4 +1,4 @@
--- The line at a place of a file, as the reader meets it.
+-- Internal to the library. The line at a place of a file, as the reader meets it.
 use Prim.Native.Nat.{ℕ, _+_, _-_, _≤_, _<_}
 use mathlib.Core.Path.{_≡_}
 use mathlib.Core.List.{List, _∷_}

@@ -18,10 +18,10 @@ pub fn line_at(file: &[u8], at: usize) -> Span
     ensures { λ r. ⌜ SpanIs (now (file .entry)) at r ⌝ }
 {
     let to = limit(file.len());
-    let n = text::bytes::find_byte(&file[at..to], b'\n');
+    let n = read_text::bytes::find_byte(&file[at..to], b'\n');
     let e = at + n;
     if e < to {
-        return Span::Found(at + text::lines::without_cr(&file[at..e]), e + 1);
+        return Span::Found(at + read_text::lines::without_cr(&file[at..e]), e + 1);
     }
     if to < file.len() {
         return Span::Past;

@@ -12,7 +12,7 @@ use Rattle.format.specs.Boundary.{numbersOf, numberBytes, lentNumbers}
 use Rattle.format.specs.Laws.{AllBelow}
 use Rattle.format.proofs.Samples.{AllBytes, length-to-bytes}
 use Rattle.format.proofs.Boundary.{over-past, lent-room, length-numbers, length-number-bytes, number-bytes-flat, number-at, numbers-below, numbers-of-lent, lent-of-numbers}
-use Rattle.words.proofs.Stores.{over-set}
+use Rattle.lent_numbers.proofs.Stores.{over-set}
 use Rattle.format.specs.Bytes.{over}
 use Rattle.read_table.specs.Tables.{inBytes, lentEntries, listWith, bytesWith, Holds, Becomes}
 

@@ -1,4 +1,4 @@
--- The starts of lines, moved by an edit of the header.
+-- Internal to the library. The starts of lines, moved by an edit of the header.
 use Prim.Native.Nat.{ℕ, zero, suc, _+_, _-_, _≤_, _<_}
 use mathlib.Core.List.{List, [], _∷_, map}
 use lib.Dec.{ltb}

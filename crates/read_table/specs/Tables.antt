@@ -1,4 +1,4 @@
--- A line table as it is lent, and the first lines of a file, whose starts go to it.
+-- Internal to the library. A line table as it is lent, and the first lines of a file, whose starts go to it.
 use Prim.Native.Nat.{ℕ, _+_, _≤_}
 use mathlib.Core.Path.{_≡_}
 use mathlib.Core.Bool.{Bool}

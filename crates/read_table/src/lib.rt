@@ -32,7 +32,7 @@ fn entry(list: &[u32], bytes: &[u8], width: usize, k: usize) -> u32
     ensures { λ r. ⌜ r ≡ getD (lentEntries width (now (list .entry)) (now (bytes .entry))) k 0 ⌝ }
 {
     if width == IN_BYTES {
-        return words::entry_at(bytes, k);
+        return lent_numbers::entry_at(bytes, k);
     }
     list[k]
 }
@@ -42,7 +42,7 @@ fn put_entry(list: &mut [u32], bytes: &mut [u8], width: usize, k: usize, x: u32)
     ensures { λ _. ⌜ Becomes width (now (list .entry)) (now (bytes .entry)) (set (lentEntries width (now (list .entry)) (now (bytes .entry))) k x) (now (list .exit)) (now (bytes .exit)) ⌝ }
 {
     if width == IN_BYTES {
-        words::put_entry(bytes, k, x);
+        lent_numbers::put_entry(bytes, k, x);
         return;
     }
     list[k] = x;

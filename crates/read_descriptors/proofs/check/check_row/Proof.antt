@@ -1,7 +1,7 @@
 -- `check::check_row` meets its contract. Assumes nothing.
 use mathlib.Core.Path.{sym, _∙_}
 use borrow.Author.Needs.{needs}
-use Rattle.text.proofs.Rows.{row-is, row-unknown}
+use Rattle.read_text.proofs.Rows.{row-is, row-unknown}
 use Rattle.read_descriptors.proofs.check.check_row.Statement.{statement}
 use Rattle.read_descriptors.proofs.check.check_row.Tie as tie
 

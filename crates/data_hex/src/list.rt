@@ -1,0 +1,125 @@
+// Hex samples into a list, block by block: the bytes that the digits write, and these as raw samples.
+ghost use mathlib.Core.Path.{_≡_};
+ghost use mathlib.Core.Bool.{false, _&&_};
+ghost use Prim.Native.Nat.{_*_, _≤_};
+ghost use lib.Dec.{leb};
+ghost use lib.ListN.{length};
+ghost use Rattle.format.specs.Bytes.{over, if_then_else_};
+ghost use Rattle.format.specs.Descriptors.{unsigned};
+ghost use Rattle.format.specs.Samples.{hexSamples, withoutBlanks};
+ghost use Rattle.data_hex.specs.Forms.{Enough, Past, samplesAt};
+ghost use Rattle.lent_numbers.specs.Widths.{Width, isWidth, kindBy, endianBy};
+use crate::bytes;
+use crate::scan;
+
+// The refusal of samples, or 0, and the place after their digits.
+struct Checked {
+    code: u32,
+    next: usize,
+}
+
+// The refusal of the next m unsigned samples of 8 bytes, for their values.
+fn check_block(s: &[u8], at: usize, m: usize, big: bool) -> Checked
+    requires { ⌜ at ≤ length (now s) ⌝ }
+    requires { ⌜ m ≤ 16 ⌝ }
+    ensures { λ r. ⌜ r .next ≤ length (now (s .entry)) ⌝ }
+    ensures { λ r. ⌜ (Enough (now (s .entry)) at (m * 8) → Past (now (s .entry)) at (m * 8) (r .next) × (r .code ≡ samplesAt unsigned 8 (endianBy big) m (now (s .entry)) at .number)) ⌝ }
+{
+    let mut bytes = [0u8; 128];
+    let next = bytes::next_bytes(s, at, m * 8, &mut bytes);
+    let code = data_raw::list::check(&bytes, m, 8, false, big);
+    Checked { code, next }
+}
+
+// The refusal of n unsigned samples of 8 bytes, for their values, where their digits are there.
+fn check_values(s: &[u8], n: usize, big: bool) -> u32
+    ensures { λ r. ⌜ (Enough (now (s .entry)) 0 (n * 8) → r ≡ samplesAt unsigned 8 (endianBy big) n (now (s .entry)) 0 .number) ⌝ }
+{
+    let mut at: usize = 0;
+    let mut k: usize = 0;
+    while k < n {
+        let m = bytes::least(16, n - k);
+        let c = check_block(s, at, m, big);
+        let code = c.code;
+        if code != 0 {
+            return code;
+        }
+        at = c.next;
+        k += m;
+    }
+    0
+}
+
+// The refusal that n samples of w bytes come to: 20 or 21, whichever comes first, or 0. It is 0 too where w is no width.
+pub fn check(s: &[u8], n: usize, w: usize, signed: bool, big: bool) -> u32
+    ensures { λ r. ⌜ r ≡ (if isWidth w then hexSamples (kindBy signed) w (endianBy big) n (withoutBlanks (now (s .entry))) .number else 0) ⌝ }
+{
+    if !lent_numbers::is_width(w) {
+        return 0;
+    }
+    let c = scan::scan(s, scan::wanted(s.len(), n, w));
+    if signed {
+        return c.code;
+    }
+    if w != 8 {
+        return c.code;
+    }
+    let code = check_values(s, c.digits / 16, big);
+    if code != 0 {
+        return code;
+    }
+    c.code
+}
+
+// The next m samples to the front of dst, and the place after their digits.
+fn fill_block(
+    s: &[u8],
+    at: usize,
+    m: usize,
+    w: usize,
+    signed: bool,
+    big: bool,
+    dst: &mut [i64],
+) -> usize
+    requires { ⌜ Width w ⌝ }
+    requires { ⌜ at ≤ length (now s) ⌝ }
+    requires { ⌜ m * w ≤ 128 ⌝ }
+    requires { ⌜ m ≤ length (now dst) ⌝ }
+    ensures { λ r. ⌜ r ≤ length (now (s .entry)) ⌝ }
+    ensures { λ r. ⌜ (Enough (now (s .entry)) at (m * w) → Past (now (s .entry)) at (m * w) r × (samplesAt (kindBy signed) w (endianBy big) m (now (s .entry)) at .number ≡ 0 → now (dst .exit) ≡ over (samplesAt (kindBy signed) w (endianBy big) m (now (s .entry)) at .seen) (now (dst .entry)))) ⌝ }
+{
+    let mut bytes = [0u8; 128];
+    let next = bytes::next_bytes(s, at, m * w, &mut bytes);
+    data_raw::list::fill(&bytes, m, w, signed, big, dst);
+    next
+}
+
+// The samples to the front of dst, block by block.
+fn fill_blocks(s: &[u8], n: usize, w: usize, signed: bool, big: bool, dst: &mut [i64])
+    requires { ⌜ Width w ⌝ }
+    requires { ⌜ n ≤ length (now dst) ⌝ }
+    ensures { λ _. ⌜ (hexSamples (kindBy signed) w (endianBy big) n (withoutBlanks (now (s .entry))) .number ≡ 0 → now (dst .exit) ≡ over (hexSamples (kindBy signed) w (endianBy big) n (withoutBlanks (now (s .entry))) .seen) (now (dst .entry))) ⌝ }
+{
+    let most = 128 / w;
+    let mut at: usize = 0;
+    let mut k: usize = 0;
+    while k < n {
+        let m = bytes::least(most, n - k);
+        at = fill_block(s, at, m, w, signed, big, &mut dst[k..]);
+        k += m;
+    }
+}
+
+// The samples to the front of dst, where none is refused. dst stays as it was where it is too short or w is no width.
+pub fn fill(s: &[u8], n: usize, w: usize, signed: bool, big: bool, dst: &mut [i64])
+    ensures kept { λ _. ⌜ ((isWidth w && leb n (length (now (dst .entry)))) ≡ false → now (dst .exit) ≡ now (dst .entry)) ⌝ }
+    ensures fills { λ _. ⌜ (Width w → n ≤ length (now (dst .entry)) → hexSamples (kindBy signed) w (endianBy big) n (withoutBlanks (now (s .entry))) .number ≡ 0 → now (dst .exit) ≡ over (hexSamples (kindBy signed) w (endianBy big) n (withoutBlanks (now (s .entry))) .seen) (now (dst .entry))) ⌝ }
+{
+    if !lent_numbers::is_width(w) {
+        return;
+    }
+    if dst.len() < n {
+        return;
+    }
+    fill_blocks(s, n, w, signed, big, dst);
+}

@@ -1,0 +1,126 @@
+-- Laws of what a line is: fields by number, the fields given, and the judgement along its tests.
+-- Assumes nothing.
+use Prim.Native.Nat.{ℕ, _-_, _≤_, _<_}
+use native.Mathlib.Omega.{arith}
+use mathlib.Core.Path.{_≡_, refl, ap, _∙_}
+use mathlib.Core.Bool.{Bool, true, false, not, _&&_, _||_}
+use mathlib.Core.List.{List, [], _∷_}
+use mathlib.Core.Option.{Option, none, some}
+use lib.Dec.{ltb}
+use lib.ListN.{length, take, drop, getD, length-drop}
+use lib.Seq.{take-length}
+use borrow.Author.Tests.{lt-ltb, le-ltb}
+use Rattle.format.specs.Bytes.{if_then_else_, every, isSome}
+use Rattle.format.specs.Refusals.{badByte, noMark, notInVersion, repeatedField, outOfOrder, badBackslash}
+use Rattle.format.specs.Pairs.{plain, unmarked, pairMark, LineKind, otherLine, kindOf, unescape}
+use Rattle.format.specs.Fields.{pairsSince, fieldSince, Given, isGiven, needsDimension, needsSpace, inOrder}
+use Rattle.format.specs.Descriptors.{descriptor, dimensionOf}
+use Rattle.format.specs.Header.{Judged, wrong, right, unescaped, onPair, onField, onKind, judge}
+use Rattle.read_fields.specs.declared.state.Step.{Step}
+use Rattle.read_fields.specs.States.{flags, described, stepOf, stepped, wrongOf}
+use Rattle.read_fields.proofs.States.{flags-at}
+
+-- ---- the fields given, by number
+
+-- the order by the flags
+pub order-by-flags : (f : ℕ) (gs : List Given) {g : List Bool} {axes space : Bool}
+    → axes ≡ needsDimension f → space ≡ needsSpace f → g ≡ flags gs
+    → ((not axes || getD g 0 false) && (not space || (getD g 16 false || getD g 17 false))) ≡ inOrder f gs
+unfolding inOrder
+order-by-flags f gs p q e =
+    rw (e, p, q, flags-at gs 0 (omega arith), flags-at gs 16 (omega arith), flags-at gs 17 (omega arith))
+
+-- ---- a pair along its tests
+
+module _ (version : ℕ) (v : List ℕ) where
+  pub pair-no-key : (k : List ℕ) → length k ≡ 0 → onPair version k v ≡ wrong noMark
+  unfolding onPair
+  pair-no-key [] h = refl
+  pair-no-key (b ∷ k) h = absurd (let z : ⊥ = omega arith in z)
+
+  pub pair-old : (k : List ℕ) → (length k ≡ 0 → ⊥) → version < pairsSince → onPair version k v ≡ wrong notInVersion
+  unfolding onPair
+  pair-old [] h n = absurd (h refl)
+  pair-old (b ∷ k) h n = rw (lt-ltb version pairsSince n)
+
+  pair-new : (k : List ℕ) → (length k ≡ 0 → ⊥) → pairsSince ≤ version
+      → onPair version k v ≡ unescaped (unescape k) (unescape v)
+  unfolding onPair
+  pair-new [] h n = absurd (h refl)
+  pair-new (b ∷ k) h n = rw (le-ltb version pairsSince n)
+
+  -- by the escapes of its key and of its value
+  pub pair-escapes : (k : List ℕ) → (length k ≡ 0 → ⊥) → pairsSince ≤ version
+      → wrongOf (onPair version k v) ≡ (if isSome (unescape k) && isSome (unescape v) then 0 else badBackslash)
+  pair-escapes k h n = ap wrongOf (pair-new k h n) ∙ go (unescape k) (unescape v)
+    where
+      go : (o q : Option (List ℕ)) → wrongOf (unescaped o q) ≡ (if isSome o && isSome q then 0 else badBackslash)
+      go none q = refl
+      go (some a) none = refl
+      go (some a) (some c) = refl
+
+-- a pair's step: it gives no field
+pair-step : (version : ℕ) (ns k v : List ℕ) → stepped (wrong (wrongOf (onPair version k v))) ns ≡ stepped (onPair version k v) ns
+unfolding onPair
+pair-step version ns [] v = refl
+pair-step version ns (b ∷ k) v = go (ltb version pairsSince) (unescape (b ∷ k)) (unescape v)
+  where
+    go : (x : Bool) (o q : Option (List ℕ))
+        → stepped (wrong (wrongOf (if x then wrong notInVersion else unescaped o q))) ns ≡ stepped (if x then wrong notInVersion else unescaped o q) ns
+    go true o q = refl
+    go false none q = refl
+    go false (some a) none = refl
+    go false (some a) (some c) = refl
+
+-- ---- refused, or right without a field: the sizes stay
+
+pub refuses : {r : Step} {w : ℕ} {j : Judged} (ns : List ℕ) → r ≡ stepOf (wrong w) → j ≡ wrong w → _≡_ {A = Step × List ℕ} (r, ns) (stepped j ns)
+refuses ns e q = rw (e, q)
+
+-- the line of a pair, and a line with no mark: a byte that they may not hold comes first
+module _ (version : ℕ) (gs : List Given) (t ns : List ℕ) where
+  plain-step : (n : ℕ) (j : Judged) → stepped (wrong n) ns ≡ stepped j ns
+      → stepped (wrong (if every plain t then n else badByte)) ns ≡ stepped (if not (every plain t) then wrong badByte else j) ns
+  plain-step n j e = go (every plain t)
+    where
+      go : (x : Bool) → stepped (wrong (if x then n else badByte)) ns ≡ stepped (if not x then wrong badByte else j) ns
+      go true = e
+      go false = refl
+
+  pub pair-line : (k v : List ℕ)
+      → stepped (wrong (if every plain t then wrongOf (onPair version k v) else badByte)) ns ≡ stepped (onKind version gs t (otherLine (pairMark k v))) ns
+  pair-line k v = plain-step (wrongOf (onPair version k v)) (onPair version k v) (pair-step version ns k v)
+
+  pub unmarked-line : stepped (wrong (if every plain t then noMark else badByte)) ns ≡ stepped (onKind version gs t (otherLine unmarked)) ns
+  unmarked-line = plain-step noMark (wrong noMark) refl
+
+-- ---- a field along its tests
+
+module _ (version : ℕ) (gs : List Given) (f : ℕ) (rest : List ℕ) where
+  pub field-old : version < fieldSince f → onField version gs (some f) rest ≡ wrong notInVersion
+  unfolding onField
+  field-old n = rw (lt-ltb version (fieldSince f) n)
+
+  module _ (n : fieldSince f ≤ version) where
+    pub field-again : isGiven f gs ≡ true → onField version gs (some f) rest ≡ wrong repeatedField
+    unfolding onField
+    field-again g = rw (le-ltb version (fieldSince f) n, g)
+
+    pub field-early : isGiven f gs ≡ false → inOrder f gs ≡ false → onField version gs (some f) rest ≡ wrong outOfOrder
+    unfolding onField
+    field-early g o = rw (le-ltb version (fieldSince f) n, g, o)
+
+    pub field-here : isGiven f gs ≡ false → inOrder f gs ≡ true
+        → onField version gs (some f) rest ≡ described (dimensionOf gs) f (descriptor f rest)
+    unfolding onField
+    field-here g o = rw (le-ltb version (fieldSince f) n, g, o)
+
+-- ---- a line by its text
+
+-- all that stands from i on
+pub to-end : (t : List ℕ) (i : ℕ) → take (length t - i) (drop i t) ≡ drop i t
+to-end t i = rw (← length-drop i t, take-length)
+
+pub line-is : (version : ℕ) (gs : List Given) (t ns : List ℕ) {k : LineKind} → kindOf t ≡ k → stepped (onKind version gs t k) ns ≡ stepped (judge version gs t) ns
+unfolding judge
+line-is version gs t ns e = rw e

@@ -1,0 +1,338 @@
+-- Laws of what the reader keeps: what one more field makes of it, what the header's end makes of it, and what the walk keeps.
+-- Assumes nothing.
+use Prim.Native.Nat.{ℕ, zero, suc, _+_, _≤_, _<_, _-_}
+use Prim.Native.String.{String}
+use native.Mathlib.Nat.{add-zero, zero-add, not-suc-le-zero, le-of-suc-le-suc}
+use native.Mathlib.Omega.{arith}
+use mathlib.Core.Path.{_≡_, refl, sym, ap, subst, _∙_}
+use mathlib.Core.Bool.{Bool, true, false, not, _&&_, _||_, false≢true}
+use mathlib.Core.List.{List, [], _∷_, _++_, map}
+use mathlib.Core.Option.{Option, none, some}
+use lib.Dec.{eqb, leb}
+use lib.ListN.{length, replicate, take, getD, set, length-map}
+use lib.Seq.{take-at}
+use borrow.Author.Tests.{lt-ltb, le-ltb, le-leb, leb-true, eqb-true, eqb-false, eq-eqb, ne-eqb}
+use mir.Val.{boolByte}
+use Rattle.format.specs.declared.Reading.{Reading}
+use Rattle.format.specs.Bytes.{isAny, rowFrom, orDefault, if_then_else_}
+use Rattle.format.specs.Limits.{maxAxes, maxSize, maxExtent}
+use Rattle.format.specs.Refusals.{badDescriptor, missingField, extentTooLarge, refusal, fine}
+use Rattle.format.specs.Fields.{namesOf, fieldTable, fieldAt, fieldCount, fieldNamed, Given, given, descriptorOf, isGiven, dimension, type, encoding, endian, sizes, lineSkip, byteSkip, dataFile}
+use Rattle.format.specs.Descriptors.{meaning, number, valueOfNumber, within, numbersIn, sizesFine, words, isDetached, mayDescribe, numberSaid, numberOf, dimensionOf, sizesSaid, sizesOf, endianNeeded, hasNeeded, extent, extentOf}
+use Rattle.format.specs.Header.{Item, field, fieldOf, Entry, wrong, right, judge, refused, withField, afterItem, versionOf, headerLength}
+use Rattle.format.specs.Rules.{FieldLine, Keeps}
+use Rattle.format.specs.Calls.{readAnswer, padded, readingAt, readingOf}
+use Rattle.format.proofs.Bytes.{and-left, and-right}
+use Rattle.format.proofs.Judged.{is-field, judge-keeps, after-cases}
+use Rattle.format.proofs.Rules.{needed-of}
+use Rattle.read_text.specs.Numbers.{noSizes, sizesAnswer}
+use Rattle.read_text.specs.declared.numbers.Sizes.{Sizes}
+use Rattle.read_descriptors.specs.declared.check.Checked.{Checked}
+use Rattle.read_descriptors.specs.Checked.{found, checked}
+use Rattle.read_descriptors.proofs.Checking.{sizes-fine}
+use Rattle.read_fields.specs.declared.state.Step.{Step}
+use Rattle.read_fields.specs.States.{each, flags, numbersOf, Kept, Holds, Known, described, fieldGiven, numberGiven, sizesGiven, stepped, keptAt, completeNumber, finished}
+
+-- ---- flags and numbers
+
+-- fields from f on of which v and w say the same
+each-same : {A : Type 0} (v w : ℕ → A) (f n : ℕ) → ((g : ℕ) → f ≤ g → v g ≡ w g) → each v f n ≡ each w f n
+unfolding each
+each-same v w f zero h = refl
+each-same v w f (suc n) h = rw (h f (omega arith), each-same v w (f + 1) n (λ g l. h g (omega arith)))
+
+-- one field of which w says x, and the others as v does
+each-set : {A : Type 0} (v w : ℕ → A) (x : A) (f n i g : ℕ) → ((k : ℕ) → (k ≡ g → ⊥) → w k ≡ v k) → w g ≡ x → g ≡ f + i → i < n
+    → each w f n ≡ set (each v f n) i x
+unfolding each
+each-set v w x f zero i g h e p l = absurd (omega arith)
+each-set v w x f (suc n) zero g h e p l =
+    let q : f ≡ g = omega arith in
+    rw (q, e, each-same w v (g + 1) n (λ k m. h k (omega arith)))
+each-set v w x f (suc n) (suc i) g h e p l =
+    rw (h f (omega arith), each-set v w x (f + 1) n i g h e (omega arith) (omega arith))
+
+-- what v says of a field
+each-from : {A : Type 0} (v : ℕ → A) (d : A) (f n i : ℕ) → i < n → getD (each v f n) i d ≡ v (f + i)
+unfolding each
+each-from v d f zero i h = absurd (not-suc-le-zero h)
+each-from v d f (suc n) zero h = rw add-zero
+each-from v d f (suc n) (suc i) h =
+    let e : f + suc i ≡ f + 1 + i = omega arith in
+    rw e (each-from v d (f + 1) n i (le-of-suc-le-suc h))
+
+each-at : {A : Type 0} (v : ℕ → A) (d : A) (f : ℕ) → f < fieldCount → getD (each v 0 fieldCount) f d ≡ v f
+each-at v d f h = each-from v d 0 fieldCount f h ∙ rw zero-add
+
+pub flags-at : (gs : List Given) (f : ℕ) → f < fieldCount → getD (flags gs) f false ≡ isGiven f gs
+flags-at gs f h = each-at (λ g. isGiven g gs) false f h
+
+-- the flag of a field
+pub given-at : {marks : List Bool} {n : ℕ} {gs : List Given} → Known marks n gs → (f : ℕ) → f < fieldCount → getD marks f false ≡ isGiven f gs
+given-at {marks} {n} {gs} h f l = rw (h .marks-are) (flags-at gs f l)
+
+-- ---- one field more: it sets its flag and its number, and sizes set the sizes
+
+module _ (f : ℕ) (d : List ℕ) (gs : List Given) where
+  other-descriptor : (g : ℕ) → (g ≡ f → ⊥) → descriptorOf g (given f d ∷ gs) ≡ descriptorOf g gs
+  unfolding descriptorOf
+  other-descriptor g h = rw (ne-eqb g f h)
+
+  own-descriptor : descriptorOf f (given f d ∷ gs) ≡ some d
+  unfolding descriptorOf
+  own-descriptor = rw (eq-eqb f f refl)
+
+  flags-after : f < fieldCount → flags (given f d ∷ gs) ≡ set (flags gs) f true
+  flags-after h =
+      each-set (λ g. isGiven g gs) (λ g. isGiven g (given f d ∷ gs)) true 0 fieldCount f f
+      (λ g n. rw (other-descriptor g n)) (rw own-descriptor) (omega arith) h
+
+  numbers-after : f < fieldCount → numbersOf (given f d ∷ gs) ≡ set (numbersOf gs) f (numberSaid f d)
+  numbers-after h =
+      each-set (λ g. numberOf g gs) (λ g. numberOf g (given f d ∷ gs)) (numberSaid f d) 0 fieldCount f f
+      (λ g n. rw (other-descriptor g n)) (rw own-descriptor) (omega arith) h
+
+  sizes-after : padded (sizesOf (given f d ∷ gs)) ≡ sizesGiven (some (given f d)) (padded (sizesOf gs))
+  unfolding descriptorOf
+  sizes-after = go (eqb sizes f)
+    where
+      go : (x : Bool) → padded (meaning [] sizesSaid (if x then some d else descriptorOf sizes gs)) ≡ (if x then padded (sizesSaid d) else padded (sizesOf gs))
+      go true = refl
+      go false = refl
+
+-- ---- a field with its descriptor, refused or taken
+
+module _ (n f : ℕ) (t : List ℕ) where
+  pub descriptor-wrong : mayDescribe n f t ≡ false → described n f t ≡ wrong badDescriptor
+  descriptor-wrong e = rw e
+
+  -- taken, by the checker's answer
+  module _ (x : Checked) (e : x ≡ checked n f t) where
+    pub check-wrong : x .fine ≡ false → described n f t ≡ wrong badDescriptor
+    check-wrong h = descriptor-wrong (sym (ap (λ (y : Checked). y .fine) e) ∙ h)
+
+    pub check-fine : (f ≡ sizes → ⊥) → x .fine ≡ true → (ns : List ℕ)
+        → _≡_ {A = Step × List ℕ} (record { wrong = 0; closes = false; field = f; number = x .number }, ns) (stepped (described n f t) ns)
+    check-fine s h ns = go (mayDescribe n f t) e
+      where
+        go : (b : Bool) → x ≡ found b (numberSaid f t)
+            → _≡_ {A = Step × List ℕ} (record { wrong = 0; closes = false; field = f; number = x .number }, ns)
+            (stepped (if not b then wrong badDescriptor else right (field f t)) ns)
+        go true q = rw (ne-eqb sizes f (λ z. s (sym z)), q)
+        go false q = absurd (false≢true (sym (ap (λ (y : Checked). y .fine) q) ∙ h))
+
+-- fine sizes are as many as asked
+fine-length : (n : ℕ) (ws : List (List ℕ)) → sizesFine n ws ≡ true → length ws ≡ n
+fine-length n ws e = eqb-true (length ws) n (and-left (eqb (length ws) n) (numbersIn 1 maxSize ws) e)
+
+module _ (n : ℕ) (ws : List (List ℕ)) (r : Sizes) (e : r ≡ sizesAnswer n ws) (h : n ≤ maxAxes) where
+  sizes-are : r .fine ≡ true → (sizesFine n ws ≡ true) × (r .sizes ≡ padded (map valueOfNumber ws))
+  unfolding sizesAnswer
+  sizes-are f = go (sizesFine n ws) refl (rw (le-leb n maxAxes h) at e)
+    where
+      go : (x : Bool) → sizesFine n ws ≡ x
+          → r ≡ (if x then record { fine = true; sizes = map valueOfNumber ws ++ replicate (maxAxes - n) 0 } else noSizes)
+          → (x ≡ true) × (r .sizes ≡ padded (map valueOfNumber ws))
+      go true s e =
+          let k : length (map valueOfNumber ws) ≡ n = length-map ws valueOfNumber ∙ fine-length n ws s in
+          (refl, rw k (ap (λ (y : Sizes). y .sizes) e))
+      go false s e = absurd (false≢true (sym (ap (λ (y : Sizes). y .fine) e) ∙ f))
+
+-- sizes, by what is read
+module _ (n f : ℕ) (t : List ℕ) (q : f ≡ sizes) (r : Sizes) (e : r ≡ sizesAnswer n (words t)) (h : n ≤ maxAxes) where
+  pub sizes-wrong : r .fine ≡ false → described n f t ≡ wrong badDescriptor
+  unfolding mayDescribe
+  sizes-wrong w = rw q (descriptor-wrong n sizes t (sym (sizes-fine n (words t) r e h) ∙ w))
+
+  pub sizes-taken : r .fine ≡ true → (ns : List ℕ)
+      → _≡_ {A = Step × List ℕ} (record { wrong = 0; closes = false; field = f; number = 0 }, r .sizes) (stepped (described n f t) ns)
+  unfolding mayDescribe
+  sizes-taken w ns = let d = sizes-are n (words t) r e h w in rw (q, d .0, d .1)
+
+-- ---- the end of the header
+
+-- what the flags and numbers say of `hasNeeded`
+abbrev pub neededBy : List Bool → List ℕ → Bool
+neededBy marks numbers =
+    let g : ℕ → Bool = λ f. getD marks f false in
+    let n : ℕ → ℕ = λ f. getD numbers f 0 in
+    g dimension && (g type && (g encoding && (g sizes && (g endian || not (endianNeeded (n type) (n encoding))))))
+
+pub needed-is : (gs : List Given) {marks : List Bool} {numbers : List ℕ} → marks ≡ flags gs → numbers ≡ numbersOf gs
+    → neededBy marks numbers ≡ hasNeeded gs
+unfolding each hasNeeded
+needed-is gs a b = rw (a, b)
+
+pub needs-sizes : (gs : List Given) → hasNeeded gs ≡ true → isGiven sizes gs ≡ true
+needs-sizes gs e = needed-of gs e .has-sizes
+
+-- the reading by the flags, numbers and sizes, with the skips and the extent x
+abbrev pub readingBy : ℕ → List Bool → List ℕ → List ℕ → ℕ → ℕ → ℕ → ℕ → ℕ → Reading
+readingBy version marks numbers ns skip skipped x bytes count =
+    let n : ℕ → ℕ = λ f. getD numbers f 0 in
+    record {
+      version = version;
+      form = boolByte (getD marks dataFile false);
+      dimension = n dimension;
+      sampletype = n type;
+      encoding = n encoding;
+      endian = n endian;
+      sizes = ns;
+      lineskip = skip;
+      byteskip = skipped;
+      extent = x;
+      length = bytes;
+      lines = count;
+    }
+
+module _ {marks : List Bool} {numbers ns : List ℕ} {gs : List Given} (h : Holds marks numbers ns gs) where
+  -- a number that is kept
+  pub number-at : (f : ℕ) → f < fieldCount → getD numbers f 0 ≡ numberOf f gs
+  number-at f l = rw (h .numbers-are) (each-at (λ g. numberOf g gs) 0 f l)
+
+  pub axes-at : getD numbers dimension 0 ≤ maxAxes
+  axes-at = rw (number-at dimension (omega arith)) (h .kept .axes)
+
+  -- the extent
+  pub extent-is : isGiven sizes gs ≡ true → extent (take (getD numbers dimension 0) ns) (getD numbers type 0) ≡ extentOf gs
+  extent-is e =
+      let s = take-at (sizesOf gs) (replicate (maxAxes - length (sizesOf gs)) 0) (dimensionOf gs) (h .kept .sized e) in
+      rw (number-at dimension (omega arith), number-at type (omega arith), h .sizes-are, s)
+
+  -- the reading that they make
+  pub reading-is : (version bytes count : ℕ) {skip skipped x : ℕ} → skip ≡ getD numbers lineSkip 0 → skipped ≡ getD numbers byteSkip 0 → x ≡ extentOf gs
+      → readingBy version marks numbers ns skip skipped x bytes count ≡ readingAt version gs bytes count
+  unfolding each
+  reading-is version bytes count p q e = rw (p, q, h .marks-are, h .numbers-are, h .sizes-are, e, form-of (isDetached gs))
+    where
+      form-of : (b : Bool) → boolByte b ≡ (if b then 1 else 0)
+      form-of true = refl
+      form-of false = refl
+
+module _ (version : ℕ) (gs : List Given) (bytes count : ℕ) where
+  -- the answer: a field is missing, the extent is too large, or nothing is refused
+  pub finished-missing : hasNeeded gs ≡ false → finished version gs bytes count ≡ readAnswer (refused (refusal missingField))
+  unfolding finished completeNumber
+  finished-missing e = rw e
+
+  pub finished-large : hasNeeded gs ≡ true → maxExtent < extentOf gs
+      → finished version gs bytes count ≡ readAnswer (refused (refusal extentTooLarge))
+  unfolding finished completeNumber
+  finished-large e l = rw (e, lt-ltb maxExtent (extentOf gs) l)
+
+  pub finished-fine : hasNeeded gs ≡ true → extentOf gs ≤ maxExtent
+      → finished version gs bytes count ≡ record { refusal = fine; reading = readingAt version gs bytes count }
+  unfolding finished completeNumber
+  finished-fine e l = rw (e, le-ltb maxExtent (extentOf gs) l)
+
+-- the reading of an accepted header, by its fields
+pub reading-at : (es : List Entry) (gs : List Given) → readingOf es gs ≡ readingAt (versionOf es) gs (headerLength es) (length es)
+unfolding readingOf
+reading-at es gs = refl
+
+-- ---- what the walk keeps
+
+-- no field is given
+pub kept-none : Kept []
+unfolding descriptorOf
+kept-none = record { axes = omega arith; ordered = λ e. absurd (false≢true e); sized = λ e. absurd (false≢true e) }
+
+-- a number in a range is at most the largest
+within-most : (least most : ℕ) (o : Option ℕ) → within least most o ≡ true → orDefault 0 o ≤ most
+within-most least most none e = omega arith
+within-most least most (some n) e = leb-true n most (and-right (leb least n) (leb n most) e)
+
+-- one field more
+module _ (version : ℕ) {gs : List Given} (d : List ℕ) (k : Kept gs) where
+  kept-dimension : {t : List ℕ} → FieldLine version gs t dimension d → Kept (given dimension d ∷ gs)
+  unfolding descriptorOf mayDescribe
+  kept-dimension h =
+      record {
+        axes = within-most 1 maxAxes (number d) (h .described);
+        ordered = λ e. refl;
+        sized = λ e. absurd (false≢true (sym (h .new) ∙ k .ordered e));
+      }
+
+  kept-sizes : {t : List ℕ} → FieldLine version gs t sizes d → Kept (given sizes d ∷ gs)
+  unfolding descriptorOf mayDescribe fieldAt
+  kept-sizes h =
+      record {
+        axes = k .axes;
+        ordered = λ e. h .after-dimension refl;
+        sized = λ e. length-map (words d) valueOfNumber ∙ fine-length (dimensionOf gs) (words d) (h .described);
+      }
+
+  kept-other : (f : ℕ) → (dimension ≡ f → ⊥) → (sizes ≡ f → ⊥) → Kept (given f d ∷ gs)
+  unfolding descriptorOf
+  kept-other f a b =
+      let p = ne-eqb dimension f a in
+      let q = ne-eqb sizes f b in
+      record {
+        axes = rw p (k .axes);
+        ordered = λ e. rw p (k .ordered (rw q at e));
+        sized = λ e. rw (p, q) (k .sized (rw q at e));
+      }
+
+-- ---- the field of a name is below their number
+
+abbrev Below : ℕ → Option ℕ → Type 0
+Below n none = Unit
+Below n (some f) = f < n
+
+row-below : (w : List ℕ) (rs : List (List String)) (i : ℕ) → Below (i + length rs) (rowFrom i w rs)
+unfolding rowFrom
+row-below w [] i = tt
+row-below w (r ∷ rs) i = go (isAny w r) (row-below w rs (i + 1))
+  where
+    go : (x : Bool) → Below (i + 1 + length rs) (rowFrom (i + 1) w rs)
+        → Below (i + suc (length rs)) (if x then some i else rowFrom (i + 1) w rs)
+    go true h = omega arith
+    go false h = let e : i + suc (length rs) ≡ i + 1 + length rs = omega arith in rw e h
+
+pub field-below : (name : List ℕ) (f : ℕ) → fieldNamed name ≡ some f → f < fieldCount
+field-below name f e = rw e at (row-below name (map namesOf fieldTable) 0)
+
+kept-field : (version : ℕ) {gs : List Given} {t : List ℕ} (f : ℕ) (d : List ℕ) → Kept gs → FieldLine version gs t f d → Kept (given f d ∷ gs)
+kept-field version {gs} {t} f d k h = go (eqb dimension f) refl (eqb sizes f) refl
+  where
+    go : (x : Bool) → eqb dimension f ≡ x → (y : Bool) → eqb sizes f ≡ y → Kept (given f d ∷ gs)
+    go true p y q = let e = eqb-true dimension f p in rw (sym e) (kept-dimension version d k (rw (sym e) at h))
+    go false p true q = let e = eqb-true sizes f q in rw (sym e) (kept-sizes version d k (rw (sym e) at h))
+    go false p false q = kept-other version d k f (eqb-false dimension f p) (eqb-false sizes f q)
+
+-- one line more
+pub kept-next : (version : ℕ) (gs : List Given) (t : List ℕ) (i : Item) → Kept gs → judge version gs t ≡ right i → Kept (afterItem i gs)
+kept-next version gs t i k e = after-cases version gs t Kept e k (λ f d s. kept-field version f d k s)
+
+-- ---- what is kept once a line is read
+
+-- no field is given
+pub holds-none : Holds (flags []) (numbersOf []) (padded []) []
+unfolding descriptorOf
+holds-none = record { marks-are = refl; numbers-are = refl; sizes-are = refl; kept = kept-none }
+
+-- what is kept once a line is read, by the field that it gives
+abbrev pub HoldsAfter : List Bool → List ℕ → List ℕ → List Given → Option Given → Type 0
+HoldsAfter marks numbers ns gs o =
+    Holds (keptAt (fieldGiven o) true marks) (keptAt (fieldGiven o) (numberGiven o) numbers) (sizesGiven o ns) (withField o gs)
+
+pub holds-next : (version : ℕ) {marks : List Bool} {numbers ns : List ℕ} {gs : List Given} (t : List ℕ) (i : Item)
+    → Holds marks numbers ns gs → judge version gs t ≡ right i → HoldsAfter marks numbers ns gs (fieldOf i)
+holds-next version {marks} {numbers} {ns} {gs} t i h j = go (fieldOf i) refl
+  where
+    go : (o : Option Given) → fieldOf i ≡ o → HoldsAfter marks numbers ns gs o
+    go none e = h
+    go (some (given f d)) e =
+        let s : FieldLine version gs t f d = subst (Keeps version gs t) (is-field i e) (judge-keeps version gs t j) in
+        let b = field-below (s .name) f (s .named) in
+        let l = lt-ltb f fieldCount b in
+        record {
+          marks-are = rw (l, h .marks-are) (sym (flags-after f d gs b));
+          numbers-are = rw (l, h .numbers-are) (sym (numbers-after f d gs b));
+          sizes-are = rw (h .sizes-are) (sym (sizes-after f d gs));
+          kept = kept-field version f d (h .kept) s;
+        }
+
+-- what the judgement of a line has to know
+pub known-of : {marks : List Bool} {numbers ns : List ℕ} {gs : List Given} → Holds marks numbers ns gs → Known marks (getD numbers dimension 0) gs
+known-of h = record { marks-are = h .marks-are; dimension-is = number-at h dimension (omega arith); axes = axes-at h }

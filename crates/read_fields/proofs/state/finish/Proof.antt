@@ -1,0 +1,105 @@
+-- `state::finish` meets its contract. Assumes nothing.
+use Prim.Native.Nat.{_≤_, _<_}
+use native.Mathlib.Omega.{arith}
+use mathlib.Core.Path.{_≡_, sym, ap, _∙_}
+use borrow.Author.Tests.{not-true, not-false}
+use Rattle.format.specs.declared.Reading.{Reading}
+use Rattle.format.specs.Limits.{maxExtent}
+use Rattle.format.specs.Refusals.{fine}
+use Rattle.format.specs.Descriptors.{extentOf, capped}
+use borrow.Author.Needs.{needs}
+use Rattle.read_fields.proofs.States.{needs-sizes, axes-at, extent-is, reading-is, finished-missing, finished-large, finished-fine}
+use Rattle.read_fields.proofs.state.finish.Statement.{statement}
+use Rattle.read_fields.proofs.state.finish.Tie as tie
+
+has-needed-requires : tie.Need-has-needed-requires
+has-needed-requires c κs = search needs
+
+refuse-requires : tie.Need-refuse-requires
+refuse-requires c κs = search needs
+
+returns : tie.Need-returns
+returns c gs h =
+    let a = c .before .before .before .args in
+    let n = c .before .before .has-needed in
+    let e = sym (n .ensures gs (h .marks-are) (h .numbers-are)) ∙ not-true (n .result) (c .before .if1 .taken) in
+    c .refuse .ensures ∙ sym (finished-missing (a .version) gs (a .bytes) (a .count) e)
+
+element-copy-out-dimension : tie.Need-element-copy-out-dimension
+element-copy-out-dimension c = search needs
+
+element-copy-out-sampletype : tie.Need-element-copy-out-sampletype
+element-copy-out-sampletype c = search needs
+
+extent-requires : tie.Need-extent-requires
+extent-requires c κs = search needs
+
+refuse-requires-2 : tie.Need-refuse-requires-2
+refuse-requires-2 c κs = search needs
+
+returns-2 : tie.Need-returns-2
+returns-2 c gs h =
+    let a = c .before .before .before .before .before .before .before .args in
+    let n = c .before .before .before .before .before .before .has-needed in
+    let e = sym (n .ensures gs (h .marks-are) (h .numbers-are)) ∙ not-false (n .result) (c .before .before .before .before .before .if1 .left) in
+    let m = c .before .before .extent .ensures (axes-at h) ∙ ap capped (extent-is h (needs-sizes gs e)) in
+    let l : maxExtent < extentOf gs = omega arith in
+    c .refuse2 .ensures ∙ sym (finished-large (a .version) gs (a .bytes) (a .count) e l)
+
+element-copy-out-encoding : tie.Need-element-copy-out-encoding
+element-copy-out-encoding c = search needs
+
+element-copy-out-endian : tie.Need-element-copy-out-endian
+element-copy-out-endian c = search needs
+
+element-copy-out-form : tie.Need-element-copy-out-form
+element-copy-out-form c = search needs
+
+cast-form : tie.Need-cast-form
+cast-form c = search needs
+
+element-copy-out-wide : tie.Need-element-copy-out-wide
+element-copy-out-wide c = search needs
+
+wide-requires : tie.Need-wide-requires
+wide-requires c κs = search needs
+
+element-copy-out-wide-2 : tie.Need-element-copy-out-wide-2
+element-copy-out-wide-2 c = search needs
+
+wide-requires-2 : tie.Need-wide-requires-2
+wide-requires-2 c κs = search needs
+
+returns-3 : tie.Need-returns-3
+returns-3 c gs h =
+    let a = c .before .before .before .before .before .before .before .before .before .before .before .before .before .args in
+    let n = c .before .before .before .before .before .before .before .before .before .before .before .before .has-needed in
+    let x = c .before .before .before .before .before .before .before .before .extent .result in
+    let e = sym (n .ensures gs (h .marks-are) (h .numbers-are)) ∙ not-false (n .result) (c .before .before .before .before .before .before .before .before .before .before .before .if1 .left) in
+    let m = c .before .before .before .before .before .before .before .before .extent .ensures (axes-at h) ∙ ap capped (extent-is h (needs-sizes gs e)) in
+    let l : extentOf gs ≤ maxExtent = omega arith in
+    let k : x ≡ extentOf gs = omega arith in
+    ap (λ (r : Reading). record { refusal = fine; reading = r }) (reading-is h (a .version) (a .bytes) (a .count) (c .before .before .wide .ensures) (c .wide2 .ensures) k)
+    ∙ sym (finished-fine (a .version) gs (a .bytes) (a .count) e l)
+
+pub finish-spec : {M : Type 1} → statement M
+finish-spec =
+    tie.close
+    (tie.spec
+    has-needed-requires
+    refuse-requires
+    returns
+    element-copy-out-dimension
+    element-copy-out-sampletype
+    extent-requires
+    refuse-requires-2
+    returns-2
+    element-copy-out-encoding
+    element-copy-out-endian
+    element-copy-out-form
+    cast-form
+    element-copy-out-wide
+    wide-requires
+    element-copy-out-wide-2
+    wide-requires-2
+    returns-3)

@@ -1,0 +1,108 @@
+-- Internal to the library. What the reader keeps of the fields given so far, and its steps.
+use Prim.Native.Nat.{ℕ, zero, suc, _+_, _-_, _≤_}
+use mathlib.Core.Path.{_≡_}
+use mathlib.Core.Bool.{Bool, true, false, not}
+use mathlib.Core.List.{List, [], _∷_}
+use mathlib.Core.Option.{Option, none, some}
+use lib.Dec.{ltb, eqb}
+use lib.ListN.{length, set}
+use Rattle.format.specs.declared.ReadAnswer.{ReadAnswer}
+use Rattle.format.specs.Bytes.{if_then_else_}
+use Rattle.format.specs.Limits.{maxAxes, maxExtent}
+use Rattle.format.specs.Refusals.{badDescriptor, missingField, extentTooLarge, refusal, fine}
+use Rattle.format.specs.Fields.{Given, given, fieldCount, isGiven, dimension, sizes}
+use Rattle.format.specs.Descriptors.{numberSaid, numberOf, dimensionOf, sizesSaid, sizesOf, mayDescribe, hasNeeded, extentOf}
+use Rattle.format.specs.Header.{Judged, wrong, right, field, fieldOf, closes, Outcome, refused, accepted, headerLength}
+use Rattle.format.specs.Calls.{noReading, padded, readingAt}
+use Rattle.read_fields.specs.declared.state.Step.{Step}
+
+-- what v says of each of n fields from f on
+unfoldable pub each : {A : Type 0} → (ℕ → A) → ℕ → ℕ → List A
+each v f zero = []
+each v f (suc n) = v f ∷ each v (f + 1) n
+
+-- whether each field is given
+abbrev pub flags : List Given → List Bool
+flags gs = each (λ f. isGiven f gs) 0 fieldCount
+
+-- the number of each field
+abbrev pub numbersOf : List Given → List ℕ
+numbersOf gs = each (λ f. numberOf f gs) 0 fieldCount
+
+-- what the walk keeps of the fields given: the dimension is in its range, sizes come after it, and there is a size for each axis
+pub record Kept (gs : List Given) : Type 0 where
+  pub axes : dimensionOf gs ≤ maxAxes
+  pub ordered : isGiven sizes gs ≡ true → isGiven dimension gs ≡ true
+  pub sized : isGiven sizes gs ≡ true → length (sizesOf gs) ≡ dimensionOf gs
+
+-- the flags, the numbers and the sizes are those of the fields given
+pub record Holds (marks : List Bool) (numbers ns : List ℕ) (gs : List Given) : Type 0 where
+  pub marks-are : marks ≡ flags gs
+  pub numbers-are : numbers ≡ numbersOf gs
+  pub sizes-are : ns ≡ padded (sizesOf gs)
+  pub kept : Kept gs
+
+-- what the judgement of a line has to know of the fields given: which they are, and the dimension
+pub record Known (marks : List Bool) (n : ℕ) (gs : List Given) : Type 0 where
+  pub marks-are : marks ≡ flags gs
+  pub dimension-is : n ≡ dimensionOf gs
+  pub axes : n ≤ maxAxes
+
+-- a field with the descriptor t, judged by its descriptor alone, in a header of dimension n
+abbrev pub described : ℕ → ℕ → List ℕ → Judged
+described n f t = if not (mayDescribe n f t) then wrong badDescriptor else right (field f t)
+
+-- the field that a line gives, or the first number that is none, and the number that it says
+abbrev pub fieldGiven : Option Given → ℕ
+fieldGiven none = fieldCount
+fieldGiven (some (given f d)) = f
+
+abbrev pub numberGiven : Option Given → ℕ
+numberGiven none = 0
+numberGiven (some (given f d)) = numberSaid f d
+
+-- the sizes once the line is read
+abbrev pub sizesGiven : Option Given → List ℕ → List ℕ
+sizesGiven none ns = ns
+sizesGiven (some (given f d)) ns = if eqb sizes f then padded (sizesSaid d) else ns
+
+-- a line's step by what the line was judged to be
+abbrev pub stepOf : Judged → Step
+stepOf (wrong w) = record { wrong = w; closes = false; field = fieldCount; number = 0 }
+stepOf (right i) = record { wrong = 0; closes = closes i; field = fieldGiven (fieldOf i); number = numberGiven (fieldOf i) }
+
+abbrev pub sizesAfter : Judged → List ℕ → List ℕ
+sizesAfter (wrong w) ns = ns
+sizesAfter (right i) ns = sizesGiven (fieldOf i) ns
+
+-- the step, and the sizes as it leaves them
+abbrev pub stepped : Judged → List ℕ → Step × List ℕ
+stepped j ns = (stepOf j, sizesAfter j ns)
+
+-- a list with x for the field f; past the last field nothing changes
+abbrev pub keptAt : {A : Type 0} → ℕ → A → List A → List A
+keptAt f x l = if ltb f fieldCount then set l f x else l
+
+-- the number of a refusal, 0 for none
+abbrev pub wrongOf : Judged → ℕ
+wrongOf (wrong w) = w
+wrongOf (right i) = 0
+
+-- the refusal at the end of the header, 0 for none
+unfoldable pub completeNumber : List Given → ℕ
+completeNumber gs =
+    if not (hasNeeded gs) then missingField
+    else if ltb maxExtent (extentOf gs) then extentTooLarge
+    else 0
+
+-- the answer at the header's end
+unfoldable pub finished : ℕ → List Given → ℕ → ℕ → ReadAnswer
+finished version gs bytes count =
+    if eqb (completeNumber gs) 0 then record { refusal = fine; reading = readingAt version gs bytes count }
+    else record { refusal = refusal (completeNumber gs); reading = noReading }
+
+-- the answer of the reading once n - 1 lines of `at` bytes are read, by what the walk gives from line n on
+abbrev pub answerFrom : ℕ → ℕ → ℕ → Outcome → ReadAnswer
+answerFrom version n at (refused r) = record { refusal = r; reading = noReading }
+answerFrom version n at (accepted es gs ls) =
+    record { refusal = fine; reading = readingAt version gs (at + headerLength es) (n - 1 + length es) }

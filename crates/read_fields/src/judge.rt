@@ -1,0 +1,173 @@
+// One line after line 1: what it is, or the number of its refusal, 5 to 12 in order; and the end of the header.
+use crate::state::Step;
+use format::field;
+use read_text::lines::Kind;
+use read_text::words::Row;
+ghost use mathlib.Core.Path.{_≡_};
+ghost use mathlib.Core.List.{List};
+ghost use mathlib.Core.Option.{some};
+ghost use Prim.Native.Nat.{ℕ, _+_, _≤_, _<_};
+ghost use lib.ListN.{length, take, drop};
+ghost use Rattle.format.specs.Bytes.{every, if_then_else_};
+ghost use Rattle.format.specs.Limits.{maxAxes};
+ghost use Rattle.format.specs.Refusals.{badByte};
+ghost use Rattle.format.specs.Pairs.{plain, fieldMark, otherLine};
+ghost use Rattle.format.specs.Fields.{Given, fieldCount, inOrder};
+ghost use Rattle.format.specs.Header.{wrong, onPair, onField, onKind, judge};
+ghost use Rattle.read_fields.specs.declared.state.Step.{Step};
+ghost use Rattle.read_fields.specs.States.{wrongOf, flags, Known, described, stepOf, stepped};
+
+// A pair: the number of its refusal, or 0.
+fn on_pair(version: u32, key: &[u8], value: &[u8]) -> u32
+    ensures { λ r. ⌜ r ≡ wrongOf (onPair version (now (key .entry)) (now (value .entry))) ⌝ }
+{
+    if key.len() == 0 {
+        return format::NO_MARK;
+    }
+    if version < 2 {
+        return format::NOT_IN_VERSION;
+    }
+    if !read_text::escapes::unescapes(key) {
+        return format::BAD_BACKSLASH;
+    }
+    if !read_text::escapes::unescapes(value) {
+        return format::BAD_BACKSLASH;
+    }
+    0
+}
+
+// Whether the field may come here, by the fields given.
+fn is_in_order(f: usize, given: &[bool; 30]) -> bool
+    ensures { λ r. ⌜ ((gs : List Given) → now (given .entry) ≡ flags gs → r ≡ inOrder f gs) ⌝ }
+{
+    (!format_values::fields::needs_dimension(f) | given[field::DIMENSION])
+        & (!format_values::fields::needs_space(f)
+            | (given[field::SPACE] | given[field::SPACE_DIMENSION]))
+}
+
+// The step of a line that gives no field and does not close: the number of its refusal, 0 where it is right.
+fn refuse(number: u32) -> Step
+    ensures { λ r. ⌜ r ≡ stepOf (wrong number) ⌝ }
+{
+    Step {
+        wrong: number,
+        closes: false,
+        field: field::COUNT,
+        number: 0,
+    }
+}
+
+// The field f with the descriptor t: bad descriptor 11. Of sizes the numbers are kept, of other fields at most one.
+fn take_field(f: usize, t: &[u8], dimension: u32, sizes: &mut [u64; 16]) -> Step
+    ensures { λ r. ⌜ (dimension ≤ maxAxes → _≡_ {A = Step × List ℕ} (r, now (sizes .exit)) (stepped (described dimension f (now (t .entry))) (now (sizes .entry)))) ⌝ }
+{
+    if f == field::SIZES {
+        let read = read_text::numbers::read_sizes(t, dimension as usize);
+        if !read.fine {
+            return refuse(format::BAD_DESCRIPTOR);
+        }
+        let said = read.sizes;
+        *sizes = said;
+        return Step {
+            wrong: 0,
+            closes: false,
+            field: f,
+            number: 0,
+        };
+    }
+    let x = read_descriptors::check::check(f, t, dimension);
+    if !x.fine {
+        return refuse(format::BAD_DESCRIPTOR);
+    }
+    Step {
+        wrong: 0,
+        closes: false,
+        field: f,
+        number: x.number,
+    }
+}
+
+// A known field: not in this version 8, repeated 9, out of order 10, bad descriptor 11.
+fn on_known(
+    version: u32,
+    given: &[bool; 30],
+    dimension: u32,
+    f: usize,
+    rest: &[u8],
+    sizes: &mut [u64; 16],
+) -> Step
+    requires { ⌜ f < fieldCount ⌝ }
+    ensures { λ r. ⌜ ((gs : List Given) → Known (now (given .entry)) dimension gs → _≡_ {A = Step × List ℕ} (r, now (sizes .exit)) (stepped (onField version gs (some f) (now (rest .entry))) (now (sizes .entry)))) ⌝ }
+{
+    if version < format_values::fields::since(f) {
+        return refuse(format::NOT_IN_VERSION);
+    }
+    if given[f] {
+        return refuse(format::REPEATED_FIELD);
+    }
+    if !is_in_order(f, given) {
+        return refuse(format::OUT_OF_ORDER);
+    }
+    take_field(
+        f,
+        read_descriptors::place::descriptor_of(f, rest),
+        dimension,
+        sizes,
+    )
+}
+
+// The line t of a field whose mark stands at i: a byte that it may not hold 5, unknown 7, not in this version 8, repeated 9, out of order 10, bad descriptor 11.
+fn on_field(
+    version: u32,
+    given: &[bool; 30],
+    dimension: u32,
+    t: &[u8],
+    i: usize,
+    sizes: &mut [u64; 16],
+) -> Step
+    requires { ⌜ i + 2 ≤ length (now t) ⌝ }
+    ensures { λ r. ⌜ ((gs : List Given) → Known (now (given .entry)) dimension gs → _≡_ {A = Step × List ℕ} (r, now (sizes .exit)) (stepped (onKind version gs (now (t .entry)) (otherLine (fieldMark (take i (now (t .entry))) (drop (i + 2) (now (t .entry)))))) (now (sizes .entry)))) ⌝ }
+{
+    if !read_text::bytes::is_plain(t) {
+        return refuse(format::BAD_BYTE);
+    }
+    let row = read_text::words::field_named(&t[..i]);
+    match row {
+        Row::Number(f) => on_known(version, given, dimension, f as usize, &t[i + 2..], sizes),
+        Row::Unknown => refuse(format::UNKNOWN_FIELD),
+    }
+}
+
+// The number of the refusal of a line: 5 before any other.
+fn plain_first(t: &[u8], number: u32) -> u32
+    ensures { λ r. ⌜ r ≡ (if every plain (now (t .entry)) then number else badByte) ⌝ }
+{
+    if read_text::bytes::is_plain(t) {
+        return number;
+    }
+    format::BAD_BYTE
+}
+
+// One line after line 1, by its text, after the fields given, in a header of this dimension: with no mark 6. A right line of sizes changes the sizes.
+pub fn judge_line(
+    version: u32,
+    given: &[bool; 30],
+    dimension: u32,
+    t: &[u8],
+    sizes: &mut [u64; 16],
+) -> Step
+    ensures { λ r. ⌜ ((gs : List Given) → Known (now (given .entry)) dimension gs → _≡_ {A = Step × List ℕ} (r, now (sizes .exit)) (stepped (judge version gs (now (t .entry))) (now (sizes .entry)))) ⌝ }
+{
+    match read_text::lines::kind_of(t) {
+        Kind::Empty => Step {
+            wrong: 0,
+            closes: true,
+            field: field::COUNT,
+            number: 0,
+        },
+        Kind::Comment => refuse(0),
+        Kind::Field(i) => on_field(version, given, dimension, t, i, sizes),
+        Kind::Pair(i) => refuse(plain_first(t, on_pair(version, &t[..i], &t[i + 2..]))),
+        Kind::Neither => refuse(plain_first(t, format::NO_MARK)),
+    }
+}

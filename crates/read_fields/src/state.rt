@@ -1,0 +1,166 @@
+// What the reader keeps of the fields given so far: flags, numbers, sizes; and the answer that they make.
+use format::ReadAnswer;
+use format::Reading;
+use format::field;
+use format_values::products;
+use format_values::refusals;
+use format_values::types;
+ghost use mathlib.Core.Path.{_≡_};
+ghost use mathlib.Core.Bool.{true};
+ghost use mathlib.Core.List.{List, []};
+ghost use Prim.Native.Nat.{_≤_};
+ghost use lib.ListN.{take};
+ghost use Rattle.format.specs.Limits.{maxAxes};
+ghost use Rattle.format.specs.Refusals.{atLine};
+ghost use Rattle.format.specs.Fields.{Given};
+ghost use Rattle.format.specs.Descriptors.{endianNeeded, extent, hasNeeded, capped};
+ghost use Rattle.format.specs.Header.{refused};
+ghost use Rattle.format.specs.Calls.{padded, readAnswer};
+ghost use Rattle.read_fields.specs.States.{flags, numbersOf, keptAt, Holds, finished};
+
+// What a line comes to: the number of its refusal or 0, whether it closes the header, and the field that it gives with its number; `field::COUNT` where it gives none.
+pub struct Step {
+    pub wrong: u32,
+    pub closes: bool,
+    pub field: usize,
+    pub number: u32,
+}
+
+// No field is given: the flags.
+pub fn no_flags() -> [bool; 30]
+    ensures { λ r. ⌜ r ≡ flags [] ⌝ }
+{
+    [false; 30]
+}
+
+// No field is given: the numbers.
+pub fn no_numbers() -> [u32; 30]
+    ensures { λ r. ⌜ r ≡ numbersOf [] ⌝ }
+{
+    let mut numbers = [0u32; 30];
+    numbers[field::ENDIAN] = format::NO_ENDIAN;
+    numbers
+}
+
+// No field is given: the sizes.
+pub fn no_sizes() -> [u64; 16]
+    ensures { λ r. ⌜ r ≡ padded [] ⌝ }
+{
+    [0u64; 16]
+}
+
+// Keeps that the field f is given, and its number; for `field::COUNT` nothing changes.
+pub fn keep(given: &mut [bool; 30], numbers: &mut [u32; 30], f: usize, number: u32)
+    ensures { λ r. ⌜ (now (given .exit) ≡ keptAt f true (now (given .entry))) × (now (numbers .exit) ≡ keptAt f number (now (numbers .entry))) ⌝ }
+{
+    if f < field::COUNT {
+        given[f] = true;
+        numbers[f] = number;
+    }
+}
+
+// A refusal at a line, 0 where no line is meant.
+pub fn refuse(number: u32, line: u32) -> ReadAnswer
+    ensures { λ r. ⌜ r ≡ readAnswer (refused (atLine number line)) ⌝ }
+{
+    ReadAnswer {
+        refusal: refusals::refusal_at(number, line),
+        reading: Reading {
+            version: 0,
+            form: 0,
+            dimension: 0,
+            sampletype: 0,
+            encoding: 0,
+            endian: 0,
+            sizes: [0u64; 16],
+            lineskip: 0,
+            byteskip: 0,
+            extent: 0,
+            length: 0,
+            lines: 0,
+        },
+    }
+}
+
+fn wide(n: u32) -> u64
+    ensures { λ r. ⌜ r ≡ n ⌝ }
+{
+    n as u64
+}
+
+// Whether the order of a sample's bytes matters: raw or hex samples of several bytes.
+fn endian_needed(t: u32, e: u32) -> bool
+    ensures { λ r. ⌜ r ≡ endianNeeded t e ⌝ }
+{
+    (1 < types::sample_bytes(t as u64)) & ((e == format::RAW) | (e == format::HEX))
+}
+
+// Whether the fields that are needed are given.
+fn has_needed(given: &[bool; 30], numbers: &[u32; 30]) -> bool
+    ensures { λ r. ⌜ ((gs : List Given) → now (given .entry) ≡ flags gs → now (numbers .entry) ≡ numbersOf gs → r ≡ hasNeeded gs) ⌝ }
+{
+    let endian = given[field::ENDIAN]
+        | !endian_needed(numbers[field::TYPE], numbers[field::ENCODING]);
+    given[field::DIMENSION]
+        & (given[field::TYPE] & (given[field::ENCODING] & (given[field::SIZES] & endian)))
+}
+
+// The extent, or the least number that is none where it is above.
+fn extent(dimension: u32, sampletype: u32, sizes: [u64; 16]) -> u64
+    ensures { λ r. ⌜ (dimension ≤ maxAxes → r ≡ capped (extent (take dimension sizes) sampletype)) ⌝ }
+{
+    let n = dimension as usize;
+    // no header has more axes
+    if 16 < n {
+        return 0;
+    }
+    products::times(
+        types::sample_bytes(sampletype as u64),
+        products::product(&sizes[..n]),
+    )
+}
+
+// The answer at the end of a header of so many bytes and lines.
+pub fn finish(
+    version: u32,
+    given: &[bool; 30],
+    numbers: &[u32; 30],
+    sizes: [u64; 16],
+    bytes: usize,
+    count: u32,
+) -> ReadAnswer
+    ensures { λ r. ⌜ ((gs : List Given) → Holds (now (given .entry)) (now (numbers .entry)) sizes gs → r ≡ finished version gs bytes count) ⌝ }
+{
+    if !has_needed(given, numbers) {
+        return refuse(format::MISSING_FIELD, 0);
+    }
+    let dimension = numbers[field::DIMENSION];
+    let sampletype = numbers[field::TYPE];
+    let x = extent(dimension, sampletype, sizes);
+    if format::MAX_EXTENT < x {
+        return refuse(format::EXTENT_TOO_LARGE, 0);
+    }
+    let encoding = numbers[field::ENCODING];
+    let endian = numbers[field::ENDIAN];
+    let form = given[field::DATA_FILE] as u32;
+    let lineskip = wide(numbers[field::LINE_SKIP]);
+    let byteskip = wide(numbers[field::BYTE_SKIP]);
+    let length = bytes as u64;
+    ReadAnswer {
+        refusal: refusals::FINE,
+        reading: Reading {
+            version: version,
+            form: form,
+            dimension: dimension,
+            sampletype: sampletype,
+            encoding: encoding,
+            endian: endian,
+            sizes: sizes,
+            lineskip: lineskip,
+            byteskip: byteskip,
+            extent: x,
+            length: length,
+            lines: count,
+        },
+    }
+}

@@ -1,0 +1,149 @@
+// The reading of a header: line 1, the lines after it, and the table of lines.
+use format::ReadAnswer;
+use format::field;
+use read_lines::Span;
+ghost use mathlib.Core.Path.{_≡_};
+ghost use mathlib.Core.List.{List, []};
+ghost use Prim.Native.Nat.{ℕ, _≤_};
+ghost use lib.ListN.{length, drop};
+ghost use Rattle.format.specs.declared.ReadAnswer.{ReadAnswer};
+ghost use Rattle.format.specs.Bytes.{orDefault};
+ghost use Rattle.format.specs.Limits.{maxHeader};
+ghost use Rattle.format.specs.Lines.{lines};
+ghost use Rattle.format.specs.Header.{magicVersion, walk};
+ghost use Rattle.format.specs.Calls.{readHeaderCall, readCall};
+ghost use Rattle.read_fields.specs.States.{answerFrom};
+ghost use Rattle.format.specs.EntryPoints.{readEntry};
+ghost use Rattle.read_header.specs.Tables.{readInto};
+ghost use Rattle.theorem_room.specs.Room.{Enough, tableEntries, tableRoom};
+
+// The version of a magic, 0 for any other text.
+fn magic_version(t: &[u8]) -> u32
+    ensures { λ r. ⌜ r ≡ orDefault 0 (magicVersion (now (t .entry))) ⌝ }
+{
+    if read_text::bytes::is_same(t, b"NRRD0001") {
+        return 1;
+    }
+    if read_text::bytes::is_same(t, b"NRRD00.01") {
+        return 1;
+    }
+    if read_text::bytes::is_same(t, b"NRRD0002") {
+        return 2;
+    }
+    if read_text::bytes::is_same(t, b"NRRD0003") {
+        return 3;
+    }
+    if read_text::bytes::is_same(t, b"NRRD0004") {
+        return 4;
+    }
+    if read_text::bytes::is_same(t, b"NRRD0005") {
+        return 5;
+    }
+    0
+}
+
+// The lines after line 1, which ends at `from`.
+fn read_lines(file: &[u8], from: usize, version: u32) -> ReadAnswer
+    requires { ⌜ (from ≤ length (now file)) × (from ≤ maxHeader) ⌝ }
+    ensures { λ r. ⌜ r ≡ answerFrom version 2 from (walk version 2 from [] (lines (drop from (now (file .entry))))) ⌝ }
+{
+    let mut given = read_fields::state::no_flags();
+    let mut numbers = read_fields::state::no_numbers();
+    let mut sizes = read_fields::state::no_sizes();
+    let mut at = from;
+    let mut n: u32 = 2;
+    while at < file.len() {
+        match read_lines::line_at(file, at) {
+            Span::Past => {
+                return read_fields::state::refuse(format::HEADER_TOO_LONG, n);
+            }
+            Span::Found(text_end, next) => {
+                if format::MAX_LINES < n {
+                    return read_fields::state::refuse(format::TOO_MANY_LINES, n);
+                }
+                let dimension = numbers[field::DIMENSION];
+                let step = read_fields::judge::judge_line(
+                    version,
+                    &given,
+                    dimension,
+                    &file[at..text_end],
+                    &mut sizes,
+                );
+                if step.wrong != 0 {
+                    return read_fields::state::refuse(step.wrong, n);
+                }
+                if step.closes {
+                    return read_fields::state::finish(version, &given, &numbers, sizes, next, n);
+                }
+                read_fields::state::keep(&mut given, &mut numbers, step.field, step.number);
+                at = next;
+                n += 1;
+            }
+        }
+    }
+    if given[field::DATA_FILE] {
+        return read_fields::state::finish(version, &given, &numbers, sizes, at, n - 1);
+    }
+    read_fields::state::refuse(format::NO_END, 0)
+}
+
+// The reading of a file's header, without the table.
+pub fn read_header(file: &[u8]) -> ReadAnswer
+    ensures { λ r. ⌜ r ≡ readHeaderCall (now (file .entry)) ⌝ }
+{
+    if format::MAX_FILE < file.len() {
+        return read_fields::state::refuse(format::FILE_TOO_LONG, 0);
+    }
+    if file.len() == 0 {
+        return read_fields::state::refuse(format::NO_MAGIC, 1);
+    }
+    match read_lines::line_at(file, 0) {
+        Span::Past => {
+            return read_fields::state::refuse(format::NO_MAGIC, 1);
+        }
+        Span::Found(text_end, next) => {
+            if text_end == next {
+                return read_fields::state::refuse(format::NO_MAGIC, 1);
+            }
+            let version = magic_version(&file[0..text_end]);
+            if version == 0 {
+                return read_fields::state::refuse(format::NO_MAGIC, 1);
+            }
+            return read_lines(file, next, version);
+        }
+    }
+}
+
+// The reading of a file's header, and where each of its lines starts, at the front of a table that is lent as a list or as bytes.
+fn read_into(file: &[u8], list: &mut [u32], bytes: &mut [u8], width: usize) -> ReadAnswer
+    ensures { λ r. ⌜ _≡_ {A = ReadAnswer × (List ℕ × List ℕ)} (r, (now (list .exit), now (bytes .exit))) (readInto width (now (file .entry)) (now (list .entry)) (now (bytes .entry))) ⌝ }
+{
+    let answer = read_header(file);
+    if answer.refusal.number != 0 {
+        return answer;
+    }
+    let count = answer.reading.lines as usize;
+    if read_table::entries(list, bytes, width) < count {
+        return read_fields::state::refuse(format::LENT_TOO_SHORT, 0);
+    }
+    read_table::fill(file, list, bytes, width, count);
+    answer
+}
+
+// The same for a table of numbers. 1,024 entries are enough for any file.
+pub fn read(file: &[u8], table: &mut [u32]) -> ReadAnswer
+    ensures call { λ r. ⌜ _≡_ {A = ReadAnswer × List ℕ} (r, now (table .exit)) (readCall (now (file .entry)) (now (table .entry))) ⌝ }
+    ensures enough { λ r. ⌜ (tableEntries ≤ length (now (table .entry)) → (r ≡ readHeaderCall (now (file .entry))) × Enough (r .refusal)) ⌝ }
+{
+    let mut none = [0u8; 1];
+    read_into(file, table, &mut none, read_table::LISTED)
+}
+
+// The same for a table in bytes, 4 an entry.
+pub fn read_to_bytes(file: &[u8], table: &mut [u8]) -> ReadAnswer
+    ensures call { λ r. ⌜ _≡_ {A = ReadAnswer × List ℕ} (r, now (table .exit)) (readEntry (now (file .entry)) (now (table .entry))) ⌝ }
+    ensures enough { λ r. ⌜ (tableRoom ≤ length (now (table .entry)) → (r ≡ readHeaderCall (now (file .entry))) × Enough (r .refusal)) ⌝ }
+{
+    let mut none = [0u32; 1];
+    read_into(file, &mut none, table, read_table::IN_BYTES)
+}

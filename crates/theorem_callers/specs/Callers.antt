@@ -1,0 +1,148 @@
+-- What the demands say of the bytes that callers in C lend, beyond what each entry point's own contract says, as one statement: `CallersHold`.
+-- A refused call leaves them (demand 1), what is written is read back (demand 2), lists of settings (demand 3).
+-- It speaks of what the entry points answer, which their contracts cite (EntryPoints.antt, Calls.antt, Listing.antt), over the bytes that callers lend,
+-- however many. Numbers in lent bytes have their low byte first: 4 bytes an entry of a table, 8 a size or a sample (Boundary.antt).
+use Prim.Native.Nat.{ℕ, _*_, _/_, _≤_}
+use mathlib.Core.Path.{_≡_}
+use mathlib.Core.Bool.{not}
+use mathlib.Core.List.{List, []}
+use lib.Dec.{eqb}
+use lib.ListN.{length, take, drop}
+use Rattle.format.specs.declared.Refusal.{Refusal}
+use Rattle.format.specs.declared.CountAnswer.{CountAnswer}
+use Rattle.format.specs.Bytes.{over, isSome, orElse, orDefault}
+use Rattle.format.specs.Refusals.{fine}
+use Rattle.format.specs.Lines.{Line}
+use Rattle.format.specs.Fields.{Given}
+use Rattle.format.specs.Descriptors.{sampleBytes}
+use Rattle.format.specs.Header.{Entry, accepted, header, valueOf, headerLength}
+use Rattle.format.specs.Writer.{dataBytes}
+use Rattle.format.specs.Settings.{Lent, lent, Setting}
+use Rattle.format.specs.Calls.{readHeaderCall, copyValue, copyValueCall, dataPlaceCall, callOn, left, setKeysBy, setKeys}
+use Rattle.format.specs.Listing.{listingCall}
+use Rattle.format.specs.Boundary.{entryBytes, wordBytes, numbersOf, samplesLent}
+use Rattle.format.specs.EntryPoints.{readEntry, samplesEntry, writeEntry, setKeyEntry}
+use Rattle.format.specs.Laws.{AllBytes}
+use Rattle.theorem_roundtrip.specs.RoundTrip.{readBack, dataBack}
+use Rattle.theorem_lists.specs.Lists.{tableIn, countIn, fileIn, lastAccepted, resized, Settled, firstCase, setCases}
+
+-- a call answers the number of its refusal, 0 where nothing is refused (document 01, "Numbers of refusal")
+abbrev pub NotRefused : Refusal → Type 0
+NotRefused r = r .number ≡ 0
+
+abbrev pub Refused : Refusal → Type 0
+Refused r = NotRefused r → ⊥
+
+-- ---- demand 1: a refused call leaves every lent byte as it was (document 01, "Numbers of refusal")
+
+pub record RefusedKeeps : Type 0 where
+  -- craneholt_read: the table
+  pub read : (file table : List ℕ) → AllBytes table
+      → Refused (readEntry file table .0 .refusal) → readEntry file table .1 ≡ table
+  -- craneholt_copy_value: the buffer
+  pub value : (file key out : List ℕ)
+      → Refused (copyValueCall file key out .0 .refusal) → copyValueCall file key out .1 ≡ out
+  -- craneholt_samples: the list
+  pub samples : (file second list : List ℕ) → AllBytes list
+      → Refused (samplesEntry file second list .0 .refusal) → samplesEntry file second list .1 ≡ list
+  -- craneholt_write: the buffer
+  pub write : (version : ℕ) (sizes : List ℕ) (t e endian : ℕ) (samples out : List ℕ)
+      → Refused (writeEntry version sizes t e endian samples out .0 .refusal) → writeEntry version sizes t e endian samples out .1 ≡ out
+  -- craneholt_set_key: buffer and table; used length and count are answered as they were lent
+  pub set : (buf : List ℕ) (used : ℕ) (table : List ℕ) (count : ℕ) (key value : List ℕ) → AllBytes table
+      → Refused (setKeyEntry buf used table count key value .0 .refusal)
+      → left (setKeyEntry buf used table count key value) ≡ lent buf used table count
+  -- craneholt_listing: the buffer
+  pub listing : (file out : List ℕ)
+      → Refused (listingCall file out .0 .refusal) → listingCall file out .1 ≡ out
+
+-- ---- demand 2: what craneholt_write wrote is read back (document 01, "Writer")
+
+-- the bytes of the whole samples; a rest too short for one is not used
+abbrev pub wholeSamples : List ℕ → List ℕ
+wholeSamples s = take (wordBytes * (length s / wordBytes)) s
+
+abbrev pub countOfSamples : List ℕ → CountAnswer
+countOfSamples s = record { refusal = fine; count = length s / wordBytes }
+
+-- the buffer `out` was lent and came back as `after`, with a file of `written` bytes at its front; whatever second file and list are lent to the readers
+pub record FileReadBack (version : ℕ) (sizes : List ℕ) (t e endian : ℕ) (samples out : List ℕ) (written : ℕ) (after : List ℕ) : Type 0 where
+  -- the file fits, and bytes past it are as they were
+  pub fits : written ≤ length out
+  pub past : drop written after ≡ drop written out
+  -- craneholt_read_header answers the numbers that went in (RoundTrip.antt)
+  pub reading : readHeaderCall (take written after) ≡ readBack version (numbersOf wordBytes sizes) t e endian
+  -- craneholt_data: right after the header to the end of the file, and the bytes there are the data that was to be written
+  pub place : (second : List ℕ) → dataPlaceCall (take written after) second ≡ dataBack version (numbersOf wordBytes sizes) t e endian (samplesLent samples)
+  pub part : (second : List ℕ) → let d = dataPlaceCall (take written after) second in
+      take (d .length) (drop (d .start) (take written after)) ≡ dataBytes e (sampleBytes t) endian (samplesLent samples)
+  -- craneholt_samples with room for them: as many, and the very bytes that were lent at the front of the list; the rest of it as it was
+  pub back : (second list : List ℕ) → AllBytes list → length (wholeSamples samples) ≤ length list
+      → samplesEntry (take written after) second list ≡ (countOfSamples samples, over (wholeSamples samples) list)
+
+-- of everything that craneholt_write accepts
+abbrev pub WritesAreRead : Type 0
+WritesAreRead =
+    (version : ℕ) (sizes : List ℕ) (t e endian : ℕ) (samples out : List ℕ) → AllBytes samples
+    → let a = writeEntry version sizes t e endian samples out in
+    NotRefused (a .0 .refusal) → FileReadBack version sizes t e endian samples out (a .0 .length) (a .1)
+
+-- ---- demand 3: any list of calls of craneholt_set_key after craneholt_read, each lent what the one before it left (document 01,
+-- "Lists of settings")
+
+-- what is lent, its table as the numbers that the table's bytes hold
+abbrev pub inNumbers : Lent → Lent
+inNumbers (lent buf used table count) = lent buf used (numbersOf entryBytes table) count
+
+-- the bytes of as many entries as the count
+abbrev pub bytesCounted : Lent → ℕ
+bytesCounted l = entryBytes * countIn l
+
+-- `first` was read, and `table` was lent to craneholt_read; `after` is what the list left, `done` the settings of it that were accepted
+pub record Carried (first table : List ℕ) (after : Lent) (done : List Setting) : Type 0 where
+  -- the first reading, and what lists of settings do (Lists.antt): header lines, data and its place, used length
+  pub first-entries : List Entry
+  pub first-fields : List Given
+  pub first-rest : List Line
+  pub reading : header first ≡ accepted first-entries first-fields first-rest
+  pub settled : Settled first first-entries first-fields first-rest (inNumbers after) done
+  -- the table has room for the entries of the count; past them its bytes are as lent to craneholt_read, a rest too short for one too
+  pub room : bytesCounted after ≤ length (tableIn after)
+  pub long : length (tableIn after) ≡ length table
+  pub past : drop (bytesCounted after) (tableIn after) ≡ drop (bytesCounted after) table
+  -- a fresh craneholt_read with a table of its own, which has room, answers the first reading but for the header's length and lines, which
+  -- are as many as the count, and leaves the very bytes of the carried table
+  pub fresh : (own : List ℕ) → AllBytes own → bytesCounted after ≤ length own
+      → readEntry (fileIn after) own
+      ≡ (
+        record { refusal = fine; reading = resized (headerLength (settled .entries)) (countIn after) (readHeaderCall first .reading) },
+        over (take (bytesCounted after) (tableIn after)) own,
+      )
+  -- craneholt_copy_value: the value accepted last for the key, or else the one that it had in the first reading
+  pub value : (key out : List ℕ) → copyValueCall (fileIn after) key out ≡ copyValue out (orElse (lastAccepted key done) (valueOf key first-entries))
+  -- craneholt_samples answers and leaves what it did before, with any second file and list
+  pub samples : (second list : List ℕ) → samplesEntry (fileIn after) second list ≡ samplesEntry first second list
+
+pub record SettingsAreCarried : Type 0 where
+  pub lists : (buf : List ℕ) (used : ℕ) (table : List ℕ) → used ≤ length buf → AllBytes table
+      → let r = readEntry (take used buf) table in
+      NotRefused (r .0 .refusal)
+      → (ss : List Setting)
+      → let after = setKeysBy setKeyEntry ss (lent buf used (r .1) (r .0 .reading .lines)) [] in
+      Carried (take used buf) table (after .0) (after .1)
+  -- whatever is lent, in such a list or not: the calls leave and accept what the calls on numbers do, so that `SettingsHold` (Lists.antt) holds of them
+  pub numbers : (l : Lent) (ss : List Setting) → AllBytes (tableIn l)
+      → let after = setKeysBy setKeyEntry ss l [] in setKeys ss (inNumbers l) [] ≡ (inNumbers (after .0), after .1)
+  -- past the entries of the count the table's bytes stay
+  pub tables : (l : Lent) (ss : List Setting) → AllBytes (tableIn l)
+      → let after = setKeysBy setKeyEntry ss l [] .0 in drop (bytesCounted after) (tableIn after) ≡ drop (bytesCounted after) (tableIn l)
+  -- a call is refused by the first case that holds, and accepted, which the number 0 says, exactly when none does
+  pub cases : (l : Lent) (s : Setting) → callOn setKeyEntry l s .0 .refusal ≡ orDefault fine (firstCase (setCases (inNumbers l) s))
+  pub taken : (l : Lent) (s : Setting) → eqb (callOn setKeyEntry l s .0 .refusal .number) 0 ≡ not (isSome (firstCase (setCases (inNumbers l) s)))
+
+-- ---- the statement
+
+pub record CallersHold : Type 0 where
+  pub refused : RefusedKeeps
+  pub written : WritesAreRead
+  pub set : SettingsAreCarried
