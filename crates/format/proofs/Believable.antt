@@ -2,6 +2,7 @@
 use Rattle.format.specs.Laws.{Laws}
 use Rattle.format.proofs.Lines.{unlines-of-lines, shape-of-lines, lines-unique, start-of-line}
 use Rattle.format.proofs.Pairs.{unescape-of-escape, escape-of-unescape, escape-injective, mark-of-pair, judge-of-pair, pair-key-fine, pair-value-fine}
+use Rattle.format.proofs.Descriptors.{carried-any}
 use Rattle.format.proofs.Header.{header-ends, data-area}
 use Rattle.format.proofs.Found.{field-found, key-found}
 use Rattle.format.proofs.Rules.{accepted-keeps, keeps-accepted, refused-keeps-none, keeps-none-refused}
@@ -28,6 +29,7 @@ laws =
       keeps-accepted = keeps-accepted;
       refused-keeps-none = refused-keeps-none;
       keeps-none-refused = keeps-none-refused;
+      carried-any = carried-any;
       header-ends = header-ends;
       data-area = data-area;
       field-found = field-found;

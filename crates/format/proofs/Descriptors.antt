@@ -1,14 +1,16 @@
--- Laws of the text of a descriptor: it is a part of what follows its field's mark.
+-- Laws of descriptors: the text is a part of what follows its field's mark, and a carried field may have any.
 -- Assumes nothing.
 use Prim.Native.Nat.{ℕ, suc, _≤_, _-_}
 use native.Mathlib.Omega.{arith}
-use mathlib.Core.Path.{_≡_, refl, ap}
-use mathlib.Core.Bool.{Bool, true, false}
+use mathlib.Core.Path.{_≡_, refl, sym, ap, _∙_}
+use mathlib.Core.Bool.{Bool, true, false, false≢true}
 use mathlib.Core.List.{List, [], _∷_}
+use lib.Dec.{eqb}
 use lib.ListN.{length, take, drop}
+use borrow.Author.Tests.{ne-eqb}
 use Rattle.format.specs.Bytes.{spaceOrTab, if_then_else_}
-use Rattle.format.specs.Fields.{isUnderstood}
-use Rattle.format.specs.Descriptors.{trimFront, trimByte, trimEnd, fromDescriptor}
+use Rattle.format.specs.Fields.{isUnderstood, fieldAt, dimension, type, encoding, endian, sizes, lineSkip, byteSkip, dataFile}
+use Rattle.format.specs.Descriptors.{trimFront, trimByte, trimEnd, fromDescriptor, mayDescribe}
 
 -- ---- where it starts
 
@@ -67,3 +69,13 @@ take-trimmed (b ∷ s) = go (trimEnd s) (take-trimmed s)
     go : (t : List ℕ) → take (length t) s ≡ t → take (length (trimByte b t)) (b ∷ s) ≡ trimByte b t
     go [] h = last (spaceOrTab b)
     go (c ∷ t) h = ap (λ (u : List ℕ). b ∷ u) h
+
+-- ---- carried fields
+
+pub carried-any : (n f : ℕ) (t : List ℕ) → isUnderstood f ≡ false → mayDescribe n f t ≡ true
+unfolding fieldAt mayDescribe
+carried-any n f t h =
+    rw (no dimension refl, no type refl, no encoding refl, no endian refl, no sizes refl, no lineSkip refl, no byteSkip refl, no dataFile refl)
+  where
+    no : (g : ℕ) → isUnderstood g ≡ true → eqb f g ≡ false
+    no g u = ne-eqb f g (λ (e : f ≡ g). false≢true (sym h ∙ (ap isUnderstood e ∙ u)))

@@ -12,8 +12,8 @@ use Rattle.format.specs.Bytes.{every, over, LF, CR}
 use Rattle.format.specs.Limits.{maxFile}
 use Rattle.format.specs.Lines.{Line, line, lf, crlf, eof, lines, unlines, starts}
 use Rattle.format.specs.Pairs.{pairMark, mark, escape, unescape}
-use Rattle.format.specs.Fields.{Given}
-use Rattle.format.specs.Descriptors.{NumberKind, signed, number, namesFollow}
+use Rattle.format.specs.Fields.{Given, isUnderstood}
+use Rattle.format.specs.Descriptors.{NumberKind, signed, number, namesFollow, mayDescribe}
 use Rattle.format.specs.Header.{Entry, linesOf, right, judge, pair, refused, accepted, header, headerLength}
 use Rattle.format.specs.Rules.{closed, KeepsRules}
 use Rattle.format.specs.Samples.{inType, sampleValue, valueBytes, hexRun, hexBytes, tokenValue, samplesOf}
@@ -85,6 +85,8 @@ pub record Laws : Type 0 where
   pub keeps-accepted : (file : List ℕ) {es : List Entry} {gs : List Given} {r : List Line} → KeepsRules file es gs r → header file ≡ accepted es gs r
   pub refused-keeps-none : (file : List ℕ) {x : Refusal} → header file ≡ refused x → (es : List Entry) (gs : List Given) (r : List Line) → KeepsRules file es gs r → ⊥
   pub keeps-none-refused : (file : List ℕ) → ((es : List Entry) (gs : List Given) (r : List Line) → KeepsRules file es gs r → ⊥) → (x : Refusal) × (header file ≡ refused x)
+  -- a field that is not understood may have any descriptor
+  pub carried-any : (n f : ℕ) (t : List ℕ) → isUnderstood f ≡ false → mayDescribe n f t ≡ true
   -- what follows the closing line decides nothing about the header; the data area is what follows it
   pub header-ends : (s : List ℕ) {es : List Entry} {gs : List Given} {r : List Line} → header s ≡ accepted es gs r → closed es ≡ true → (d : List ℕ) → length (unlines (linesOf es) ++ d) ≤ maxFile → header (unlines (linesOf es) ++ d) ≡ accepted es gs (lines d)
   pub data-area : (s : List ℕ) {es : List Entry} {gs : List Given} {r : List Line} → header s ≡ accepted es gs r → drop (headerLength es) s ≡ unlines r

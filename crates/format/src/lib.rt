@@ -41,6 +41,9 @@ const LISTED_HEADER: usize = if MAX_HEADER < MAX_LISTED {
 
 pub const MAX_LISTING: usize = MAX_READING + LISTED_HEADER + 4 * MAX_LINES as usize;
 
+// The first version that has key pairs.
+pub const PAIRS_SINCE: u32 = 2;
+
 // The numbers of refusal.
 pub const FILE_TOO_LONG: u32 = 1;
 

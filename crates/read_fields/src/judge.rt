@@ -24,7 +24,7 @@ fn on_pair(version: u32, key: &[u8], value: &[u8]) -> u32
     if key.len() == 0 {
         return format::NO_MARK;
     }
-    if version < 2 {
+    if version < format::PAIRS_SINCE {
         return format::NOT_IN_VERSION;
     }
     if !read_text::escapes::unescapes(key) {
@@ -37,7 +37,7 @@ fn on_pair(version: u32, key: &[u8], value: &[u8]) -> u32
 }
 
 // Whether the field may come here, by the fields given.
-fn is_in_order(f: usize, given: &[bool; 30]) -> bool
+fn is_in_order(f: usize, given: &[bool; field::COUNT]) -> bool
     ensures { λ r. ⌜ ((gs : List Given) → now (given .entry) ≡ flags gs → r ≡ inOrder f gs) ⌝ }
 {
     (!format_values::fields::needs_dimension(f) | given[field::DIMENSION])
@@ -90,7 +90,7 @@ fn take_field(f: usize, t: &[u8], dimension: u32, sizes: &mut [u64; 16]) -> Step
 // A known field: not in this version 8, repeated 9, out of order 10, bad descriptor 11.
 fn on_known(
     version: u32,
-    given: &[bool; 30],
+    given: &[bool; field::COUNT],
     dimension: u32,
     f: usize,
     rest: &[u8],
@@ -119,7 +119,7 @@ fn on_known(
 // The line t of a field whose mark stands at i: a byte that it may not hold 5, unknown 7, not in this version 8, repeated 9, out of order 10, bad descriptor 11.
 fn on_field(
     version: u32,
-    given: &[bool; 30],
+    given: &[bool; field::COUNT],
     dimension: u32,
     t: &[u8],
     i: usize,
@@ -151,7 +151,7 @@ fn plain_first(t: &[u8], number: u32) -> u32
 // One line after line 1, by its text, after the fields given, in a header of this dimension: with no mark 6. A right line of sizes changes the sizes.
 pub fn judge_line(
     version: u32,
-    given: &[bool; 30],
+    given: &[bool; field::COUNT],
     dimension: u32,
     t: &[u8],
     sizes: &mut [u64; 16],

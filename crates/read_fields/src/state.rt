@@ -27,17 +27,17 @@ pub struct Step {
 }
 
 // No field is given: the flags.
-pub fn no_flags() -> [bool; 30]
+pub fn no_flags() -> [bool; field::COUNT]
     ensures { λ r. ⌜ r ≡ flags [] ⌝ }
 {
-    [false; 30]
+    [false; field::COUNT]
 }
 
 // No field is given: the numbers.
-pub fn no_numbers() -> [u32; 30]
+pub fn no_numbers() -> [u32; field::COUNT]
     ensures { λ r. ⌜ r ≡ numbersOf [] ⌝ }
 {
-    let mut numbers = [0u32; 30];
+    let mut numbers = [0u32; field::COUNT];
     numbers[field::ENDIAN] = format::NO_ENDIAN;
     numbers
 }
@@ -50,7 +50,12 @@ pub fn no_sizes() -> [u64; 16]
 }
 
 // Keeps that the field f is given, and its number; for `field::COUNT` nothing changes.
-pub fn keep(given: &mut [bool; 30], numbers: &mut [u32; 30], f: usize, number: u32)
+pub fn keep(
+    given: &mut [bool; field::COUNT],
+    numbers: &mut [u32; field::COUNT],
+    f: usize,
+    number: u32,
+)
     ensures { λ r. ⌜ (now (given .exit) ≡ keptAt f true (now (given .entry))) × (now (numbers .exit) ≡ keptAt f number (now (numbers .entry))) ⌝ }
 {
     if f < field::COUNT {
@@ -96,7 +101,7 @@ fn endian_needed(t: u32, e: u32) -> bool
 }
 
 // Whether the fields that are needed are given.
-fn has_needed(given: &[bool; 30], numbers: &[u32; 30]) -> bool
+fn has_needed(given: &[bool; field::COUNT], numbers: &[u32; field::COUNT]) -> bool
     ensures { λ r. ⌜ ((gs : List Given) → now (given .entry) ≡ flags gs → now (numbers .entry) ≡ numbersOf gs → r ≡ hasNeeded gs) ⌝ }
 {
     let endian = given[field::ENDIAN]
@@ -123,8 +128,8 @@ fn extent(dimension: u32, sampletype: u32, sizes: [u64; 16]) -> u64
 // The answer at the end of a header of so many bytes and lines.
 pub fn finish(
     version: u32,
-    given: &[bool; 30],
-    numbers: &[u32; 30],
+    given: &[bool; field::COUNT],
+    numbers: &[u32; field::COUNT],
     sizes: [u64; 16],
     bytes: usize,
     count: u32,

@@ -130,7 +130,7 @@ fn read_into(file: &[u8], list: &mut [u32], bytes: &mut [u8], width: usize) -> R
     answer
 }
 
-// The same for a table of numbers. 1,024 entries are enough for any file.
+// The same for a table of numbers. `MAX_LINES` entries are enough for any file.
 pub fn read(file: &[u8], table: &mut [u32]) -> ReadAnswer
     ensures call { λ r. ⌜ _≡_ {A = ReadAnswer × List ℕ} (r, now (table .exit)) (readCall (now (file .entry)) (now (table .entry))) ⌝ }
     ensures enough { λ r. ⌜ (tableEntries ≤ length (now (table .entry)) → (r ≡ readHeaderCall (now (file .entry))) × Enough (r .refusal)) ⌝ }

@@ -46,7 +46,7 @@ fn refuse(number: u32) -> Plan
 fn asked(version: u32, key: &[u8], value: &[u8], fine: bool) -> u32
     ensures { λ r. ⌜ r ≡ askedNumber version (keyFine (now (key .entry))) (valueFine (now (value .entry))) fine ⌝ }
 {
-    if version < 2 {
+    if version < format::PAIRS_SINCE {
         return format::NOT_IN_VERSION;
     }
     if !set_pair::key_fine(key) {

@@ -61,7 +61,7 @@ fn set_into(
 }
 
 // The same for a table of numbers. A refused call alters nothing.
-// A table of 1,024 entries is enough for any file, and a buffer of `used` bytes, two for each byte of key and value, and 4.
+// A table of `MAX_LINES` entries is enough for any file, and a buffer of `used` bytes, two for each byte of key and value, and 4.
 pub fn set_key(
     buf: &mut [u8],
     used: usize,
