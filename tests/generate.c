@@ -318,10 +318,10 @@ static void put_field(struct maker *m, int field)
 /* Whether the field may stand here: version, order, once. */
 static int may_stand(const struct maker *m, int field)
 {
-    int order = model_fields[field].order;
+    int flags = model_fields[field].flags;
     return m->wanted[field] && !m->done[field] && m->v->version >= model_fields[field].version
-           && (!(order & MODEL_PER_AXIS) || m->done[DIMENSION])
-           && (!(order & MODEL_IN_SPACE) || m->done[SPACE] || m->done[SPACE_DIMENSION]);
+           && (!(flags & MODEL_PER_AXIS) || m->done[DIMENSION])
+           && (!(flags & MODEL_IN_SPACE) || m->done[SPACE] || m->done[SPACE_DIMENSION]);
 }
 
 /* Any of the fields that may stand here, or -1. */
@@ -355,7 +355,7 @@ static void put_misplaced(struct maker *m)
     int field, ordered = random_chance(50);
     do
         field = (int)random_below(MODEL_FIELDS);
-    while (ordered && model_fields[field].order == 0);
+    while (ordered && !(model_fields[field].flags & (MODEL_PER_AXIS | MODEL_IN_SPACE)));
     put_field(m, field);
 }
 

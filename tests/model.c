@@ -134,20 +134,19 @@ static int read_numbers(const uint8_t *text, size_t length, size_t count,
 
 enum field {
     DIMENSION, TYPE, ENCODING, ENDIAN, SIZES, LINE_SKIP, BYTE_SKIP, DATA_FILE,
-    UNDERSTOOD, /* how many fields are understood; the carried ones start here */
     SPACE = 16, SPACE_DIMENSION = 17
 };
 
 /* "Understood fields", "Carried fields", "Versions", "Order" */
 const struct model_field model_fields[MODEL_FIELDS] = {
-    {"dimension", NULL, 1, 0},
-    {"type", NULL, 1, 0},
-    {"encoding", NULL, 1, 0},
-    {"endian", NULL, 1, 0},
-    {"sizes", NULL, 1, MODEL_PER_AXIS},
-    {"line skip", "lineskip", 1, 0},
-    {"byte skip", "byteskip", 1, 0},
-    {"data file", "datafile", 1, 0},
+    {"dimension", NULL, 1, MODEL_UNDERSTOOD},
+    {"type", NULL, 1, MODEL_UNDERSTOOD},
+    {"encoding", NULL, 1, MODEL_UNDERSTOOD},
+    {"endian", NULL, 1, MODEL_UNDERSTOOD},
+    {"sizes", NULL, 1, MODEL_PER_AXIS | MODEL_UNDERSTOOD},
+    {"line skip", "lineskip", 1, MODEL_UNDERSTOOD},
+    {"byte skip", "byteskip", 1, MODEL_UNDERSTOOD},
+    {"data file", "datafile", 1, MODEL_UNDERSTOOD},
     {"block size", "blocksize", 1, 0},
     {"content", NULL, 1, 0},
     {"min", NULL, 1, 0},
@@ -303,9 +302,9 @@ static int field_named(const uint8_t *name, size_t length)
 /* "Order" */
 static int in_order(const struct header *h, int field)
 {
-    if ((model_fields[field].order & MODEL_PER_AXIS) && !h->present[DIMENSION])
+    if ((model_fields[field].flags & MODEL_PER_AXIS) && !h->present[DIMENSION])
         return 0;
-    if ((model_fields[field].order & MODEL_IN_SPACE) && !h->present[SPACE] && !h->present[SPACE_DIMENSION])
+    if ((model_fields[field].flags & MODEL_IN_SPACE) && !h->present[SPACE] && !h->present[SPACE_DIMENSION])
         return 0;
     return 1;
 }
@@ -392,12 +391,13 @@ static uint32_t read_field(struct header *h, const uint8_t *file, struct line li
         return 9;
     if (!in_order(h, field))
         return 10;
+    int understood = model_fields[field].flags & MODEL_UNDERSTOOD;
     /* blanks at the end drop, in understood fields also those in front */
     while (end > start && is_space_or_tab(file[end - 1]))
         end--;
-    while (field < UNDERSTOOD && start < end && is_space_or_tab(file[start]))
+    while (understood && start < end && is_space_or_tab(file[start]))
         start++;
-    if (field < UNDERSTOOD && !understand(&h->reading, field, file + start, end - start))
+    if (understood && !understand(&h->reading, field, file + start, end - start))
         return 11;
     h->present[field] = 1;
     h->descriptor[field] = start;

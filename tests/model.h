@@ -10,17 +10,18 @@ enum {
     MODEL_ENCODINGS = 3
 };
 
-/* what a field comes after */
+/* what a field comes after, and whether it is understood */
 enum {
-    MODEL_PER_AXIS = 1, /* after dimension */
-    MODEL_IN_SPACE = 2  /* after space or space dimension */
+    MODEL_PER_AXIS = 1,  /* after dimension */
+    MODEL_IN_SPACE = 2,  /* after space or space dimension */
+    MODEL_UNDERSTOOD = 4 /* or else carried as text */
 };
 
-/* the fields by number: name, other spelling or NULL, first version, order */
+/* the fields by number: name, other spelling or NULL, first version, order and understood */
 struct model_field {
     const char *name, *other;
     uint32_t version;
-    int order;
+    int flags;
 };
 
 /* the types by number: names (the first is the one that is written), bytes and
