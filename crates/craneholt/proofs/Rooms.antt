@@ -10,7 +10,7 @@ use Rattle.format.specs.declared.WriteAnswer.{WriteAnswer}
 use Rattle.format.specs.Header.{Outcome, refused, accepted, header}
 use Rattle.format.specs.Calls.{readingOf, readAnswer, readHeaderCall}
 use Rattle.format.specs.Listing.{listing, listingCall}
-use Rattle.theorem_room.specs.Room.{Enough, samplesRoom, sizesRoom}
+use Rattle.format.specs.Room.{Enough, samplesRoom, sizesRoom}
 use Rattle.theorem_room.proofs.Enough.{same-refusal}
 use Rattle.data_place.proofs.Headers.{header-sizes}
 use Rattle.format.specs.Limits.{maxListing}

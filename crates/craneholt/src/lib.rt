@@ -23,7 +23,7 @@ ghost use Rattle.format.specs.Calls.{readHeaderCall, findFieldCall, findKeyCall
 ghost use Rattle.format.specs.Found.{FindsField, FindsKey};
 ghost use Rattle.format.specs.EntryPoints.{readEntry, samplesEntry, sampleNumberEntry, writeEntry, setKeyEntry};
 ghost use Rattle.format.specs.Listing.{listingCall};
-ghost use Rattle.theorem_room.specs.Room.{Enough, tableRoom, samplesRoom, sizesRoom, writeRoom, valueRoom, Copied, setRoom};
+ghost use Rattle.format.specs.Room.{Enough, tableRoom, samplesRoom, sizesRoom, writeRoom, valueRoom, Copied, setRoom};
 
 // The reading of a file's header.
 #[no_mangle]

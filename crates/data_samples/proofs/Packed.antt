@@ -14,7 +14,7 @@ use Rattle.format.proofs.Samples.{all-bytes}
 use Rattle.format.proofs.Boundary.{length-samples, lent-of-samples}
 use Rattle.lent_numbers.specs.Packed.{samplesOver}
 use Rattle.format.specs.EntryPoints.{samplesEntry}
-use Rattle.theorem_room.specs.Room.{Enough, samplesRoom}
+use Rattle.format.specs.Room.{Enough, samplesRoom}
 use Rattle.theorem_room.proofs.Enough.{samples-answered}
 use Rattle.data_samples.proofs.Parts.{list-kept, list-filled}
 

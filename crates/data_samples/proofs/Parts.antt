@@ -27,7 +27,7 @@ use Rattle.format.specs.Data.{afterSkips, Place, nowhere, part, placeFrom, plac
 use Rattle.format.specs.Samples.{Decoded, sampleValue, ordered, rawSamples, textSamples, HexRun, noHex, hexRun, hexBytes, hexSample, hexSamples, withoutBlanks, samplesOf}
 use Rattle.format.specs.Calls.{readingOf, readAnswer, readHeaderCall, dataAnswer, noSamples, countOf, decoded, answerDecoded, checkAt, checkIn, checkSamplesCall, seenIn, samplesCall}
 use Rattle.format.proofs.Numbered.{NumberedOutcome, header-numbered}
-use Rattle.theorem_room.specs.Room.{Enough, samplesRoom}
+use Rattle.format.specs.Room.{Enough, samplesRoom}
 use Rattle.theorem_room.proofs.Enough.{samples-answered}
 use Rattle.lent_numbers.specs.Widths.{Width, kindBy, endianBy}
 use Rattle.data_place.specs.Places.{IsReading}

@@ -19,7 +19,7 @@ ghost use Rattle.format.specs.Boundary.{wordBytes};
 ghost use Rattle.format.specs.Header.{header};
 ghost use Rattle.format.specs.Calls.{noSamples, checkSamplesCall, samplesCall};
 ghost use Rattle.format.specs.EntryPoints.{samplesEntry};
-ghost use Rattle.theorem_room.specs.Room.{Enough, samplesRoom};
+ghost use Rattle.format.specs.Room.{Enough, samplesRoom};
 ghost use Rattle.data_samples.specs.Parts.{Placed};
 
 // There are no samples.

@@ -3,7 +3,7 @@ use Rattle.format.specs.Laws.{Laws}
 use Rattle.format.proofs.Lines.{unlines-of-lines, shape-of-lines, lines-unique, start-of-line}
 use Rattle.format.proofs.Pairs.{unescape-of-escape, escape-of-unescape, escape-injective, mark-of-pair, judge-of-pair, pair-key-fine, pair-value-fine}
 use Rattle.format.proofs.Descriptors.{carried-any}
-use Rattle.format.proofs.Header.{header-ends, data-area}
+use Rattle.format.proofs.Header.{header-no-names, header-ends, data-area}
 use Rattle.format.proofs.Found.{field-found, key-found}
 use Rattle.format.proofs.Rules.{accepted-keeps, keeps-accepted, refused-keeps-none, keeps-none-refused}
 use Rattle.format.proofs.Samples.{value-of-bytes, bytes-of-value}
@@ -30,6 +30,7 @@ laws =
       refused-keeps-none = refused-keeps-none;
       keeps-none-refused = keeps-none-refused;
       carried-any = carried-any;
+      no-names = header-no-names;
       header-ends = header-ends;
       data-area = data-area;
       field-found = field-found;

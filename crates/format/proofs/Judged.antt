@@ -15,7 +15,7 @@ use Rattle.format.specs.Descriptors.{descriptor, meaning, isList, mayDes
 use Rattle.format.specs.Header.{Item, magic, comment, field, pair, closing, pairOf, fieldOf, closes, Judged, wrong, right, unescaped, onPair, onField, onMark, onKind, judge, withField, afterItem}
 use Rattle.format.specs.Rules.{OtherLine, FieldLine, Keeps}
 use Rattle.format.proofs.Bytes.{and-left, and-right}
-use Rattle.format.proofs.Marks.{first-of-field, first-of-pair, field-of-first, pair-of-first, other-kind, mark-of-kind, empty-kind}
+use Rattle.format.proofs.Marks.{first-of-field, first-of-pair, field-of-first, pair-of-first, other-kind, mark-of-kind, empty-kind, is-other, is-comment, other-line, comment-line}
 
 -- ---- an item by its views
 
@@ -62,7 +62,7 @@ module _ (version : ℕ) (gs : List Given) where
 
   judge-other : (t : List ℕ) → OtherLine t → judge version gs t ≡ onMark version gs (mark t)
   unfolding judge
-  judge-other t o = rw (other-kind t (o .other), o .all-plain)
+  judge-other t o = rw (other-kind t (is-other t o), o .all-plain)
 
   on-field-is : (f : ℕ) (rest : List ℕ) → fieldSince f ≤ version → isGiven f gs ≡ false → inOrder f gs ≡ true
       → mayDescribe (dimensionOf gs) f (descriptor f rest) ≡ true → onField version gs (some f) rest ≡ right (field f (descriptor f rest))
@@ -78,7 +78,7 @@ module _ (version : ℕ) (gs : List Given) where
   pub keeps-judge : (t : List ℕ) (i : Item) → Keeps version gs t i → judge version gs t ≡ right i
   unfolding judge
   keeps-judge t (magic n) k = absurd k
-  keeps-judge t comment k = rw k
+  keeps-judge t comment k = rw (is-comment t k)
   keeps-judge t (field f d) k =
       rw (judge-other t (k .other), field-of-first (k .marked), k .named, k .descriptor-is)
       (on-field-is f (k .rest) (k .since) (k .new) (in-order f gs (k .after-dimension) (k .after-space)) (rw (k .descriptor-is) at (k .described)))
@@ -159,8 +159,8 @@ module _ (version : ℕ) (gs : List Given) where
       marked : (m : Marked) → kindOf t ≡ otherLine m → every plain t ≡ true → KeepsRight t (onMark version gs m)
       marked unmarked e p = tt
       marked (fieldMark name rest) e p =
-          field-keeps t name rest (record { other = ap isOther e; all-plain = p }) (mark-of-kind t e) (fieldNamed name) refl
-      marked (pairMark k v) e p = pair-keeps t k v (record { other = ap isOther e; all-plain = p }) (mark-of-kind t e)
+          field-keeps t name rest (other-line t (ap isOther e) p) (mark-of-kind t e) (fieldNamed name) refl
+      marked (pairMark k v) e p = pair-keeps t k v (other-line t (ap isOther e) p) (mark-of-kind t e)
 
       other : (m : Marked) → kindOf t ≡ otherLine m → (x : Bool) → every plain t ≡ x → KeepsRight t (if not x then wrong badByte else onMark version gs m)
       other m e false p = tt
@@ -168,7 +168,7 @@ module _ (version : ℕ) (gs : List Given) where
 
       go : (k : LineKind) → kindOf t ≡ k → KeepsRight t (onKind version gs t k)
       go emptyLine e = empty-kind t e
-      go commentLine e = e
+      go commentLine e = comment-line t e
       go (otherLine m) e = other m e (every plain t) refl
 
   pub judge-keeps : (t : List ℕ) {i : Item} → judge version gs t ≡ right i → Keeps version gs t i

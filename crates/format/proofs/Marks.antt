@@ -8,9 +8,9 @@ use mathlib.Core.List.{List, [], _∷_, _++_}
 use lib.Dec.{eqb}
 use lib.ListN.{length, getD}
 use borrow.Author.Tests.{eqb-true, not-true}
-use Rattle.format.specs.Bytes.{bytes, isEmpty, HASH, COLON, SPACE, EQUALS, if_then_else_}
-use Rattle.format.specs.Pairs.{Marked, unmarked, fieldMark, pairMark, afterColon, moreBefore, firstMark, mark, hasMark, LineKind, emptyLine, commentLine, otherLine, kindOf, isOther, isUnmarked}
-use Rattle.format.specs.Rules.{FirstMark}
+use Rattle.format.specs.Bytes.{bytes, every, isEmpty, HASH, COLON, SPACE, EQUALS, if_then_else_}
+use Rattle.format.specs.Pairs.{plain, Marked, unmarked, fieldMark, pairMark, afterColon, moreBefore, firstMark, mark, hasMark, LineKind, emptyLine, commentLine, otherLine, kindOf, isOther, isUnmarked}
+use Rattle.format.specs.Rules.{FirstMark, isComment, OtherLine}
 
 -- ---- what the first mark parts
 
@@ -241,6 +241,34 @@ unmarked-kind t = go (kindOf t)
 pub other-filled : (t : List ℕ) → isOther (kindOf t) ≡ true → isEmpty t ≡ false
 other-filled [] h = absurd (false≢true h)
 other-filled (b ∷ t) h = refl
+
+-- the rules say the same by the first byte (specs/Rules.antt)
+pub is-other : (t : List ℕ) → OtherLine t → isOther (kindOf t) ≡ true
+is-other [] o = absurd (false≢true (sym (o .filled)))
+is-other (b ∷ t) o = rw (o .no-comment)
+
+pub other-line : (t : List ℕ) → isOther (kindOf t) ≡ true → every plain t ≡ true → OtherLine t
+other-line t h p = record { filled = other-filled t h; no-comment = go t h; all-plain = p }
+  where
+    go : (t : List ℕ) → isOther (kindOf t) ≡ true → isComment t ≡ false
+    go [] h = refl
+    go (b ∷ t) h = here (eqb b HASH) h
+      where
+        here : (x : Bool) → isOther (if x then commentLine else otherLine (mark (b ∷ t))) ≡ true → x ≡ false
+        here true h = absurd (false≢true h)
+        here false h = refl
+
+pub is-comment : (t : List ℕ) → isComment t ≡ true → kindOf t ≡ commentLine
+is-comment [] h = absurd (false≢true h)
+is-comment (b ∷ t) h = rw h
+
+pub comment-line : (t : List ℕ) → kindOf t ≡ commentLine → isComment t ≡ true
+comment-line [] e = cc
+comment-line (b ∷ t) e = go (eqb b HASH) e
+  where
+    go : (x : Bool) → (if x then commentLine else otherLine (mark (b ∷ t))) ≡ commentLine → x ≡ true
+    go true e = refl
+    go false e = cc
 
 -- what stands first in a line decides whether it is a comment
 pub other-front : (a r : List ℕ) → isEmpty a ≡ false → isOther (kindOf (a ++ r)) ≡ isOther (kindOf a)

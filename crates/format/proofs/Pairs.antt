@@ -18,7 +18,7 @@ use Rattle.format.specs.Rules.{PairLine, Keeps}
 use Rattle.format.specs.Settings.{settable, keyFine, valueFine, pairText}
 use Rattle.format.proofs.Bytes.{and-left, and-right, every-append, every-left, every-right, every-weaker, onto-some}
 use Rattle.format.proofs.Lines.{notLF}
-use Rattle.format.proofs.Marks.{mark-parts, mark-of-append, field-of-first, pair-of-first, other-kind, mark-of-kind, unmarked-kind, other-filled, other-front}
+use Rattle.format.proofs.Marks.{mark-parts, mark-of-append, field-of-first, pair-of-first, other-kind, mark-of-kind, unmarked-kind, other-filled, other-front, is-other, is-comment}
 use Rattle.format.proofs.Judged.{judge-keeps, judge-by-text, on-pair-is}
 
 -- ---- escapes
@@ -184,7 +184,7 @@ set-line {version} {t} {k} {v} p =
     let plain-value = every-right plain (p .key) (bytes ":=" ++ p .value) all in
     let i : escape k ≡ p .key = escape-of-plain (p .key) k plain-key (p .key-is) in
     let j : escape v ≡ p .value = escape-of-plain (p .value) v plain-value (p .value-is) in
-    let other = sym (other-front (p .key) (bytes ":=" ++ p .value) (p .key-filled)) ∙ rw (q .0) at (p .other .other) in
+    let other = sym (other-front (p .key) (bytes ":=" ++ p .value) (p .key-filled)) ∙ rw (q .0) at (is-other t (p .other)) in
     record {
       since = p .since;
       text-is = rw (i, j) (q .0);
@@ -222,16 +222,16 @@ fieldIn (some p) = namedField (fieldNamed (p .0)) (p .1)
 module _ (version : ℕ) (gs : List Given) (t : List ℕ) (names : namesFollow gs ≡ false) where
   kept-pair : (i : Item) → Keeps version gs t i → pairTexts (kindOf t) ≡ escapedPair (pairOf i)
   kept-pair (magic n) w = absurd w
-  kept-pair comment w = rw w
-  kept-pair (field f d) w = rw (other-kind t (w .other .other), field-of-first (w .marked))
+  kept-pair comment w = rw (is-comment t w)
+  kept-pair (field f d) w = rw (other-kind t (is-other t (w .other)), field-of-first (w .marked))
   kept-pair (pair k v) w = let s = set-line w in rw (s .text-is, kind-of-pair k v (s .key))
   kept-pair closing w = rw w
 
   kept-field : (i : Item) → Keeps version gs t i → fieldIn (fieldTexts (kindOf t)) ≡ fieldOf i
   kept-field (magic n) w = absurd w
-  kept-field comment w = rw w
-  kept-field (field f d) w = rw (other-kind t (w .other .other), field-of-first (w .marked), w .named, w .descriptor-is)
-  kept-field (pair k v) w = rw (other-kind t (w .other .other), pair-of-first (w .marked))
+  kept-field comment w = rw (is-comment t w)
+  kept-field (field f d) w = rw (other-kind t (is-other t (w .other)), field-of-first (w .marked), w .named, w .descriptor-is)
+  kept-field (pair k v) w = rw (other-kind t (is-other t (w .other)), pair-of-first (w .marked))
   kept-field closing w = rw w
 
   -- its pair, and its field

@@ -12,7 +12,7 @@ use Rattle.format.specs.Bytes.{every, over, LF, CR}
 use Rattle.format.specs.Limits.{maxFile}
 use Rattle.format.specs.Lines.{Line, line, lf, crlf, eof, lines, unlines, starts}
 use Rattle.format.specs.Pairs.{pairMark, mark, escape, unescape}
-use Rattle.format.specs.Fields.{Given, isUnderstood}
+use Rattle.format.specs.Fields.{pairsSince, Given, isUnderstood}
 use Rattle.format.specs.Descriptors.{NumberKind, signed, number, namesFollow, mayDescribe}
 use Rattle.format.specs.Header.{Entry, linesOf, right, judge, pair, refused, accepted, header, headerLength}
 use Rattle.format.specs.Rules.{closed, KeepsRules}
@@ -77,7 +77,7 @@ pub record Laws : Type 0 where
   pub escape-injective : (a b : List ℕ) → escape a ≡ escape b → a ≡ b
   -- the first mark of a set line is its `:=`, and the reader takes the line for that pair where no names follow; every pair that it takes can be set
   pub mark-of-pair : (k v : List ℕ) → keyFine k ≡ true → mark (pairText k v) ≡ pairMark (escape k) (escape v)
-  pub judge-of-pair : (version : ℕ) (gs : List Given) (k v : List ℕ) → namesFollow gs ≡ false → 2 ≤ version → keyFine k ≡ true → valueFine v ≡ true → judge version gs (pairText k v) ≡ right (pair k v)
+  pub judge-of-pair : (version : ℕ) (gs : List Given) (k v : List ℕ) → namesFollow gs ≡ false → pairsSince ≤ version → keyFine k ≡ true → valueFine v ≡ true → judge version gs (pairText k v) ≡ right (pair k v)
   pub pair-key-fine : (version : ℕ) (gs : List Given) (t k v : List ℕ) → judge version gs t ≡ right (pair k v) → keyFine k ≡ true
   pub pair-value-fine : (version : ℕ) (gs : List Given) (t k v : List ℕ) → judge version gs t ≡ right (pair k v) → valueFine v ≡ true
   -- a header is accepted exactly when it keeps the rules, and `header` then answers these lines and fields; a file is refused exactly when no lines of it keep them
@@ -87,6 +87,8 @@ pub record Laws : Type 0 where
   pub keeps-none-refused : (file : List ℕ) → ((es : List Entry) (gs : List Given) (r : List Line) → KeepsRules file es gs r → ⊥) → (x : Refusal) × (header file ≡ refused x)
   -- a field that is not understood may have any descriptor
   pub carried-any : (n f : ℕ) (t : List ℕ) → isUnderstood f ≡ false → mayDescribe n f t ≡ true
+  -- no names follow the fields of an accepted header: a data file of the form LIST is refused
+  pub no-names : (file : List ℕ) {es : List Entry} {gs : List Given} {r : List Line} → header file ≡ accepted es gs r → namesFollow gs ≡ false
   -- what follows the closing line decides nothing about the header; the data area is what follows it
   pub header-ends : (s : List ℕ) {es : List Entry} {gs : List Given} {r : List Line} → header s ≡ accepted es gs r → closed es ≡ true → (d : List ℕ) → length (unlines (linesOf es) ++ d) ≤ maxFile → header (unlines (linesOf es) ++ d) ≡ accepted es gs (lines d)
   pub data-area : (s : List ℕ) {es : List Entry} {gs : List Given} {r : List Line} → header s ≡ accepted es gs r → drop (headerLength es) s ≡ unlines r

@@ -20,6 +20,7 @@ pub mod AcceptanceTrials
 pub mod FindTrials
 pub mod Boundary
 pub mod EntryPoints
+pub mod Room
 pub mod ListingTrials
 pub mod WriteTrials
 pub mod EntryTrials

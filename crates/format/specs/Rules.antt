@@ -6,20 +6,27 @@ use mathlib.Core.Path.{_≡_}
 use mathlib.Core.Bool.{Bool, true, false, _||_}
 use mathlib.Core.List.{List, [], _∷_, _++_}
 use mathlib.Core.Option.{some}
+use lib.Dec.{eqb}
 use lib.ListN.{length}
-use Rattle.format.specs.Bytes.{bytes, every, isEmpty}
+use Rattle.format.specs.Bytes.{bytes, every, isEmpty, HASH}
 use Rattle.format.specs.Limits.{maxFile, maxHeader, maxLines, maxExtent}
 use Rattle.format.specs.Lines.{Ending, lf, crlf, eof, Line, text, ending, lines}
-use Rattle.format.specs.Pairs.{plain, commentLine, kindOf, isOther, unescape}
+use Rattle.format.specs.Pairs.{plain, unescape}
 use Rattle.format.specs.Fields.{fieldNamed, pairsSince, fieldSince, Given, isGiven, needsDimension, needsSpace, dimension, type, encoding, endian, sizes, dataFile, space, spaceDimension}
 use Rattle.format.specs.Descriptors.{descriptor, mayDescribe, endianNeeded, dimensionOf, typeOf, encodingOf, extentOf}
 use Rattle.format.specs.Header.{Item, magic, comment, field, pair, closing, Entry, entry, itemOf, linesOf, magicVersion, closes, afterItem, headerLength}
 
 -- ---- one line after line 1
 
+-- the first byte is `#`
+abbrev pub isComment : List ℕ → Bool
+isComment [] = false
+isComment (b ∷ t) = eqb b HASH
+
 -- a line that is neither empty nor a comment: each of its bytes is a tab or from 32 to 126 ("Numbers of refusal"; 5)
 pub record OtherLine (t : List ℕ) : Type 0 where
-  pub other : isOther (kindOf t) ≡ true
+  pub filled : isEmpty t ≡ false
+  pub no-comment : isComment t ≡ false
   pub all-plain : every plain t ≡ true
 
 -- the text t is a, the mark m and b, and no mark comes before this one: each place of `: ` or `:=` has at least the text a before it
@@ -65,7 +72,7 @@ pub record PairLine (version : ℕ) (t k v : List ℕ) : Type 0 where
 -- A comment may hold any byte.
 abbrev pub Keeps : ℕ → List Given → List ℕ → Item → Type 0
 Keeps version gs t (magic n) = ⊥
-Keeps version gs t comment = kindOf t ≡ commentLine
+Keeps version gs t comment = isComment t ≡ true
 Keeps version gs t (field f d) = FieldLine version gs t f d
 Keeps version gs t (pair k v) = PairLine version t k v
 Keeps version gs t closing = t ≡ []

@@ -15,7 +15,7 @@ ghost use Rattle.format.specs.Calls.{readHeaderCall, readCall};
 ghost use Rattle.read_fields.specs.States.{answerFrom};
 ghost use Rattle.format.specs.EntryPoints.{readEntry};
 ghost use Rattle.read_header.specs.Tables.{readInto};
-ghost use Rattle.theorem_room.specs.Room.{Enough, tableEntries, tableRoom};
+ghost use Rattle.format.specs.Room.{Enough, tableEntries, tableRoom};
 
 // The version of a magic, 0 for any other text.
 fn magic_version(t: &[u8]) -> u32

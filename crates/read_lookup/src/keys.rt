@@ -14,7 +14,7 @@ ghost use Rattle.format.specs.Header.{Item, header};
 ghost use Rattle.format.specs.Calls.{noPlace, findKeyCall, copyValueCall};
 ghost use Rattle.format.specs.Found.{FindsKey};
 ghost use Rattle.read_header.specs.Accepted.{Headed, IsItem};
-ghost use Rattle.theorem_room.specs.Room.{valueRoom, Copied};
+ghost use Rattle.format.specs.Room.{valueRoom, Copied};
 ghost use Rattle.read_lookup.specs.Lookup.{keyThen, latestOf, KeyLeft};
 
 // The place of the key's value in a line, which starts at `at`; `none` where the line has no value for it.

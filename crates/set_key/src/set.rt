@@ -9,7 +9,7 @@ ghost use lib.ListN.{length};
 ghost use Rattle.format.specs.declared.SetAnswer.{SetAnswer};
 ghost use Rattle.format.specs.Calls.{setKeyCall};
 ghost use Rattle.format.specs.EntryPoints.{setKeyEntry};
-ghost use Rattle.theorem_room.specs.Room.{Enough, tableEntries, tableRoom, setRoom};
+ghost use Rattle.format.specs.Room.{Enough, tableEntries, tableRoom, setRoom};
 ghost use Rattle.set_key.specs.Edits.{setInto};
 
 // The answer of a file of so many bytes and header lines.

@@ -17,7 +17,7 @@ use Rattle.format.specs.Data.{Place, nowhere, part, partOf}
 use Rattle.format.specs.Samples.{Decoded, stopped, withSample, thenSamples, inType, sampleValue, rawSamples, withoutBlanks, hexDigit, HexRun, noHex, hexRun, hexPair, hexAlone, hexBytes, hexSample, hexSamples, skipBlanks, token, afterToken, tokenValue, textSample, tokens, textSamples, samplesOf}
 use Rattle.format.specs.Calls.{noSamples, countOf, decoded, answerDecoded, checkAt}
 use Rattle.format.proofs.Places.{NumberedPlace}
-use Rattle.theorem_room.specs.Room.{Enough}
+use Rattle.format.specs.Room.{Enough}
 
 -- ---- samples that are decoded are refused by 20 or 21
 

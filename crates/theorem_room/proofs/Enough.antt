@@ -34,7 +34,8 @@ use Rattle.format.proofs.Boundary.{length-numbers}
 use Rattle.format.proofs.Header.{header-sound}
 use Rattle.format.proofs.Numbered.{NumberedOutcome, header-numbered}
 use Rattle.format.proofs.Places.{place-numbered}
-use Rattle.theorem_room.specs.Room.{Enough, tableEntries, tableRoom, writeRoom, valueRoom, Copied, samplesRoom, setRoom, RoomEnough}
+use Rattle.format.specs.Room.{Enough, tableEntries, tableRoom, writeRoom, valueRoom, Copied, samplesRoom, setRoom}
+use Rattle.theorem_room.specs.Room.{RoomEnough}
 use Rattle.theorem_room.proofs.Written.{room-for-file}
 use Rattle.theorem_room.proofs.Checked.{list-long}
 use Rattle.theorem_room.proofs.Grown.{escape-length, header-grown}
@@ -181,15 +182,16 @@ module _ (buf : List ℕ) (used : ℕ) (table : List ℕ) (room : tableEntries �
 
 -- ---- the statement, and its parts of an answer that is the call's
 
+-- each premise is asked for as a number, so that a statement with too little room fails there
 pub room-enough : RoomEnough
 room-enough =
     record {
       reading-numbers = reading-numbers;
-      table-enough = table-enough;
-      value-enough = λ file k buf. value-enough k buf file;
-      samples-enough = samples-enough;
-      write-enough = write-enough;
-      set-enough = λ buf used table count k v r. set-enough buf used table r count k v;
+      table-enough = λ file table h. table-enough file table (omega (arith, h));
+      value-enough = λ file k buf h. value-enough k buf file (omega (arith, h));
+      samples-enough = λ file second list h. samples-enough file second list (omega (arith, h));
+      write-enough = λ version sizes t e endian zs out h. write-enough version sizes t e endian zs out (omega (arith, h));
+      set-enough = λ buf used table count k v r h. set-enough buf used table r count k v (omega (arith, h));
     }
 
 -- an answer with this refusal is refused for what is lent only if the other is

@@ -23,7 +23,7 @@ use Rattle.theorem_roundtrip.proofs.Names.{sample-bytes-to}
 use Rattle.theorem_roundtrip.proofs.Accepted.{Accepted, accepted-is}
 use Rattle.theorem_roundtrip.proofs.Data.{raw-length}
 use Rattle.theorem_roundtrip.proofs.Written.{lines-of-entries, short-entries}
-use Rattle.theorem_room.specs.Room.{writeRoom}
+use Rattle.format.specs.Room.{writeRoom}
 
 -- ---- the data
 

@@ -6,7 +6,7 @@ ghost use lib.ListN.{length};
 ghost use Rattle.format.specs.declared.WriteAnswer.{WriteAnswer};
 ghost use Rattle.format.specs.Boundary.{wordBytes, numbersOf, samplesLent};
 ghost use Rattle.format.specs.Calls.{writeCall};
-ghost use Rattle.theorem_room.specs.Room.{Enough, writeRoom};
+ghost use Rattle.format.specs.Room.{Enough, writeRoom};
 ghost use Rattle.write_checks.specs.Refused.{chosen};
 ghost use Rattle.write_file.specs.Stored.{answerOf};
 
