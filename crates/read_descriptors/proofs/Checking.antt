@@ -3,21 +3,25 @@
 use Prim.Native.Nat.{ℕ, suc, _+_, _≤_, _-_}
 use native.Mathlib.Omega.{arith}
 use mathlib.Core.Path.{_≡_, refl, sym, ap, _∙_}
-use mathlib.Core.Bool.{Bool, true, false, not, _&&_, _||_}
+use mathlib.Core.Bool.{Bool, true, false, not, _&&_, _||_, false≢true}
 use mathlib.Core.List.{List, [], _∷_, _++_, map}
 use mathlib.Core.Option.{Option, none, some}
-use lib.Dec.{eqb, ltb, leb, eqb·zero-suc, eqb·suc-suc}
-use lib.ListN.{length, replicate, take, drop, length-drop}
+use lib.Dec.{eqb, leb, eqb·zero-suc, eqb·suc-suc}
+use lib.ListN.{length, replicate, take, drop, length-drop, length-map}
 use lib.Seq.{take-length}
-use borrow.Author.Tests.{le-leb, lt-leb, leb-true, leb-false, eqb-true, eqb-false, eq-eqb, ne-eqb, ltb-true}
+use borrow.Author.Tests.{lt-leb, leb-true, leb-false, eqb-true, eqb-false, eq-eqb, ne-eqb}
 use Rattle.format.specs.Bytes.{bytes, PERCENT, isIn, isEmpty, same, beginsWith, if_then_else_}
 use Rattle.format.specs.Limits.{maxAxes, maxSize}
-use Rattle.format.specs.Descriptors.{trimEnd, fromDescriptor, descriptor, isName, mayDescribe, sizesFine, valueOfNumber, within}
+use Rattle.format.specs.Fields.{dimension, type, encoding, endian, sizes, lineSkip, byteSkip, dataFile}
+use Rattle.format.specs.Descriptors.{trimEnd, fromDescriptor, descriptor, isName, mayDescribe, sizesFine, sizesSaid, valueOfNumber, within, words, numbersIn}
+use Rattle.format.specs.Calls.{padded}
+use Rattle.format.proofs.Bytes.{and-left, and-right}
 use Rattle.format.proofs.Descriptors.{drop-to-descriptor, take-trimmed}
 use Rattle.read_text.specs.Numbers.{numberAnswer, noSizes, sizesAnswer}
 use Rattle.read_text.specs.Places.{before}
 use Rattle.read_text.specs.declared.numbers.Number.the-variants.{Value, Wrong}
 use Rattle.read_text.specs.declared.numbers.Sizes.{Sizes}
+use Rattle.read_descriptors.specs.declared.check.Checked.{Checked}
 use Rattle.read_descriptors.specs.Checked.{found, checked}
 
 -- ---- where a descriptor stands
@@ -61,27 +65,34 @@ pub says-none : (b : Bool) → record { fine = b; number = 0 } ≡ found b 0
 says-none true = refl
 says-none false = refl
 
--- whether sizes are fine
-pub sizes-fine : (n : ℕ) (ws : List (List ℕ)) (r : Sizes) → r ≡ sizesAnswer n ws → n ≤ maxAxes → r .fine ≡ sizesFine n ws
-unfolding sizesAnswer
-sizes-fine n ws r e h = go (sizesFine n ws) (rw (le-leb n maxAxes h) at e)
+-- the sizes kept are those of before
+pub stay : {x y : Checked} (ns : List ℕ) → x ≡ y → _≡_ {A = Checked × List ℕ} (x, ns) (y, if y .fine then ns else ns)
+stay {x} {y} ns e = rw e (go (y .fine))
   where
-    go : (x : Bool) → r ≡ (if x then record { fine = true; sizes = map valueOfNumber ws ++ replicate (maxAxes - n) 0 } else noSizes) → r .fine ≡ x
-    go true e = ap (λ (y : Sizes). y .fine) e
-    go false e = ap (λ (y : Sizes). y .fine) e
+    go : (b : Bool) → _≡_ {A = Checked × List ℕ} (y, ns) (y, if b then ns else ns)
+    go true = refl
+    go false = refl
 
--- a carried field may have any descriptor
-pub carried : (n f : ℕ) (t : List ℕ) → 8 ≤ f → record { fine = true; number = 0 } ≡ checked n f t
-unfolding mayDescribe
-carried n f t h =
-    let d : (g : ℕ) → ltb g 8 ≡ true → eqb f g ≡ false = λ g u. ne-eqb f g (omega (arith, ltb-true)) in
-    rw (d 0 refl, d 1 refl, d 2 refl, d 3 refl, d 4 refl, d 5 refl, d 6 refl, d 7 refl)
+-- ---- sizes
 
--- a number that is none of four is past them
-pub past-four : (n f : ℕ) → n ≤ f → (f ≡ n → ⊥) → (f ≡ n + 1 → ⊥) → (f ≡ n + 2 → ⊥) → (f ≡ n + 3 → ⊥) → n + 4 ≤ f
-past-four n f l a b c d = omega arith
+-- fine sizes are as many as asked
+pub fine-length : (n : ℕ) (ws : List (List ℕ)) → sizesFine n ws ≡ true → length ws ≡ n
+fine-length n ws e = eqb-true (length ws) n (and-left (eqb (length ws) n) (numbersIn 1 maxSize ws) e)
 
--- ---- names
+-- by what is read
+pub sizes-read : (n : ℕ) (t ns : List ℕ) (r : Sizes) → r ≡ sizesAnswer n (words t)
+    → _≡_ {A = Checked × List ℕ} (record { fine = r .fine; number = 0 }, if r .fine then r .sizes else ns) (checked n sizes t ns)
+unfolding sizesAnswer mayDescribe
+sizes-read n t ns r e = go (leb n maxAxes && sizesFine n (words t)) refl e
+  where
+    go : (x : Bool) → (leb n maxAxes && sizesFine n (words t)) ≡ x
+        → r ≡ (if x then record { fine = true; sizes = map valueOfNumber (words t) ++ replicate (maxAxes - n) 0 } else noSizes)
+        → _≡_ {A = Checked × List ℕ} (record { fine = r .fine; number = 0 }, if r .fine then r .sizes else ns)
+        (found x 0, if x then padded (sizesSaid t) else ns)
+    go true s q =
+        let k = fine-length n (words t) (and-right (leb n maxAxes) (sizesFine n (words t)) s) in
+        rw (q, length-map (words t) valueOfNumber, k)
+    go false s q = rw q
 
 eqb-comm : (a b : ℕ) → eqb a b ≡ eqb b a
 eqb-comm a b = go (eqb a b) refl
@@ -89,6 +100,36 @@ eqb-comm a b = go (eqb a b) refl
     go : (x : Bool) → eqb a b ≡ x → x ≡ eqb b a
     go true e = sym (eq-eqb b a (sym (eqb-true a b e)))
     go false e = sym (ne-eqb b a (λ q. eqb-false a b e (sym q)))
+
+-- ---- fields that may have any descriptor: those that `check` has no arm for
+
+-- the arms of `check`, the last one first
+abbrev pub asked : List ℕ
+asked = dataFile ∷ byteSkip ∷ lineSkip ∷ sizes ∷ endian ∷ encoding ∷ type ∷ dimension ∷ []
+
+-- f is none of them, as the arm `_` of a match is told
+abbrev pub NoneOf : ℕ → List ℕ → Type 0
+NoneOf f [] = Unit
+NoneOf f (g ∷ gs) = NoneOf f gs × (f ≡ g → ⊥)
+
+none-is : (f : ℕ) (gs : List ℕ) → NoneOf f gs → (g : ℕ) → isIn g gs ≡ true → eqb f g ≡ false
+unfolding isIn
+none-is f [] h g e = absurd (false≢true e)
+none-is f (x ∷ gs) h g e = go (eqb g x) refl e (none-is f gs (h .0) g)
+  where
+    go : (b : Bool) → eqb g x ≡ b → (b || isIn g gs) ≡ true → (isIn g gs ≡ true → eqb f g ≡ false) → eqb f g ≡ false
+    go true q e i = ne-eqb f g (λ z. h .1 (z ∙ eqb-true g x q))
+    go false q e i = i e
+
+pub any-taken : (n f : ℕ) (t ns : List ℕ) → NoneOf f asked → _≡_ {A = Checked × List ℕ} (record { fine = true; number = 0 }, ns) (checked n f t ns)
+unfolding mayDescribe isIn
+any-taken n f t ns h =
+    rw (eqb-comm sizes f, no dimension refl, no type refl, no encoding refl, no endian refl, no sizes refl, no lineSkip refl, no byteSkip refl, no dataFile refl)
+  where
+    no : (g : ℕ) → isIn g asked ≡ true → eqb f g ≡ false
+    no = none-is f asked h
+
+-- ---- names
 
 -- a byte is not in a text where all bytes stand before it
 not-in-text : (b : ℕ) (t : List ℕ) → not (isIn b t) ≡ eqb (before b t) (length t)

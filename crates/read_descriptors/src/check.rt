@@ -1,14 +1,17 @@
-// Whether a field may have a descriptor, and the number that it says.
+// Whether a field may have a descriptor, and the number or the sizes that it says.
 use format::field;
 use read_text::numbers::Number;
 use read_text::words::Row;
 ghost use mathlib.Core.Path.{_≡_};
+ghost use mathlib.Core.List.{List};
 ghost use mathlib.Core.Option.{Option};
 ghost use Prim.Native.Nat.{ℕ, _≤_};
 ghost use Rattle.format.specs.Bytes.{isSome, orDefault};
-ghost use Rattle.format.specs.Limits.{maxAxes, maxSize};
-ghost use Rattle.format.specs.Descriptors.{isName, numberIn, sizesFine, valueOfNumber, words};
+ghost use Rattle.format.specs.Limits.{maxSize};
+ghost use Rattle.format.specs.Fields.{sizes};
+ghost use Rattle.format.specs.Descriptors.{isName, numberIn, valueOfNumber};
 ghost use Rattle.read_text.specs.Rows.{rowAnswer};
+ghost use Rattle.read_descriptors.specs.declared.check.Checked.{Checked};
 ghost use Rattle.read_descriptors.specs.Checked.{found, checked};
 
 // Whether the descriptor is one that the field may have; the number that it says, 0 where it says none or is wrong.
@@ -60,13 +63,21 @@ fn check_row(row: Row) -> Checked
     }
 }
 
-// As many sizes as the dimension. `read_text::numbers::read_sizes` answers them too.
-fn check_sizes(t: &[u8], dimension: u32) -> Checked
-    ensures { λ r. ⌜ (dimension ≤ maxAxes → r ≡ found (sizesFine dimension (words (now (t .entry)))) 0) ⌝ }
+// As many sizes as the dimension: they are kept.
+fn check_sizes(t: &[u8], dimension: u32, kept: &mut [u64; 16]) -> Checked
+    ensures { λ r. ⌜ _≡_ {A = Checked × List ℕ} (r, now (kept .exit)) (checked dimension sizes (now (t .entry)) (now (kept .entry))) ⌝ }
 {
     let x = read_text::numbers::read_sizes(t, dimension as usize);
+    if !x.fine {
+        return Checked {
+            fine: false,
+            number: 0,
+        };
+    }
+    let said = x.sizes;
+    *kept = said;
     Checked {
-        fine: x.fine,
+        fine: true,
         number: 0,
     }
 }
@@ -87,16 +98,16 @@ fn is_name(t: &[u8]) -> bool
     read_text::bytes::find_byte(t, b'%') == t.len()
 }
 
-// The descriptor t of the field f, in a header of this dimension.
-pub fn check(f: usize, t: &[u8], dimension: u32) -> Checked
-    ensures { λ r. ⌜ (dimension ≤ maxAxes → r ≡ checked dimension f (now (t .entry))) ⌝ }
+// The descriptor t of the field f, in a header of this dimension. Right sizes are kept, 0 past them; otherwise what is kept stays.
+pub fn check(f: usize, t: &[u8], dimension: u32, kept: &mut [u64; 16]) -> Checked
+    ensures { λ r. ⌜ _≡_ {A = Checked × List ℕ} (r, now (kept .exit)) (checked dimension f (now (t .entry)) (now (kept .entry))) ⌝ }
 {
     match f {
         field::DIMENSION => check_number(t, 1, format::MAX_AXES),
         field::TYPE => check_row(read_text::words::type_named(t)),
         field::ENCODING => check_row(read_text::words::encoding_named(t)),
         field::ENDIAN => check_row(read_text::words::endian_named(t)),
-        field::SIZES => check_sizes(t, dimension),
+        field::SIZES => check_sizes(t, dimension, kept),
         field::LINE_SKIP => check_number(t, 0, format::MAX_SKIP),
         field::BYTE_SKIP => check_number(t, 0, format::MAX_SKIP),
         field::DATA_FILE => Checked {

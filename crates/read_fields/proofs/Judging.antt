@@ -74,8 +74,8 @@ pair-step version ns (b ∷ k) v = go (ltb version pairsSince) (unescape (b ∷ 
 
 -- ---- refused, or right without a field: the sizes stay
 
-pub refuses : {r : Step} {w : ℕ} {j : Judged} (ns : List ℕ) → r ≡ stepOf (wrong w) → j ≡ wrong w → _≡_ {A = Step × List ℕ} (r, ns) (stepped j ns)
-refuses ns e q = rw (e, q)
+pub without-field : {r : Step} {w : ℕ} {j : Judged} (ns : List ℕ) → r ≡ stepOf (wrong w) → j ≡ wrong w → _≡_ {A = Step × List ℕ} (r, ns) (stepped j ns)
+without-field ns e q = rw (e, q)
 
 -- the line of a pair, and a line with no mark: a byte that they may not hold comes first
 module _ (version : ℕ) (gs : List Given) (t ns : List ℕ) where

@@ -15,23 +15,21 @@ use borrow.Author.Tests.{lt-ltb, le-ltb, le-leb, leb-true, eqb-true, eqb-false, 
 use mir.Val.{boolByte}
 use Rattle.format.specs.declared.Reading.{Reading}
 use Rattle.format.specs.Bytes.{isAny, rowFrom, orDefault, if_then_else_}
-use Rattle.format.specs.Limits.{maxAxes, maxSize, maxExtent}
+use Rattle.format.specs.Limits.{maxAxes, maxExtent}
 use Rattle.format.specs.Refusals.{badDescriptor, missingField, extentTooLarge, refusal, fine}
 use Rattle.format.specs.Fields.{namesOf, fieldTable, fieldAt, fieldCount, fieldNamed, Given, given, descriptorOf, isGiven, dimension, type, encoding, endian, sizes, lineSkip, byteSkip, dataFile}
-use Rattle.format.specs.Descriptors.{meaning, number, valueOfNumber, within, numbersIn, sizesFine, words, isDetached, mayDescribe, numberSaid, numberOf, dimensionOf, sizesSaid, sizesOf, endianNeeded, hasNeeded, extent, extentOf}
+use Rattle.format.specs.Descriptors.{meaning, number, valueOfNumber, within, words, isDetached, mayDescribe, numberSaid, numberOf, dimensionOf, sizesSaid, sizesOf, endianNeeded, hasNeeded, extent, extentOf}
 use Rattle.format.specs.Header.{Item, field, fieldOf, Entry, wrong, right, judge, refused, withField, afterItem, versionOf, headerLength}
 use Rattle.format.specs.Rules.{FieldLine, Keeps}
 use Rattle.format.specs.Calls.{readAnswer, padded, readingAt, readingOf}
-use Rattle.format.proofs.Bytes.{and-left, and-right}
+use Rattle.format.proofs.Bytes.{and-right}
 use Rattle.format.proofs.Judged.{is-field, judge-keeps, after-cases}
 use Rattle.format.proofs.Rules.{needed-of}
-use Rattle.read_text.specs.Numbers.{noSizes, sizesAnswer}
-use Rattle.read_text.specs.declared.numbers.Sizes.{Sizes}
 use Rattle.read_descriptors.specs.declared.check.Checked.{Checked}
-use Rattle.read_descriptors.specs.Checked.{found, checked}
-use Rattle.read_descriptors.proofs.Checking.{sizes-fine}
+use Rattle.read_descriptors.specs.Checked.{found, takes, sizesKept, checked}
+use Rattle.read_descriptors.proofs.Checking.{fine-length}
 use Rattle.read_fields.specs.declared.state.Step.{Step}
-use Rattle.read_fields.specs.States.{each, flags, numbersOf, Kept, Holds, Known, described, fieldGiven, numberGiven, sizesGiven, stepped, keptAt, completeNumber, finished}
+use Rattle.read_fields.specs.States.{each, flags, numbersOf, Kept, Holds, Known, described, fieldGiven, numberGiven, sizesGiven, stepOf, stepped, keptAt, completeNumber, finished}
 
 -- ---- flags and numbers
 
@@ -102,52 +100,27 @@ module _ (f : ℕ) (d : List ℕ) (gs : List Given) where
 
 -- ---- a field with its descriptor, refused or taken
 
-module _ (n f : ℕ) (t : List ℕ) where
-  pub descriptor-wrong : mayDescribe n f t ≡ false → described n f t ≡ wrong badDescriptor
-  descriptor-wrong e = rw e
-
-  -- taken, by the checker's answer
-  module _ (x : Checked) (e : x ≡ checked n f t) where
-    pub check-wrong : x .fine ≡ false → described n f t ≡ wrong badDescriptor
-    check-wrong h = descriptor-wrong (sym (ap (λ (y : Checked). y .fine) e) ∙ h)
-
-    pub check-fine : (f ≡ sizes → ⊥) → x .fine ≡ true → (ns : List ℕ)
-        → _≡_ {A = Step × List ℕ} (record { wrong = 0; closes = false; field = f; number = x .number }, ns) (stepped (described n f t) ns)
-    check-fine s h ns = go (mayDescribe n f t) e
-      where
-        go : (b : Bool) → x ≡ found b (numberSaid f t)
-            → _≡_ {A = Step × List ℕ} (record { wrong = 0; closes = false; field = f; number = x .number }, ns)
-            (stepped (if not b then wrong badDescriptor else right (field f t)) ns)
-        go true q = rw (ne-eqb sizes f (λ z. s (sym z)), q)
-        go false q = absurd (false≢true (sym (ap (λ (y : Checked). y .fine) q) ∙ h))
-
--- fine sizes are as many as asked
-fine-length : (n : ℕ) (ws : List (List ℕ)) → sizesFine n ws ≡ true → length ws ≡ n
-fine-length n ws e = eqb-true (length ws) n (and-left (eqb (length ws) n) (numbersIn 1 maxSize ws) e)
-
-module _ (n : ℕ) (ws : List (List ℕ)) (r : Sizes) (e : r ≡ sizesAnswer n ws) (h : n ≤ maxAxes) where
-  sizes-are : r .fine ≡ true → (sizesFine n ws ≡ true) × (r .sizes ≡ padded (map valueOfNumber ws))
-  unfolding sizesAnswer
-  sizes-are f = go (sizesFine n ws) refl (rw (le-leb n maxAxes h) at e)
+-- taken, by the checker's answer and the sizes that it leaves
+module _ (n f : ℕ) (t ns : List ℕ) (x : Checked) (after : List ℕ) (e : _≡_ {A = Checked × List ℕ} (x, after) (checked n f t ns)) (h : n ≤ maxAxes) where
+  axes-fit : takes n f t ≡ mayDescribe n f t
+  axes-fit = rw (le-leb n maxAxes h) (go (eqb sizes f))
     where
-      go : (x : Bool) → sizesFine n ws ≡ x
-          → r ≡ (if x then record { fine = true; sizes = map valueOfNumber ws ++ replicate (maxAxes - n) 0 } else noSizes)
-          → (x ≡ true) × (r .sizes ≡ padded (map valueOfNumber ws))
-      go true s e =
-          let k : length (map valueOfNumber ws) ≡ n = length-map ws valueOfNumber ∙ fine-length n ws s in
-          (refl, rw k (ap (λ (y : Sizes). y .sizes) e))
-      go false s e = absurd (false≢true (sym (ap (λ (y : Sizes). y .fine) e) ∙ f))
+      go : (s : Bool) → ((not s || true) && mayDescribe n f t) ≡ mayDescribe n f t
+      go true = refl
+      go false = refl
 
--- sizes, by what is read
-module _ (n f : ℕ) (t : List ℕ) (q : f ≡ sizes) (r : Sizes) (e : r ≡ sizesAnswer n (words t)) (h : n ≤ maxAxes) where
-  pub sizes-wrong : r .fine ≡ false → described n f t ≡ wrong badDescriptor
-  unfolding mayDescribe
-  sizes-wrong w = rw q (descriptor-wrong n sizes t (sym (sizes-fine n (words t) r e h) ∙ w))
-
-  pub sizes-taken : r .fine ≡ true → (ns : List ℕ)
-      → _≡_ {A = Step × List ℕ} (record { wrong = 0; closes = false; field = f; number = 0 }, r .sizes) (stepped (described n f t) ns)
-  unfolding mayDescribe
-  sizes-taken w ns = let d = sizes-are n (words t) r e h w in rw (q, d .0, d .1)
+  pub check-taken
+      : _≡_ {A = Step × List ℕ}
+      (if x .fine then record { wrong = 0; closes = false; field = f; number = x .number } else stepOf (wrong badDescriptor), after)
+      (stepped (described n f t) ns)
+  check-taken = go (mayDescribe n f t) (rw axes-fit at e)
+    where
+      go : (b : Bool) → _≡_ {A = Checked × List ℕ} (x, after) (found b (numberSaid f t), if b then sizesKept f t ns else ns)
+          → _≡_ {A = Step × List ℕ}
+          (if x .fine then record { wrong = 0; closes = false; field = f; number = x .number } else stepOf (wrong badDescriptor), after)
+          (stepped (if not b then wrong badDescriptor else right (field f t)) ns)
+      go true q = rw (ap (λ (y : Checked × List ℕ). y .0) q, ap (λ (y : Checked × List ℕ). y .1) q)
+      go false q = rw (ap (λ (y : Checked × List ℕ). y .0) q, ap (λ (y : Checked × List ℕ). y .1) q)
 
 -- ---- the end of the header
 

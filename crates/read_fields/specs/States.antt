@@ -11,9 +11,10 @@ use Rattle.format.specs.Bytes.{if_then_else_}
 use Rattle.format.specs.Limits.{maxAxes, maxExtent}
 use Rattle.format.specs.Refusals.{badDescriptor, missingField, extentTooLarge, refusal, fine}
 use Rattle.format.specs.Fields.{Given, given, fieldCount, isGiven, dimension, sizes}
-use Rattle.format.specs.Descriptors.{numberSaid, numberOf, dimensionOf, sizesSaid, sizesOf, mayDescribe, hasNeeded, extentOf}
+use Rattle.format.specs.Descriptors.{numberSaid, numberOf, dimensionOf, sizesOf, mayDescribe, hasNeeded, extentOf}
 use Rattle.format.specs.Header.{Judged, wrong, right, field, fieldOf, closes, Outcome, refused, accepted, headerLength}
 use Rattle.format.specs.Calls.{noReading, padded, readingAt}
+use Rattle.read_descriptors.specs.Checked.{sizesKept}
 use Rattle.read_fields.specs.declared.state.Step.{Step}
 
 -- what v says of each of n fields from f on
@@ -64,7 +65,7 @@ numberGiven (some (given f d)) = numberSaid f d
 -- the sizes once the line is read
 abbrev pub sizesGiven : Option Given → List ℕ → List ℕ
 sizesGiven none ns = ns
-sizesGiven (some (given f d)) ns = if eqb sizes f then padded (sizesSaid d) else ns
+sizesGiven (some (given f d)) ns = sizesKept f d ns
 
 -- a line's step by what the line was judged to be
 abbrev pub stepOf : Judged → Step

@@ -46,7 +46,7 @@ fn is_in_order(f: usize, given: &[bool; field::COUNT]) -> bool
 }
 
 // The step of a line that gives no field and does not close: the number of its refusal, 0 where it is right.
-fn refuse(number: u32) -> Step
+fn without_field(number: u32) -> Step
     ensures { λ r. ⌜ r ≡ stepOf (wrong number) ⌝ }
 {
     Step {
@@ -57,27 +57,13 @@ fn refuse(number: u32) -> Step
     }
 }
 
-// The field f with the descriptor t: bad descriptor 11. Of sizes the numbers are kept, of other fields at most one.
+// The field f with the descriptor t: bad descriptor 11. Right sizes change the sizes.
 fn take_field(f: usize, t: &[u8], dimension: u32, sizes: &mut [u64; 16]) -> Step
     ensures { λ r. ⌜ (dimension ≤ maxAxes → _≡_ {A = Step × List ℕ} (r, now (sizes .exit)) (stepped (described dimension f (now (t .entry))) (now (sizes .entry)))) ⌝ }
 {
-    if f == field::SIZES {
-        let read = read_text::numbers::read_sizes(t, dimension as usize);
-        if !read.fine {
-            return refuse(format::BAD_DESCRIPTOR);
-        }
-        let said = read.sizes;
-        *sizes = said;
-        return Step {
-            wrong: 0,
-            closes: false,
-            field: f,
-            number: 0,
-        };
-    }
-    let x = read_descriptors::check::check(f, t, dimension);
+    let x = read_descriptors::check::check(f, t, dimension, sizes);
     if !x.fine {
-        return refuse(format::BAD_DESCRIPTOR);
+        return without_field(format::BAD_DESCRIPTOR);
     }
     Step {
         wrong: 0,
@@ -100,13 +86,13 @@ fn on_known(
     ensures { λ r. ⌜ ((gs : List Given) → Known (now (given .entry)) dimension gs → _≡_ {A = Step × List ℕ} (r, now (sizes .exit)) (stepped (onField version gs (some f) (now (rest .entry))) (now (sizes .entry)))) ⌝ }
 {
     if version < format_values::fields::since(f) {
-        return refuse(format::NOT_IN_VERSION);
+        return without_field(format::NOT_IN_VERSION);
     }
     if given[f] {
-        return refuse(format::REPEATED_FIELD);
+        return without_field(format::REPEATED_FIELD);
     }
     if !is_in_order(f, given) {
-        return refuse(format::OUT_OF_ORDER);
+        return without_field(format::OUT_OF_ORDER);
     }
     take_field(
         f,
@@ -129,12 +115,12 @@ fn on_field(
     ensures { λ r. ⌜ ((gs : List Given) → Known (now (given .entry)) dimension gs → _≡_ {A = Step × List ℕ} (r, now (sizes .exit)) (stepped (onKind version gs (now (t .entry)) (otherLine (fieldMark (take i (now (t .entry))) (drop (i + 2) (now (t .entry)))))) (now (sizes .entry)))) ⌝ }
 {
     if !read_text::bytes::is_plain(t) {
-        return refuse(format::BAD_BYTE);
+        return without_field(format::BAD_BYTE);
     }
     let row = read_text::words::field_named(&t[..i]);
     match row {
         Row::Number(f) => on_known(version, given, dimension, f as usize, &t[i + 2..], sizes),
-        Row::Unknown => refuse(format::UNKNOWN_FIELD),
+        Row::Unknown => without_field(format::UNKNOWN_FIELD),
     }
 }
 
@@ -165,9 +151,9 @@ pub fn judge_line(
             field: field::COUNT,
             number: 0,
         },
-        Kind::Comment => refuse(0),
+        Kind::Comment => without_field(0),
         Kind::Field(i) => on_field(version, given, dimension, t, i, sizes),
-        Kind::Pair(i) => refuse(plain_first(t, on_pair(version, &t[..i], &t[i + 2..]))),
-        Kind::Neither => refuse(plain_first(t, format::NO_MARK)),
+        Kind::Pair(i) => without_field(plain_first(t, on_pair(version, &t[..i], &t[i + 2..]))),
+        Kind::Neither => without_field(plain_first(t, format::NO_MARK)),
     }
 }

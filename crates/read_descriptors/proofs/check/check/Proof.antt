@@ -1,9 +1,10 @@
--- `check::check` meets its contract: each arm's field is the number that it matched. Assumes nothing.
+-- `check::check` meets its contract: each arm's field is the one that it matched, and the last arm's is none of them. Assumes nothing.
 use mathlib.Core.Path.{_≡_}
 use native.Mathlib.Omega.{arith}
 use borrow.Author.Needs.{needs}
+use Rattle.format.specs.Fields.{dimension, type, encoding, endian, sizes, lineSkip, byteSkip, dataFile}
 use Rattle.format.specs.Descriptors.{typeNamed, encodingNamed, endianNamed, noEndian, mayDescribe}
-use Rattle.read_descriptors.proofs.Checking.{says-none, carried, past-four}
+use Rattle.read_descriptors.proofs.Checking.{says-none, stay, any-taken}
 use Rattle.read_descriptors.proofs.check.check.Statement.{statement}
 use Rattle.read_descriptors.proofs.check.check.Tie as tie
 
@@ -42,52 +43,49 @@ is-name-requires c κs = search needs
 
 returns : tie.Need-returns
 unfolding mayDescribe
-returns c h = let e : c .before .before .before .args .f ≡ 0 = omega arith in rw e (c .check-number .ensures)
+returns c = let a = c .before .before .before .args in let e : a .f ≡ dimension = omega arith in rw e (stay (a .kept .now) (c .check-number .ensures))
 
 returns-2 : tie.Need-returns-2
 unfolding mayDescribe
-returns-2 c h =
+returns-2 c =
     let a = c .before .before .before .before .args in
-    let e : a .f ≡ 1 = omega arith in
-    rw e (c .check-row .ensures (typeNamed (a .t .now)) 0 (c .before .type-named .ensures))
+    let e : a .f ≡ type = omega arith in
+    rw e (stay (a .kept .now) (c .check-row .ensures (typeNamed (a .t .now)) 0 (c .before .type-named .ensures)))
 
 returns-3 : tie.Need-returns-3
 unfolding mayDescribe
-returns-3 c h =
+returns-3 c =
     let a = c .before .before .before .before .args in
-    let e : a .f ≡ 2 = omega arith in
-    rw e (c .check-row2 .ensures (encodingNamed (a .t .now)) 0 (c .before .encoding-named .ensures))
+    let e : a .f ≡ encoding = omega arith in
+    rw e (stay (a .kept .now) (c .check-row2 .ensures (encodingNamed (a .t .now)) 0 (c .before .encoding-named .ensures)))
 
 returns-4 : tie.Need-returns-4
 unfolding mayDescribe
-returns-4 c h =
+returns-4 c =
     let a = c .before .before .before .before .args in
-    let e : a .f ≡ 3 = omega arith in
-    rw e (c .check-row3 .ensures (endianNamed (a .t .now)) noEndian (c .before .endian-named .ensures))
+    let e : a .f ≡ endian = omega arith in
+    rw e (stay (a .kept .now) (c .check-row3 .ensures (endianNamed (a .t .now)) noEndian (c .before .endian-named .ensures)))
 
 returns-5 : tie.Need-returns-5
-unfolding mayDescribe
-returns-5 c h = let e : c .before .before .before .args .f ≡ 4 = omega arith in rw e (c .check-sizes .ensures h)
+returns-5 c = let e : c .before .before .before .before .args .f ≡ sizes = omega arith in rw e (c .check-sizes .ensures)
 
 returns-6 : tie.Need-returns-6
 unfolding mayDescribe
-returns-6 c h = let e : c .before .before .before .args .f ≡ 5 = omega arith in rw e (c .check-number2 .ensures)
+returns-6 c = let a = c .before .before .before .args in let e : a .f ≡ lineSkip = omega arith in rw e (stay (a .kept .now) (c .check-number2 .ensures))
 
 returns-7 : tie.Need-returns-7
 unfolding mayDescribe
-returns-7 c h = let e : c .before .before .before .args .f ≡ 6 = omega arith in rw e (c .check-number3 .ensures)
+returns-7 c = let a = c .before .before .before .args in let e : a .f ≡ byteSkip = omega arith in rw e (stay (a .kept .now) (c .check-number3 .ensures))
 
 returns-8 : tie.Need-returns-8
 unfolding mayDescribe
-returns-8 c h = let e : c .before .before .before .args .f ≡ 7 = omega arith in rw (e, ← c .is-name .ensures) (says-none (c .is-name .result))
+returns-8 c =
+    let a = c .before .before .before .args in
+    let e : a .f ≡ dataFile = omega arith in
+    rw (e, ← c .is-name .ensures) (stay (a .kept .now) (says-none (c .is-name .result)))
 
 returns-9 : tie.Need-returns-9
-returns-9 c h =
-    let a = c .before .before .args in
-    let r = c .match .rest in
-    let q = r .0 .0 .0 .0 in
-    carried (a .dimension) (a .f) (a .t .now)
-    (past-four 4 (a .f) (past-four 0 (a .f) (omega arith) (q .0 .0 .0 .1) (q .0 .0 .1) (q .0 .1) (q .1)) (r .0 .0 .0 .1) (r .0 .0 .1) (r .0 .1) (r .1))
+returns-9 c = let a = c .before .before .args in any-taken (a .dimension) (a .f) (a .t .now) (a .kept .now) (c .match .rest)
 
 pub check-spec : {M : Type 1} → statement M
 check-spec =

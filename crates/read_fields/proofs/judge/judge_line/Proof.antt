@@ -10,7 +10,7 @@ use Rattle.format.specs.Header.{wrong}
 use Rattle.read_text.specs.declared.lines.Kind.the-variants.{Pair}
 use Rattle.read_text.proofs.Places.{KindAt, kind-told}
 use Rattle.read_fields.specs.States.{stepOf}
-use Rattle.read_fields.proofs.Judging.{refuses, to-end, line-is, pair-line, unmarked-line}
+use Rattle.read_fields.proofs.Judging.{without-field, to-end, line-is, pair-line, unmarked-line}
 use Rattle.read_fields.proofs.judge.judge_line.Statement.{statement}
 use Rattle.read_fields.proofs.judge.judge_line.Tie as tie
 
@@ -23,8 +23,8 @@ enum-told c = search needs
 enum-told-2 : tie.Need-enum-told-2
 enum-told-2 c = search needs
 
-refuse-requires : tie.Need-refuse-requires
-refuse-requires c κs = search needs
+without-field-requires : tie.Need-without-field-requires
+without-field-requires c κs = search needs
 
 enum-known-i : tie.Need-enum-known-i
 enum-known-i c = search needs
@@ -63,8 +63,8 @@ on-pair-requires c κs = search needs
 plain-first-requires : tie.Need-plain-first-requires
 plain-first-requires c κs = search needs
 
-refuse-requires-2 : tie.Need-refuse-requires-2
-refuse-requires-2 c κs = search needs
+without-field-requires-2 : tie.Need-without-field-requires-2
+without-field-requires-2 c κs = search needs
 
 enum-told-3 : tie.Need-enum-told-3
 enum-told-3 c = search needs
@@ -72,8 +72,8 @@ enum-told-3 c = search needs
 plain-first-requires-2 : tie.Need-plain-first-requires-2
 plain-first-requires-2 c κs = search needs
 
-refuse-requires-3 : tie.Need-refuse-requires-3
-refuse-requires-3 c κs = search needs
+without-field-requires-3 : tie.Need-without-field-requires-3
+without-field-requires-3 c κs = search needs
 
 returns : tie.Need-returns
 returns c gs h =
@@ -85,7 +85,7 @@ returns-2 c gs h =
     let a = c .before .before .before .before .before .args in
     let ns = a .sizes .now in
     let k = kind-told (a .t .now) (sym (c .before .enum-told2 .given .1) ∙ c .before .before .before .kind-of .ensures) in
-    refuses ns (c .refuse .ensures) refl ∙ line-is (a .version) gs (a .t .now) ns k
+    without-field ns (c .without-field .ensures) refl ∙ line-is (a .version) gs (a .t .now) ns k
 
 returns-3 : tie.Need-returns-3
 returns-3 c gs h =
@@ -98,8 +98,8 @@ returns-4 c gs h =
     let m = c .before .before .before .before .before .before in
     let a = m .before .before .before .before .args in
     let ns = a .sizes .now in
-    let e = c .refuse2 .ensures ∙ ap (λ (n : ℕ). stepOf (wrong n)) (c .before .plain-first .ensures) in
-    refuses ns e refl
+    let e = c .without-field2 .ensures ∙ ap (λ (n : ℕ). stepOf (wrong n)) (c .before .plain-first .ensures) in
+    without-field ns e refl
     ∙ rw (c .before .before .on-pair .ensures, to-end (a .t .now)) (pair-line (a .version) gs (a .t .now) ns _ _)
     ∙ line-is (a .version) gs (a .t .now) ns (paired m .0)
 
@@ -107,9 +107,9 @@ returns-5 : tie.Need-returns-5
 returns-5 c gs h =
     let a = c .before .before .before .before .before .before .args in
     let ns = a .sizes .now in
-    let e = c .refuse3 .ensures ∙ ap (λ (n : ℕ). stepOf (wrong n)) (c .before .plain-first2 .ensures) in
+    let e = c .without-field3 .ensures ∙ ap (λ (n : ℕ). stepOf (wrong n)) (c .before .plain-first2 .ensures) in
     let k = kind-told (a .t .now) (sym (c .before .before .enum-told3 .given .1) ∙ c .before .before .before .before .kind-of .ensures) in
-    refuses ns e refl ∙ unmarked-line (a .version) gs (a .t .now) ns ∙ line-is (a .version) gs (a .t .now) ns k
+    without-field ns e refl ∙ unmarked-line (a .version) gs (a .t .now) ns ∙ line-is (a .version) gs (a .t .now) ns k
 
 pub judge-line-spec : {M : Type 1} → statement M
 judge-line-spec =
@@ -118,7 +118,7 @@ judge-line-spec =
     kind-of-requires
     enum-told
     enum-told-2
-    refuse-requires
+    without-field-requires
     enum-known-i
     on-field-requires
     enum-known-i-2
@@ -129,10 +129,10 @@ judge-line-spec =
     part-on-pair-end
     on-pair-requires
     plain-first-requires
-    refuse-requires-2
+    without-field-requires-2
     enum-told-3
     plain-first-requires-2
-    refuse-requires-3
+    without-field-requires-3
     returns
     returns-2
     returns-3

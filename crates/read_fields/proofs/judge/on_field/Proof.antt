@@ -14,7 +14,7 @@ use Rattle.format.specs.Fields.{fieldNamed}
 use Rattle.format.specs.Header.{onField}
 use Rattle.read_text.proofs.Rows.{row-is, row-unknown}
 use Rattle.read_fields.proofs.States.{field-below}
-use Rattle.read_fields.proofs.Judging.{refuses, to-end}
+use Rattle.read_fields.proofs.Judging.{without-field, to-end}
 use Rattle.read_fields.proofs.judge.on_field.Statement.{statement}
 use Rattle.read_fields.proofs.judge.on_field.Tie as tie
 
@@ -33,14 +33,14 @@ unknown c = row-unknown _ (sym (c .enum-told .given .1) ∙ c .before .before .f
 is-plain-requires : tie.Need-is-plain-requires
 is-plain-requires c κs = search needs
 
-refuse-requires : tie.Need-refuse-requires
-refuse-requires c κs = search needs
+without-field-requires : tie.Need-without-field-requires
+without-field-requires c κs = search needs
 
 returns : tie.Need-returns
 returns c gs h =
     let a = c .before .before .before .before .args in
     let e = sym (c .before .before .is-plain .ensures) ∙ not-true _ (c .before .if1 .taken) in
-    refuses (a .sizes .now) (c .refuse .ensures) refl ∙ rw e
+    without-field (a .sizes .now) (c .without-field .ensures) refl ∙ rw e
 
 slice-aggregate-field-named : tie.Need-slice-aggregate-field-named
 slice-aggregate-field-named c = let a = c .before .before .before .before .args in sym (length-take-le (a .i) (a .t .now) (omega arith))
@@ -72,8 +72,8 @@ on-known-requires c κs = field-below _ _ (known (c .before .before .before))
 enum-told : tie.Need-enum-told
 enum-told c = search needs
 
-refuse-requires-2 : tie.Need-refuse-requires-2
-refuse-requires-2 c κs = search needs
+without-field-requires-2 : tie.Need-without-field-requires-2
+without-field-requires-2 c κs = search needs
 
 returns-2 : tie.Need-returns-2
 returns-2 c gs h =
@@ -88,14 +88,14 @@ unfolding onField
 returns-3 c gs h =
     let p = plainly (c .before .before .before .before .before) in
     let e = unknown (c .before) in
-    refuses (c .before .before .before .before .before .before .before .before .args .sizes .now) (c .refuse2 .ensures) refl ∙ rw (p, e)
+    without-field (c .before .before .before .before .before .before .before .before .args .sizes .now) (c .without-field2 .ensures) refl ∙ rw (p, e)
 
 pub on-field-spec : {M : Type 1} → statement M
 on-field-spec =
     tie.close
     (tie.spec
     is-plain-requires
-    refuse-requires
+    without-field-requires
     returns
     slice-aggregate-field-named
     field-named-requires
@@ -107,6 +107,6 @@ on-field-spec =
     part-on-known-end
     on-known-requires
     enum-told
-    refuse-requires-2
+    without-field-requires-2
     returns-2
     returns-3)

@@ -11,26 +11,26 @@ use Rattle.format.specs.Header.{Judged}
 use Rattle.read_fields.specs.States.{described, stepped}
 use borrow.Author.Needs.{needs}
 use Rattle.read_fields.proofs.States.{given-at}
-use Rattle.read_fields.proofs.Judging.{refuses, field-old, field-again, field-early, field-here}
+use Rattle.read_fields.proofs.Judging.{without-field, field-old, field-again, field-early, field-here}
 use Rattle.read_fields.proofs.judge.on_known.Statement.{statement}
 use Rattle.read_fields.proofs.judge.on_known.Tie as tie
 
 since-requires : tie.Need-since-requires
 since-requires c κs = search needs
 
-refuse-requires : tie.Need-refuse-requires
-refuse-requires c κs = search needs
+without-field-requires : tie.Need-without-field-requires
+without-field-requires c κs = search needs
 
 returns : tie.Need-returns
 returns c gs h =
     let a = c .before .before .before .before .args in
-    refuses (a .sizes .now) (c .refuse .ensures) (field-old (a .version) gs (a .f) (a .rest .now) (omega arith))
+    without-field (a .sizes .now) (c .without-field .ensures) (field-old (a .version) gs (a .f) (a .rest .now) (omega arith))
 
 element-copy-out-if2 : tie.Need-element-copy-out-if2
 element-copy-out-if2 c = search needs
 
-refuse-requires-2 : tie.Need-refuse-requires-2
-refuse-requires-2 c κs = search needs
+without-field-requires-2 : tie.Need-without-field-requires-2
+without-field-requires-2 c κs = search needs
 
 returns-2 : tie.Need-returns-2
 returns-2 c gs h =
@@ -38,13 +38,13 @@ returns-2 c gs h =
     let a = s .args in
     let n : fieldSince (a .f) ≤ a .version = omega arith in
     let given = sym (given-at h (a .f) (s .pre)) ∙ c .before .if2 .taken in
-    refuses (a .sizes .now) (c .refuse2 .ensures) (field-again (a .version) gs (a .f) (a .rest .now) n given)
+    without-field (a .sizes .now) (c .without-field2 .ensures) (field-again (a .version) gs (a .f) (a .rest .now) n given)
 
 is-in-order-requires : tie.Need-is-in-order-requires
 is-in-order-requires c κs = search needs
 
-refuse-requires-3 : tie.Need-refuse-requires-3
-refuse-requires-3 c κs = search needs
+without-field-requires-3 : tie.Need-without-field-requires-3
+without-field-requires-3 c κs = search needs
 
 returns-3 : tie.Need-returns-3
 returns-3 c gs h =
@@ -53,7 +53,7 @@ returns-3 c gs h =
     let n : fieldSince (a .f) ≤ a .version = omega arith in
     let given = sym (given-at h (a .f) (s .pre)) ∙ c .before .before .before .if2 .left in
     let order = sym (c .before .before .is-in-order .ensures gs (h .marks-are)) ∙ not-true _ (c .before .if3 .taken) in
-    refuses (a .sizes .now) (c .refuse3 .ensures) (field-early (a .version) gs (a .f) (a .rest .now) n given order)
+    without-field (a .sizes .now) (c .without-field3 .ensures) (field-early (a .version) gs (a .f) (a .rest .now) n given order)
 
 descriptor-of-requires : tie.Need-descriptor-of-requires
 descriptor-of-requires c κs = search needs
@@ -79,13 +79,13 @@ on-known-spec =
     tie.close
     (tie.spec
     since-requires
-    refuse-requires
+    without-field-requires
     returns
     element-copy-out-if2
-    refuse-requires-2
+    without-field-requires-2
     returns-2
     is-in-order-requires
-    refuse-requires-3
+    without-field-requires-3
     returns-3
     descriptor-of-requires
     take-field-requires
