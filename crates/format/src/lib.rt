@@ -18,6 +18,9 @@ pub const MAX_LINES: u32 = 1024;
 
 pub const MAX_AXES: u64 = 16;
 
+// The same as the length of an array.
+pub const AXES: usize = MAX_AXES as usize;
+
 pub const MAX_SIZE: u64 = 4294967295;
 
 pub const MAX_SKIP: u64 = 4294967295;
@@ -110,6 +113,14 @@ pub const BIG: u32 = 1;
 
 pub const NO_ENDIAN: u32 = 2;
 
+// The form of a header that stands in a file of its own; a header's form is else 0, attached.
+pub const DETACHED: u32 = 1;
+
+// The room that is enough for any header that the writer makes, and for each sample.
+pub const HEADER_ROOM: usize = 512;
+
+pub const SAMPLE_ROOM: usize = 22;
+
 // The limits together.
 pub struct Limits {
     pub file: usize,
@@ -179,7 +190,7 @@ pub struct Reading {
     // 0 little, 1 big, 2 not given
     pub endian: u32,
     // one for each axis, axis 0 first; 0 past the dimension
-    pub sizes: [u64; 16],
+    pub sizes: [u64; AXES],
     pub lineskip: u64,
     pub byteskip: u64,
     // the bytes that all samples take in raw
