@@ -8,6 +8,7 @@ ghost use Rattle.format.specs.Refusals.{refusalNumbers};
 ghost use Rattle.format.specs.Trials.{StarredTrials};
 
 pub mod field;
+pub mod given;
 
 // The limits of document 01.
 pub const MAX_FILE: usize = 4294967295;
@@ -108,6 +109,8 @@ pub const RAW: u32 = 0;
 pub const TEXT: u32 = 1;
 
 pub const HEX: u32 = 2;
+
+pub const LITTLE: u32 = 0;
 
 pub const BIG: u32 = 1;
 

@@ -1,4 +1,4 @@
--- Internal to this crate. Tables as the code keeps them, inside this crate: one number, with a digit of w bits for each row, that of the first row lowest.
+-- Internal to this crate. Tables as the code keeps them: one number, with a digit of w bits for each row, that of the first row lowest.
 use Prim.Native.Nat.{ℕ, _+_, _*_, _^_, _%_}
 use mathlib.Core.Bool.{Bool, true, false}
 use mathlib.Core.List.{List, [], _∷_, map}
