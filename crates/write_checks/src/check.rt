@@ -9,6 +9,7 @@ ghost use Rattle.format.specs.Samples.{lowest, highest, toSigned};
 ghost use Rattle.format.specs.Writer.{writable};
 ghost use Rattle.write_checks.specs.Refused.{chosen, inRange, allInRange, WholeRange, earlyRefusal, lateRefusal, Numbers, Ready};
 use crate::source;
+use format::given;
 use format_values::products;
 use format_values::types;
 
@@ -40,16 +41,16 @@ fn is_writable(version: u64, sizes: &[u64], sampletype: u64, encoding: u64, endi
     if types::COUNT <= sampletype {
         return false;
     }
-    if 3 <= encoding {
+    if given::ENCODINGS <= encoding {
         return false;
     }
-    if 2 <= endian {
+    if given::ENDIANS <= endian {
         return false;
     }
     if sizes.len() < 1 {
         return false;
     }
-    if 16 < sizes.len() {
+    if format::AXES < sizes.len() {
         return false;
     }
     !has_zero(sizes)
