@@ -3,18 +3,18 @@ use format::Refusal;
 ghost use mathlib.Core.Path.{_≡_};
 ghost use Rattle.format.specs.Refusals.{atLine, refusal};
 
-// Nothing is refused.
+// Nothing is refused. Only here is each member spelled: the others name those in which they differ.
 pub const FINE: Refusal = Refusal { number: 0, line: 0 };
 
 // Refusals whose number is known where they are made; each use proves its own.
 pub const LENT_TOO_SHORT: Refusal = Refusal {
     number: format::LENT_TOO_SHORT,
-    line: 0,
+    ..FINE
 };
 
 pub const BAD_COORDINATES: Refusal = Refusal {
     number: format::BAD_COORDINATES,
-    line: 0,
+    ..FINE
 };
 
 // A refusal at a line, 0 where no line is meant.
@@ -24,6 +24,7 @@ pub fn refusal_at(number: u32, line: u32) -> Refusal
     Refusal {
         number: number,
         line: line,
+        ..FINE
     }
 }
 
