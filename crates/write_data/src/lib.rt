@@ -1,4 +1,5 @@
 // The data of the samples in each encoding, and its length.
+use format::given;
 ghost use mathlib.Core.Path.{_≡_};
 ghost use mathlib.Core.List.{flatMap};
 ghost use Prim.Native.Nat.{ℕ, _+_, _*_, _-_, _≤_, _<_};
@@ -6,6 +7,7 @@ ghost use mathlib.Core.Bool.{true};
 ghost use lib.ListN.{length};
 ghost use lib.Seq.{sets, slice};
 ghost use Rattle.format.specs.Limits.{maxExtent};
+ghost use Rattle.format.specs.Descriptors.{asText};
 ghost use Rattle.format.specs.Writer.{hexText, textData, rawData, dataBytes};
 ghost use Rattle.write_checks.specs.Refused.{chosen, lateRefusal};
 ghost use Rattle.write_data.specs.LowBytes.{lowBytes};
@@ -127,18 +129,21 @@ fn put_sized(
     ensures place { λ r. ⌜ r ≡ at + (to - from) * w ⌝ }
     ensures stored { λ _. ⌜ now (out .exit) ≡ sets (now (out .entry)) at (flatMap (lowBytes w endian) (slice from to (chosen packed (now (samples .entry)) (now (lent .entry))))) ⌝ }
 {
-    if endian == 1 {
-        return put_by_width(out, at, samples, lent, packed, from, to, w, 1);
+    if endian == given::BIG {
+        return put_by_width(out, at, samples, lent, packed, from, to, w, given::BIG);
     }
-    put_by_width(out, at, samples, lent, packed, from, to, w, 0)
+    put_by_width(out, at, samples, lent, packed, from, to, w, given::LITTLE)
 }
 
-// Where the part of 256 samples that starts at i ends; the last one ends at n.
+// How many samples are put to hex at a time.
+const PART: usize = 256;
+
+// Where the part that starts at i ends; the last one ends at n.
 fn part_end(i: usize, n: usize) -> usize
     requires { ⌜ i < n ⌝ }
     ensures { λ r. ⌜ (i < r) × (r ≤ n) × (r ≤ i + 256) ⌝ }
 {
-    if n - i < 256 { n } else { i + 256 }
+    if n - i < PART { n } else { i + PART }
 }
 
 // The samples in hex: their bytes are made in a buffer, a part of the samples at a time.
@@ -156,7 +161,7 @@ fn put_hex(
     ensures stored { λ _. ⌜ now (out .exit) ≡ sets (now (out .entry)) at (hexText (flatMap (lowBytes w endian) (chosen packed (now (samples .entry)) (now (lent .entry))))) ⌝ }
 {
     let n = write_checks::source::count(samples, lent, packed);
-    let mut part = [0u8; 2048];
+    let mut part = [0u8; 8 * PART];
     let mut o = at;
     let mut i: usize = 0;
     while i < n {
@@ -172,13 +177,13 @@ fn put_hex(
 fn data_length(samples: &[i64], lent: &[u8], packed: bool, encoding: u64, w: usize) -> usize
     requires { ⌜ (length (chosen packed (now samples) (now lent)) ≤ maxExtent) × (length (chosen packed (now samples) (now lent)) * w ≤ maxExtent) ⌝ }
     ensures { λ r. ⌜ ((endian : ℕ) → r ≡ length (dataBytes encoding w endian (chosen packed (now (samples .entry)) (now (lent .entry))))) ⌝ }
-    ensures long { λ r. ⌜ r ≤ 94489280490 ⌝ }
+    ensures long { λ r. ⌜ r ≤ 22 * maxExtent ⌝ }
 {
-    if encoding == 1 {
+    if encoding == given::TEXT {
         return text_length(samples, lent, packed);
     }
     let size = write_checks::source::count(samples, lent, packed) * w;
-    if encoding == 0 {
+    if encoding == given::RAW {
         return size;
     }
     2 * size + 1
@@ -187,10 +192,10 @@ fn data_length(samples: &[i64], lent: &[u8], packed: bool, encoding: u64, w: usi
 // Whether text fits, however long its n lines are.
 fn any_text_fits(start: usize, n: usize, encoding: u64, room: usize) -> bool
     requires { ⌜ (start ≤ 512) × (n ≤ maxExtent) ⌝ }
-    ensures { λ r. ⌜ (r ≡ true → (encoding ≡ 1) × (0 ≡ lateRefusal (start + 22 * n) room)) ⌝ }
+    ensures { λ r. ⌜ (r ≡ true → (encoding ≡ asText) × (0 ≡ lateRefusal (start + 22 * n) room)) ⌝ }
 {
-    if encoding == 1 {
-        return write_checks::check::late_refusal(start + 22 * n, room) == 0;
+    if encoding == given::TEXT {
+        return write_checks::check::late_refusal(start + format::SAMPLE_ROOM * n, room) == 0;
     }
     false
 }
@@ -239,11 +244,11 @@ pub fn put_data(
     ensures place { λ r. ⌜ r ≡ at + length (dataBytes encoding w endian (chosen packed (now (samples .entry)) (now (lent .entry)))) ⌝ }
     ensures stored { λ _. ⌜ now (out .exit) ≡ sets (now (out .entry)) at (dataBytes encoding w endian (chosen packed (now (samples .entry)) (now (lent .entry)))) ⌝ }
 {
-    if encoding == 0 {
+    if encoding == given::RAW {
         let n = write_checks::source::count(samples, lent, packed);
         return put_sized(out, at, samples, lent, packed, 0, n, w, endian);
     }
-    if encoding == 1 {
+    if encoding == given::TEXT {
         return put_text(out, at, samples, lent, packed);
     }
     let end = put_hex(out, at, samples, lent, packed, w, endian);
