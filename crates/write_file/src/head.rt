@@ -1,4 +1,5 @@
 // The header, line by line. Each function returns the place after its line.
+use format::given;
 ghost use mathlib.Core.Path.{_≡_};
 ghost use mathlib.Core.List.{flatMap};
 ghost use Prim.Native.Nat.{_+_, _*_, _≤_, _<_};
@@ -7,6 +8,7 @@ ghost use lib.Seq.{sets};
 ghost use Rattle.format.specs.Bytes.{bytes};
 ghost use Rattle.format.specs.Descriptors.{typeAt, typeName, encodings, endianNeeded};
 ghost use Rattle.format.specs.Writer.{decimal, nameAt, headerBytes};
+ghost use Rattle.theorem_room.specs.Room.{headerRoom};
 ghost use Rattle.write_checks.specs.Refused.{Numbers};
 ghost use Rattle.write_file.specs.Stored.{valueLine, afterSpace, endianText, topText, restText};
 
@@ -77,7 +79,7 @@ fn needs_endian(sampletype: u64, encoding: u64) -> bool
     requires { ⌜ (sampletype < 10) × (encoding < 3) ⌝ }
     ensures { λ r. ⌜ r ≡ endianNeeded sampletype encoding ⌝ }
 {
-    if encoding == 1 {
+    if encoding == given::TEXT {
         return false;
     }
     1 < format_values::types::sample_bytes(sampletype)
@@ -92,7 +94,7 @@ fn put_endian(out: &mut [u8], at: usize, sampletype: u64, encoding: u64, endian:
     if !needs_endian(sampletype, encoding) {
         return at;
     }
-    if endian == 0 {
+    if endian == given::LITTLE {
         return put_line(out, at, b"endian: ", b"little");
     }
     put_line(out, at, b"endian: ", b"big")
@@ -151,9 +153,9 @@ pub(crate) fn put_header(
     encoding: u64,
     endian: u64,
 ) -> usize
-    requires { ⌜ Numbers version (now sizes) sampletype encoding endian × (512 ≤ length (now out)) ⌝ }
+    requires { ⌜ Numbers version (now sizes) sampletype encoding endian × (headerRoom ≤ length (now out)) ⌝ }
     ensures { λ r. ⌜ (r ≡ length (headerBytes version (now (sizes .entry)) sampletype encoding endian)) × (now (out .exit) ≡ sets (now (out .entry)) 0 (headerBytes version (now (sizes .entry)) sampletype encoding endian)) ⌝ }
-    ensures long { λ r. ⌜ r ≤ 512 ⌝ }
+    ensures long { λ r. ⌜ r ≤ headerRoom ⌝ }
 {
     let at = put_top(out, version, sampletype, sizes.len());
     put_rest(out, at, sizes, sampletype, encoding, endian)

@@ -52,7 +52,7 @@ fn write_chosen(
     if early != 0 {
         return answer(early, 0);
     }
-    let mut head = [0u8; 512];
+    let mut head = [0u8; format::HEADER_ROOM];
     let start = head::put_header(&mut head, version, sizes, sampletype, encoding, endian);
     let w = format_values::types::sample_bytes(sampletype) as usize;
     let late = write_data::file_refusal(start, samples, lent, packed, encoding, w, out.len());
@@ -64,8 +64,8 @@ fn write_chosen(
     answer(0, end)
 }
 
-// Writes samples that are numbers as an attached file to the front of `out`; a refused call leaves `out` as it was. 512 bytes, and 22 for each sample,
-// are enough for any file.
+// Writes samples that are numbers as an attached file to the front of `out`; a refused call leaves `out` as it was. `HEADER_ROOM` bytes, and
+// `SAMPLE_ROOM` for each sample, are enough for any file.
 pub fn write(
     version: u64,
     sizes: &[u64],
@@ -106,7 +106,7 @@ pub fn write_bytes(
     ensures enough { λ r. ⌜ (writeRoom (length (now (samples .entry)) / wordBytes) ≤ length (now (out .entry)) → Enough (r .refusal)) ⌝ }
 {
     let none = [0i64; 1];
-    let mut ns = [0u64; 17];
+    let mut ns = [0u64; format::AXES + 1];
     let n = lent_numbers::numbers(sizes, &mut ns);
     write_chosen(
         version,
