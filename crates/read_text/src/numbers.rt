@@ -14,7 +14,7 @@ pub enum Number {
 // The sizes, and whether they are as many as the dimension and each in its range; if not, all are 0.
 pub struct Sizes {
     pub fine: bool,
-    pub sizes: [u64; 16],
+    pub sizes: [u64; format::AXES],
 }
 
 // The least number that is above the limit.
@@ -94,14 +94,14 @@ pub fn read_sizes(s: &[u8], dimension: usize) -> Sizes
 {
     let refused = Sizes {
         fine: false,
-        sizes: [0u64; 16],
+        sizes: [0u64; format::AXES],
     };
-    if 16 < dimension {
+    if format::AXES < dimension {
         return refused;
     }
     let mut at: usize = 0;
     let mut n: usize = 0;
-    let mut v = [0u64; 16];
+    let mut v = [0u64; format::AXES];
     while at < s.len() {
         let size = word_length(&s[at..]);
         if size == 0 {
