@@ -180,11 +180,11 @@ pub struct Refusal {
 // What a reading says in numbers. All zero where the call is refused.
 #[repr(C)]
 pub struct Reading {
-    // 1 to 5
+    // 1 to `MAX_VERSION`
     pub version: u32,
     // 0 attached, 1 detached
     pub form: u32,
-    // 1 to 16
+    // 1 to `MAX_AXES`
     pub dimension: u32,
     // numbered from 0 as document 01 lists them: int8, uint8, int16, .. double
     pub sampletype: u32,
