@@ -128,7 +128,7 @@ fn area_start(length: u64, whole: usize) -> usize
 pub fn locate(reading: Reading, file: &[u8], second: &[u8], wanted: bool) -> DataAnswer
     ensures { λ r. ⌜ ((es : List Entry) (gs : List Given) → IsReading (now (file .entry)) reading es gs → r ≡ dataAnswer (placeOf wanted gs (headerLength es) (now (file .entry)) (now (second .entry)))) ⌝ }
 {
-    if reading.form == 1 {
+    if reading.form == format::DETACHED {
         if format::MAX_FILE < second.len() {
             return refuse(format::FILE_TOO_LONG);
         }
