@@ -47,7 +47,7 @@ fn print(file: &[u8], out: &mut [u8]) -> usize
         return put_refusal(out, answer.refusal);
     }
     let reading = answer.reading;
-    if reading.form == 1 {
+    if reading.form == format::DETACHED {
         return put_reading(file, out, reading, 0);
     }
     let place = data_place::place::locate(reading, file, &file[0..0], false);
