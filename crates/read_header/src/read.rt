@@ -136,7 +136,7 @@ pub fn read(file: &[u8], table: &mut [u32]) -> ReadAnswer
     ensures enough { λ r. ⌜ (tableEntries ≤ length (now (table .entry)) → (r ≡ readHeaderCall (now (file .entry))) × Enough (r .refusal)) ⌝ }
 {
     let mut none = [0u8; 1];
-    read_into(file, table, &mut none, read_table::LISTED)
+    read_into(file, table, &mut none, read_table::IN_LIST)
 }
 
 // The same for a table in bytes, 4 an entry.

@@ -11,7 +11,7 @@ ghost use Rattle.read_table.specs.Tables.{lentEntries, Becomes, Holds, L
 ghost use Rattle.read_table.specs.Shifts.{movedBy, shifted, Shiftable};
 
 // The list counts.
-pub const LISTED: usize = 0;
+pub const IN_LIST: usize = 0;
 
 // The bytes count, 4 for an entry.
 pub const IN_BYTES: usize = 4;

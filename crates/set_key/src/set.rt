@@ -79,7 +79,7 @@ pub fn set_key(
         used,
         table,
         &mut none,
-        read_table::LISTED,
+        read_table::IN_LIST,
         count,
         key,
         value,
