@@ -101,7 +101,7 @@ pub extern "C" fn craneholt_sample_number(file: &[u8], coords: &[u8]) -> NumberA
     ensures { λ r. ⌜ r ≡ sampleNumberEntry (now (file .entry)) (now (coords .entry)) ⌝ }
 {
     // one more than there can be axes
-    let mut local = [0u64; 17];
+    let mut local = [0u64; format::AXES + 1];
     let n = lent_numbers::numbers(coords, &mut local);
     data_place::axes::sample_number(file, &local[..n])
 }
