@@ -8,7 +8,7 @@ ghost use Rattle.format.specs.Refusals.{refusalNumbers};
 ghost use Rattle.format.specs.Trials.{StarredTrials};
 
 pub mod field;
-pub mod given;
+pub mod wide;
 
 // The limits of document 01.
 pub const MAX_FILE: usize = 4294967295;

@@ -64,7 +64,7 @@ fn check_row(row: Row) -> Checked
 }
 
 // As many sizes as the dimension: they are kept.
-fn check_sizes(t: &[u8], dimension: u32, kept: &mut [u64; 16]) -> Checked
+fn check_sizes(t: &[u8], dimension: u32, kept: &mut [u64; format::AXES]) -> Checked
     ensures { λ r. ⌜ _≡_ {A = Checked × List ℕ} (r, now (kept .exit)) (checked dimension sizes (now (t .entry)) (now (kept .entry))) ⌝ }
 {
     let x = read_text::numbers::read_sizes(t, dimension as usize);
@@ -99,7 +99,7 @@ fn is_name(t: &[u8]) -> bool
 }
 
 // The descriptor t of the field f, in a header of this dimension. Right sizes are kept, 0 past them; otherwise what is kept stays.
-pub fn check(f: usize, t: &[u8], dimension: u32, kept: &mut [u64; 16]) -> Checked
+pub fn check(f: usize, t: &[u8], dimension: u32, kept: &mut [u64; format::AXES]) -> Checked
     ensures { λ r. ⌜ _≡_ {A = Checked × List ℕ} (r, now (kept .exit)) (checked dimension f (now (t .entry)) (now (kept .entry))) ⌝ }
 {
     match f {

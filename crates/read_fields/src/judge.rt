@@ -58,7 +58,7 @@ fn without_field(number: u32) -> Step
 }
 
 // The field f with the descriptor t: bad descriptor 11. Right sizes change the sizes.
-fn take_field(f: usize, t: &[u8], dimension: u32, sizes: &mut [u64; 16]) -> Step
+fn take_field(f: usize, t: &[u8], dimension: u32, sizes: &mut [u64; format::AXES]) -> Step
     ensures { λ r. ⌜ (dimension ≤ maxAxes → _≡_ {A = Step × List ℕ} (r, now (sizes .exit)) (stepped (described dimension f (now (t .entry))) (now (sizes .entry)))) ⌝ }
 {
     let x = read_descriptors::check::check(f, t, dimension, sizes);
@@ -80,7 +80,7 @@ fn on_known(
     dimension: u32,
     f: usize,
     rest: &[u8],
-    sizes: &mut [u64; 16],
+    sizes: &mut [u64; format::AXES],
 ) -> Step
     requires { ⌜ f < fieldCount ⌝ }
     ensures { λ r. ⌜ ((gs : List Given) → Known (now (given .entry)) dimension gs → _≡_ {A = Step × List ℕ} (r, now (sizes .exit)) (stepped (onField version gs (some f) (now (rest .entry))) (now (sizes .entry)))) ⌝ }
@@ -109,7 +109,7 @@ fn on_field(
     dimension: u32,
     t: &[u8],
     i: usize,
-    sizes: &mut [u64; 16],
+    sizes: &mut [u64; format::AXES],
 ) -> Step
     requires { ⌜ i + 2 ≤ length (now t) ⌝ }
     ensures { λ r. ⌜ ((gs : List Given) → Known (now (given .entry)) dimension gs → _≡_ {A = Step × List ℕ} (r, now (sizes .exit)) (stepped (onKind version gs (now (t .entry)) (otherLine (fieldMark (take i (now (t .entry))) (drop (i + 2) (now (t .entry)))))) (now (sizes .entry)))) ⌝ }
@@ -140,7 +140,7 @@ pub fn judge_line(
     given: &[bool; field::COUNT],
     dimension: u32,
     t: &[u8],
-    sizes: &mut [u64; 16],
+    sizes: &mut [u64; format::AXES],
 ) -> Step
     ensures { λ r. ⌜ ((gs : List Given) → Known (now (given .entry)) dimension gs → _≡_ {A = Step × List ℕ} (r, now (sizes .exit)) (stepped (judge version gs (now (t .entry))) (now (sizes .entry)))) ⌝ }
 {

@@ -43,10 +43,10 @@ pub fn no_numbers() -> [u32; field::COUNT]
 }
 
 // No field is given: the sizes.
-pub fn no_sizes() -> [u64; 16]
+pub fn no_sizes() -> [u64; format::AXES]
     ensures { λ r. ⌜ r ≡ padded [] ⌝ }
 {
-    [0u64; 16]
+    [0u64; format::AXES]
 }
 
 // Keeps that the field f is given, and its number; for `field::COUNT` nothing changes.
@@ -77,7 +77,7 @@ pub fn refuse(number: u32, line: u32) -> ReadAnswer
             sampletype: 0,
             encoding: 0,
             endian: 0,
-            sizes: [0u64; 16],
+            sizes: [0u64; format::AXES],
             lineskip: 0,
             byteskip: 0,
             extent: 0,
@@ -111,12 +111,12 @@ fn has_needed(given: &[bool; field::COUNT], numbers: &[u32; field::COUNT]) -> bo
 }
 
 // The extent, or the least number that is none where it is above.
-fn extent(dimension: u32, sampletype: u32, sizes: [u64; 16]) -> u64
+fn extent(dimension: u32, sampletype: u32, sizes: [u64; format::AXES]) -> u64
     ensures { λ r. ⌜ (dimension ≤ maxAxes → r ≡ capped (extent (take dimension sizes) sampletype)) ⌝ }
 {
     let n = dimension as usize;
     // no header has more axes
-    if 16 < n {
+    if format::AXES < n {
         return 0;
     }
     products::times(
@@ -130,7 +130,7 @@ pub fn finish(
     version: u32,
     given: &[bool; field::COUNT],
     numbers: &[u32; field::COUNT],
-    sizes: [u64; 16],
+    sizes: [u64; format::AXES],
     bytes: usize,
     count: u32,
 ) -> ReadAnswer

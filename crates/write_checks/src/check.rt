@@ -9,7 +9,7 @@ ghost use Rattle.format.specs.Samples.{lowest, highest, toSigned};
 ghost use Rattle.format.specs.Writer.{writable};
 ghost use Rattle.write_checks.specs.Refused.{chosen, inRange, allInRange, WholeRange, earlyRefusal, lateRefusal, Numbers, Ready};
 use crate::source;
-use format::given;
+use format::wide;
 use format_values::products;
 use format_values::types;
 
@@ -41,10 +41,10 @@ fn is_writable(version: u64, sizes: &[u64], sampletype: u64, encoding: u64, endi
     if types::COUNT <= sampletype {
         return false;
     }
-    if given::ENCODINGS <= encoding {
+    if wide::ENCODINGS <= encoding {
         return false;
     }
-    if given::ENDIANS <= endian {
+    if wide::ENDIANS <= endian {
         return false;
     }
     if sizes.len() < 1 {

@@ -1,5 +1,5 @@
 // The data of the samples in each encoding, and its length.
-use format::given;
+use format::wide;
 ghost use mathlib.Core.Path.{_≡_};
 ghost use mathlib.Core.List.{flatMap};
 ghost use Prim.Native.Nat.{ℕ, _+_, _*_, _-_, _≤_, _<_};
@@ -129,10 +129,10 @@ fn put_sized(
     ensures place { λ r. ⌜ r ≡ at + (to - from) * w ⌝ }
     ensures stored { λ _. ⌜ now (out .exit) ≡ sets (now (out .entry)) at (flatMap (lowBytes w endian) (slice from to (chosen packed (now (samples .entry)) (now (lent .entry))))) ⌝ }
 {
-    if endian == given::BIG {
-        return put_by_width(out, at, samples, lent, packed, from, to, w, given::BIG);
+    if endian == wide::BIG {
+        return put_by_width(out, at, samples, lent, packed, from, to, w, wide::BIG);
     }
-    put_by_width(out, at, samples, lent, packed, from, to, w, given::LITTLE)
+    put_by_width(out, at, samples, lent, packed, from, to, w, wide::LITTLE)
 }
 
 // How many samples are put to hex at a time.
@@ -179,11 +179,11 @@ fn data_length(samples: &[i64], lent: &[u8], packed: bool, encoding: u64, w: usi
     ensures { λ r. ⌜ ((endian : ℕ) → r ≡ length (dataBytes encoding w endian (chosen packed (now (samples .entry)) (now (lent .entry))))) ⌝ }
     ensures long { λ r. ⌜ r ≤ 22 * maxExtent ⌝ }
 {
-    if encoding == given::TEXT {
+    if encoding == wide::TEXT {
         return text_length(samples, lent, packed);
     }
     let size = write_checks::source::count(samples, lent, packed) * w;
-    if encoding == given::RAW {
+    if encoding == wide::RAW {
         return size;
     }
     2 * size + 1
@@ -194,7 +194,7 @@ fn any_text_fits(start: usize, n: usize, encoding: u64, room: usize) -> bool
     requires { ⌜ (start ≤ 512) × (n ≤ maxExtent) ⌝ }
     ensures { λ r. ⌜ (r ≡ true → (encoding ≡ asText) × (0 ≡ lateRefusal (start + 22 * n) room)) ⌝ }
 {
-    if encoding == given::TEXT {
+    if encoding == wide::TEXT {
         return write_checks::check::late_refusal(start + format::SAMPLE_ROOM * n, room) == 0;
     }
     false
@@ -244,11 +244,11 @@ pub fn put_data(
     ensures place { λ r. ⌜ r ≡ at + length (dataBytes encoding w endian (chosen packed (now (samples .entry)) (now (lent .entry)))) ⌝ }
     ensures stored { λ _. ⌜ now (out .exit) ≡ sets (now (out .entry)) at (dataBytes encoding w endian (chosen packed (now (samples .entry)) (now (lent .entry)))) ⌝ }
 {
-    if encoding == given::RAW {
+    if encoding == wide::RAW {
         let n = write_checks::source::count(samples, lent, packed);
         return put_sized(out, at, samples, lent, packed, 0, n, w, endian);
     }
-    if encoding == given::TEXT {
+    if encoding == wide::TEXT {
         return put_text(out, at, samples, lent, packed);
     }
     let end = put_hex(out, at, samples, lent, packed, w, endian);

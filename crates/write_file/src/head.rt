@@ -1,5 +1,5 @@
 // The header, line by line. Each function returns the place after its line.
-use format::given;
+use format::wide;
 ghost use mathlib.Core.Path.{_≡_};
 ghost use mathlib.Core.List.{flatMap};
 ghost use Prim.Native.Nat.{_+_, _*_, _≤_, _<_};
@@ -79,7 +79,7 @@ fn needs_endian(sampletype: u64, encoding: u64) -> bool
     requires { ⌜ (sampletype < 10) × (encoding < 3) ⌝ }
     ensures { λ r. ⌜ r ≡ endianNeeded sampletype encoding ⌝ }
 {
-    if encoding == given::TEXT {
+    if encoding == wide::TEXT {
         return false;
     }
     1 < format_values::types::sample_bytes(sampletype)
@@ -94,7 +94,7 @@ fn put_endian(out: &mut [u8], at: usize, sampletype: u64, encoding: u64, endian:
     if !needs_endian(sampletype, encoding) {
         return at;
     }
-    if endian == given::LITTLE {
+    if endian == wide::LITTLE {
         return put_line(out, at, b"endian: ", b"little");
     }
     put_line(out, at, b"endian: ", b"big")

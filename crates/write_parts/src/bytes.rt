@@ -1,5 +1,5 @@
 // Bytes, the bytes of a sample, and bytes in hex.
-use format::given;
+use format::wide;
 ghost use mathlib.Core.Path.{_≡_};
 ghost use Prim.Native.Nat.{_+_, _*_, _-_, _≤_, _<_};
 ghost use lib.Dec.{eqb};
@@ -29,7 +29,7 @@ fn spot(j: usize, w: usize, endian: u64) -> usize
     requires { ⌜ j < w ⌝ }
     ensures { λ r. ⌜ r ≡ (if eqb endian big then w - 1 - j else j) ⌝ }
 {
-    if endian == given::BIG { w - 1 - j } else { j }
+    if endian == wide::BIG { w - 1 - j } else { j }
 }
 
 // The low w bytes of x.
