@@ -9,6 +9,7 @@ ghost use lib.Seq.{sets, slice};
 ghost use Rattle.format.specs.Limits.{maxExtent};
 ghost use Rattle.format.specs.Descriptors.{asText};
 ghost use Rattle.format.specs.Writer.{hexText, textData, rawData, dataBytes};
+ghost use Rattle.format.specs.Room.{headerRoom, sampleRoom};
 ghost use Rattle.write_checks.specs.Refused.{chosen, lateRefusal};
 ghost use Rattle.write_data.specs.LowBytes.{lowBytes};
 ghost use Rattle.lent_numbers.specs.Widths.{Width};
@@ -16,7 +17,7 @@ ghost use Rattle.lent_numbers.specs.Widths.{Width};
 // How many bytes the samples take as text.
 fn text_length(samples: &[i64], lent: &[u8], packed: bool) -> usize
     requires { ⌜ length (chosen packed (now samples) (now lent)) ≤ maxExtent ⌝ }
-    ensures { λ r. ⌜ (r ≡ length (textData (chosen packed (now (samples .entry)) (now (lent .entry))))) × (r ≤ 22 * length (chosen packed (now (samples .entry)) (now (lent .entry)))) ⌝ }
+    ensures { λ r. ⌜ (r ≡ length (textData (chosen packed (now (samples .entry)) (now (lent .entry))))) × (r ≤ sampleRoom * length (chosen packed (now (samples .entry)) (now (lent .entry)))) ⌝ }
 {
     let n = write_checks::source::count(samples, lent, packed);
     let mut total: usize = 0;
@@ -177,7 +178,7 @@ fn put_hex(
 fn data_length(samples: &[i64], lent: &[u8], packed: bool, encoding: u64, w: usize) -> usize
     requires { ⌜ (length (chosen packed (now samples) (now lent)) ≤ maxExtent) × (length (chosen packed (now samples) (now lent)) * w ≤ maxExtent) ⌝ }
     ensures { λ r. ⌜ ((endian : ℕ) → r ≡ length (dataBytes encoding w endian (chosen packed (now (samples .entry)) (now (lent .entry))))) ⌝ }
-    ensures long { λ r. ⌜ r ≤ 22 * maxExtent ⌝ }
+    ensures long { λ r. ⌜ r ≤ sampleRoom * maxExtent ⌝ }
 {
     if encoding == wide::TEXT {
         return text_length(samples, lent, packed);
@@ -191,8 +192,8 @@ fn data_length(samples: &[i64], lent: &[u8], packed: bool, encoding: u64, w: usi
 
 // Whether text fits, however long its n lines are.
 fn any_text_fits(start: usize, n: usize, encoding: u64, room: usize) -> bool
-    requires { ⌜ (start ≤ 512) × (n ≤ maxExtent) ⌝ }
-    ensures { λ r. ⌜ (r ≡ true → (encoding ≡ asText) × (0 ≡ lateRefusal (start + 22 * n) room)) ⌝ }
+    requires { ⌜ (start ≤ headerRoom) × (n ≤ maxExtent) ⌝ }
+    ensures { λ r. ⌜ (r ≡ true → (encoding ≡ asText) × (0 ≡ lateRefusal (start + sampleRoom * n) room)) ⌝ }
 {
     if encoding == wide::TEXT {
         return write_checks::check::late_refusal(start + format::SAMPLE_ROOM * n, room) == 0;
@@ -210,8 +211,8 @@ pub fn file_refusal(
     w: usize,
     room: usize,
 ) -> u32
-    requires { ⌜ (start ≤ 512) × (length (chosen packed (now samples) (now lent)) ≤ maxExtent) × (length (chosen packed (now samples) (now lent)) * w ≤ maxExtent) ⌝ }
-    requires { ⌜ length (textData (chosen packed (now samples) (now lent))) ≤ 22 * length (chosen packed (now samples) (now lent)) ⌝ }
+    requires { ⌜ (start ≤ headerRoom) × (length (chosen packed (now samples) (now lent)) ≤ maxExtent) × (length (chosen packed (now samples) (now lent)) * w ≤ maxExtent) ⌝ }
+    requires { ⌜ length (textData (chosen packed (now samples) (now lent))) ≤ sampleRoom * length (chosen packed (now samples) (now lent)) ⌝ }
     ensures { λ r. ⌜ ((endian : ℕ) → r ≡ lateRefusal (start + length (dataBytes encoding w endian (chosen packed (now (samples .entry)) (now (lent .entry))))) room) ⌝ }
 {
     if any_text_fits(

@@ -8,7 +8,7 @@ ghost use lib.Seq.{sets};
 ghost use Rattle.format.specs.Bytes.{bytes};
 ghost use Rattle.format.specs.Descriptors.{typeAt, typeName, encodings, endianNeeded};
 ghost use Rattle.format.specs.Writer.{decimal, nameAt, headerBytes};
-ghost use Rattle.theorem_room.specs.Room.{headerRoom};
+ghost use Rattle.format.specs.Room.{headerRoom};
 ghost use Rattle.write_checks.specs.Refused.{Numbers};
 ghost use Rattle.write_file.specs.Stored.{valueLine, afterSpace, endianText, topText, restText};
 
