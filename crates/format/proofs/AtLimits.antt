@@ -80,6 +80,16 @@ past-five ls = go (walk 1 6 56 fields ls) refl
     go (refused r) e = rw e
     go (accepted es gs r) e = rw e
 
+-- ---- the closing line, at either side of a limit: a wrong limit fails here first, by its numbers
+
+closings :
+    (walked 7 (maxHeader - 1) closingLine ≡ fine) × (walked 7 maxHeader closingLine ≡ atLine 3 7)
+    × (walked maxLines (44 + 2 * maxLines) closingLine ≡ fine) × (walked (maxLines + 1) (46 + 2 * maxLines) closingLine ≡ atLine 4 (maxLines + 1))
+unfolding every same alike isIn isAny rowFrom descriptorOf digitsFrom number parts notEmpty typeAt hasNeeded product judge complete walk
+closings = (refl, refl, refl, refl)
+
+-- ---- the walk goes over comments
+
 over-comment : (n at : ℕ) (t : List ℕ) (ls : List Line) → at + size (line (HASH ∷ t) lf) ≤ maxHeader → n ≤ maxLines
     → walked n at (line (HASH ∷ t) lf ∷ ls) ≡ walked (n + 1) (at + size (line (HASH ∷ t) lf)) ls
 unfolding walk judge
@@ -94,14 +104,6 @@ over-comments : (k n at m e : ℕ) → m ≡ n + k → e ≡ at + 2 * k → e �
 over-comments zero n at m e p q h l = let x : m ≡ n = omega arith in let y : e ≡ at = omega arith in rw (x, y)
 over-comments (suc k) n at m e p q h l =
     over-comment n at [] (hashLines k) (omega arith) (omega arith) ∙ over-comments k (n + 1) (at + 2) m e (omega arith) (omega arith) h l
-
--- ---- the closing line, at either side of a limit
-
-closings :
-    (walked 7 (maxHeader - 1) closingLine ≡ fine) × (walked 7 maxHeader closingLine ≡ atLine 3 7)
-    × (walked maxLines (44 + 2 * maxLines) closingLine ≡ fine) × (walked (maxLines + 1) (46 + 2 * maxLines) closingLine ≡ atLine 4 (maxLines + 1))
-unfolding every same alike isIn isAny rowFrom descriptorOf digitsFrom number parts notEmpty typeAt hasNeeded product judge complete walk
-closings = (refl, refl, refl, refl)
 
 -- ---- both limits
 
