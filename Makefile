@@ -80,6 +80,7 @@ $(BUILD)/inputs: $(wildcard tests/frames/*.c) tests/bytes.c tests/json.c tests/m
 # their answers are the model's, so that it has to agree with the vectors first
 inputs: $(BUILD)/vectors_model $(BUILD)/inputs
 	$(BUILD)/vectors_model tests/vectors
+	$(BUILD)/vectors_model tests/vectors/base before-w1
 	$(BUILD)/inputs tests/vectors tests/frames crates
 
 $(BUILD)/%: examples/%.c examples/files.h include/craneholt.h $(ARCHIVE)
@@ -88,9 +89,11 @@ $(BUILD)/%: examples/%.c examples/files.h include/craneholt.h $(ARCHIVE)
 
 check: $(BUILD)/vectors $(BUILD)/vectors_model $(BUILD)/inputs $(BUILD)/listing $(LISTING) $(BUILD)/peers $(BUILD)/empty $(BUILD)/random $(BUILD)/tokens $(BUILD)/correct $(BUILD)/merge
 	$(BUILD)/vectors tests/vectors
+	$(BUILD)/vectors tests/vectors/base before-w1
 	$(BUILD)/vectors_model tests/vectors
+	$(BUILD)/vectors_model tests/vectors/base before-w1
 	sh tests/frames/compare.sh $(BUILD)
-	$(BUILD)/listing $(LISTING) tests/vectors $(BUILD)
+	$(BUILD)/listing $(LISTING) $(BUILD)
 	$(BUILD)/peers tests/peers
 	$(BUILD)/empty
 	$(BUILD)/random

@@ -34,7 +34,7 @@
 extern "C" {
 #endif
 
-#define CRANEHOLT_VERSION "1.0"
+#define CRANEHOLT_VERSION "1.1"
 
 /* ---- Limits ---- */
 
@@ -62,14 +62,15 @@ enum craneholt_refusal_number {
     CRANEHOLT_REPEATED_FIELD   = 9,  /* the field was given before, in either spelling */
     CRANEHOLT_OUT_OF_ORDER     = 10, /* a per-axis field before dimension, or space units, space origin, space
                                         directions or measurement frame before space and space dimension */
-    CRANEHOLT_BAD_DESCRIPTOR   = 11, /* the field may not say this; writer: a number that cannot be written */
+    CRANEHOLT_BAD_DESCRIPTOR   = 11, /* the field may not say this; with line 0: a byte skip of -1 with text or hex;
+                                        writer: a number that cannot be written */
     CRANEHOLT_BAD_BACKSLASH    = 12, /* a backslash in a key or value that is neither "\n" nor "\\" */
     CRANEHOLT_NO_END           = 13, /* the bytes end before the header does, and there is no data file field */
     CRANEHOLT_MISSING_FIELD    = 14, /* dimension, type, encoding or sizes is missing, or endian where it matters */
     CRANEHOLT_EXTENT_TOO_LARGE = 15, /* sizes and type ask for more than CRANEHOLT_MAX_FILE bytes of data */
     CRANEHOLT_SKIP_PAST_END    = 16, /* line skip or byte skip passes the end of the file */
     CRANEHOLT_PLACE_TOO_LARGE  = 17, /* start and extent of the data do not fit 64 bits; with these limits it cannot be */
-    CRANEHOLT_DATA_TOO_SHORT   = 18, /* raw: the file has fewer bytes than the data takes */
+    CRANEHOLT_DATA_TOO_SHORT   = 18, /* raw: after the skips the file has fewer bytes than the data takes */
     CRANEHOLT_FLOAT_SAMPLES    = 19, /* samples of type float or double are not decoded, nor written */
     CRANEHOLT_BAD_SAMPLE       = 20, /* no number, out of its type's range, or more than 9223372036854775807 */
     CRANEHOLT_DATA_ENDS_EARLY  = 21, /* text or hex: the data ends before the last sample */
@@ -81,7 +82,8 @@ enum craneholt_refusal_number {
     CRANEHOLT_WRONG_COUNT      = 27  /* writer: there are not as many samples as the sizes ask for */
 };
 
-/* The line is that of the header (from 1) for the numbers 2 to 12 of a reading, else 0. */
+/* The line is that of the header (from 1) for the numbers 2 to 12 of a reading, else 0. It is 0 also for the 11 of a byte skip
+ * of -1 with text or hex. */
 typedef struct craneholt_refusal {
     uint32_t number;
     uint32_t line;
@@ -109,10 +111,11 @@ typedef struct craneholt_reading {
     uint32_t endian;     /* CRANEHOLT_LITTLE, CRANEHOLT_BIG, or CRANEHOLT_NO_ENDIAN where none is given */
     uint64_t sizes[CRANEHOLT_MAX_AXES]; /* axis 0, the fastest, first; 0 past the dimension */
     uint64_t lineskip;
-    uint64_t byteskip;
+    uint64_t byteskip;   /* 0 if it is -1: see fromend */
     uint64_t extent;     /* the product of the sizes times the bytes of a sample */
     uint64_t length;     /* bytes of the header, its closing empty line included */
     uint32_t lines;      /* lines of the header, its closing empty line included */
+    uint8_t fromend;     /* 1: the byte skip is -1, so that the data is the last bytes of its file; else 0 */
 } craneholt_reading;
 
 typedef struct craneholt_read_answer {
@@ -176,11 +179,13 @@ craneholt_value_answer craneholt_copy_value(const uint8_t *file, size_t file_len
 typedef struct craneholt_data_answer {
     craneholt_refusal refusal;
     uint8_t second; /* 1: the data is in the second file */
-    uint64_t start; /* in the file that holds it, after the skips */
+    uint64_t start; /* in the file that holds it */
     uint64_t length;
 } craneholt_data_answer;
 
-/* Where the data lies: `extent` bytes in raw, all the rest in text and hex. Refuses 1 to 15, 1 for the second file, 16, 18. */
+/* Where the data lies: after the skips, `extent` bytes in raw, all the rest in text and hex. With a byte skip of -1, which only
+ * raw may have, it is the last `extent` bytes of the file; 18 if fewer are left after the header and the skipped lines.
+ * Refuses 1 to 15, 1 for the second file, 16, 18. */
 craneholt_data_answer craneholt_data(const uint8_t *file, size_t file_length,
                                      const uint8_t *second, size_t second_length);
 
@@ -274,7 +279,7 @@ static inline const char *craneholt_sentence(uint32_t number)
     case CRANEHOLT_NOT_IN_VERSION:   return "this version of the format has no such field, or no key pairs";
     case CRANEHOLT_REPEATED_FIELD:   return "the field was given before";
     case CRANEHOLT_OUT_OF_ORDER:     return "the field comes before the one that it needs (dimension; space or space dimension)";
-    case CRANEHOLT_BAD_DESCRIPTOR:   return "the field cannot have this value";
+    case CRANEHOLT_BAD_DESCRIPTOR:   return "the field cannot have this value, or a byte skip of -1 stands with text or hex";
     case CRANEHOLT_BAD_BACKSLASH:    return "a backslash is followed neither by 'n' nor by a backslash";
     case CRANEHOLT_NO_END:           return "the header has no end";
     case CRANEHOLT_MISSING_FIELD:    return "a needed field is missing (dimension, type, encoding, sizes, endian)";

@@ -211,7 +211,7 @@ static const char *const bad_lines[] = {
     "sizes: 18446744073709551617", "sizes: 2x", "sizes: -2", "sizes:  ", "type: char", "type: long",
     "type: unsigned  char", "type: block", "type: int8 ", "type: ", "encoding: gzip", "encoding: bz2",
     "encoding: rawx", "encoding: ", "endian: none", "endian: ", "line skip: -1", "line skip: 1 1",
-    "line skip: 4294967295", "line skip: 4294967296", "line skip:  ", "byte skip: -1",
+    "line skip: 4294967295", "line skip: 4294967296", "line skip:  ", "byte skip: -1", "byteskip: -1",
     "byte skip: 4294967296", "byte skip: x", "data file: LIST", "data file:  LIST ", "data file: LIST 2",
     "data file: LIST\t2", "data file: list", "data file: LISTs", "data file: a%d.raw 1 2 1",
     "data file: %", "data file: ", "datafile:  \t", "kinds: x", "measurement frame: (1)", "thicknesses: 1",
@@ -272,6 +272,14 @@ static void put_type(struct volume *v)
     put_word(&v->file, names[random_below(count)]);
 }
 
+/* Now and then a text that is not quite -1. */
+static void put_from_end(struct bytes *b)
+{
+    static const char *const bad[] = {"-01", "-2", "-0", "- 1", "-\t1", "-1 0", "-1 -1", "-10", "-", "--1", "+1", "-1x",
+                                      "-4294967295", "-18446744073709551615"};
+    put_text(b, random_chance(95) ? "-1" : bad[random_below(COUNT(bad))]);
+}
+
 static void put_descriptor(struct volume *v, int field)
 {
     static const char *const files[] = {"a.raw", "data file.raw", "LISTS", "list", "x: y", "a:=b", "#"};
@@ -295,6 +303,10 @@ static void put_descriptor(struct volume *v, int field)
     case DIMENSION:
     case LINE_SKIP:
     case BYTE_SKIP:
+        if (field == BYTE_SKIP && v->from_end) {
+            put_from_end(&v->file);
+            return;
+        }
         put_zeros(&v->file);
         put_decimal(&v->file, number);
         return;
@@ -343,7 +355,7 @@ static void choose_fields(struct maker *m)
     m->wanted[DIMENSION] = m->wanted[SIZES] = m->wanted[TYPE] = m->wanted[ENCODING] = 1;
     m->wanted[ENDIAN] = v->endian != 2;
     m->wanted[LINE_SKIP] = v->line_skip > 0 || random_chance(5);
-    m->wanted[BYTE_SKIP] = v->byte_skip > 0 || random_chance(5);
+    m->wanted[BYTE_SKIP] = v->byte_skip > 0 || v->from_end || random_chance(5);
     m->wanted[DATA_FILE] = v->detached;
     if (random_chance(3)) /* a needed field missing */
         m->wanted[random_below(SIZES + 1)] = 0;
@@ -416,13 +428,18 @@ static void put_header(struct volume *v)
 
 /* ---- data */
 
+/* What is skipped; foreign bytes, sometimes with too few lines, where the data is the end. */
 static void put_skipped(struct volume *v, struct bytes *data)
 {
+    if (v->from_end && random_chance(25)) {
+        put_any(data, "ab\n", random_below(12));
+        return;
+    }
     for (uint64_t i = 0; i < v->line_skip; i++) {
         put_any(data, "ab \r:#", random_below(6));
         put_byte(data, '\n');
     }
-    put_random(data, v->byte_skip);
+    put_random(data, v->from_end && random_chance(70) ? random_below(40) : v->byte_skip);
 }
 
 /* Blanks of data: bytes 9 to 13 and 32. */
@@ -497,7 +514,7 @@ static void put_data(struct volume *v, struct bytes *data)
         put_text_data(data, v);
     else
         put_raw_or_hex(data, v);
-    if (random_chance(6) && data->length > start)
+    if (random_chance(v->from_end ? 15 : 6) && data->length > start)
         data->length -= 1 + random_below(data->length - start);
     if (random_chance(15))
         put_random(data, 1 + random_below(8));
@@ -583,13 +600,14 @@ static void choose_volume(struct volume *v)
     v->file.length = v->second.length = 0;
     v->version = random_chance(10) ? 1 : 2 + (uint32_t)random_below(4);
     v->type = (uint32_t)random_below(random_chance(90) ? 8 : MODEL_TYPES);
-    v->encoding = (uint32_t)random_below(MODEL_ENCODINGS);
+    v->from_end = random_chance(12);
+    v->encoding = v->from_end && random_chance(70) ? RAW : (uint32_t)random_below(MODEL_ENCODINGS);
     v->endian = (uint32_t)random_below(2);
     if ((model_types[v->type].bytes == 1 || v->encoding == TEXT) && random_chance(70))
         v->endian = 2;
     v->detached = random_chance(30);
     v->line_skip = random_chance(15) ? random_below(4) : 0;
-    v->byte_skip = random_chance(15) ? random_below(6) : 0;
+    v->byte_skip = !v->from_end && random_chance(15) ? random_below(6) : 0;
     choose_sizes(v);
 }
 

@@ -32,6 +32,7 @@ struct volume {
     size_t dimension;
     uint64_t sizes[16], count; /* count: the wanted samples, when few */
     uint64_t line_skip, byte_skip;
+    int from_end; /* the byte skip is -1, and byte_skip 0 */
     struct bytes file, second;
     size_t header; /* the length of the header before damage */
 };

@@ -4,7 +4,7 @@
  * small pieces. What the program prints is compared byte for byte; it has to
  * end with status 0, whether the file is refused or not.
  *
- *     listing program [vectors] [folder for input and output]
+ *     listing program [folder for input and output]
  */
 #include "bytes.h"
 #include "json.h"
@@ -14,10 +14,13 @@
 #include <stdlib.h>
 #include <string.h>
 
-/* how many vectors there are, so that a missing one shows */
-enum { FILES = 320, CALLS = 49 };
+/* the folders of vectors, and how many there are, so that a missing one shows */
+static const struct set {
+    const char *folder;
+    int files, calls;
+} sets[] = {{"tests/vectors", 150, 107}, {"tests/vectors/base", 320, 49}};
 
-static const char *program, *vectors = "tests/vectors", *work = "build";
+static const char *program, *work = "build";
 static int passed, failed;
 
 /* ---- one run of the program */
@@ -53,8 +56,8 @@ static void run(const char *way, const char *name, int number, struct bytes file
 
 /* ---- the vectors */
 
-/* True if there is a vector of this number. */
-static int run_file(int number)
+/* True if the folder has a vector of this number. */
+static int run_file(const char *vectors, int number)
 {
     char name[40];
     struct bytes file, want;
@@ -72,11 +75,11 @@ static int run_file(int number)
 }
 
 /* One past the last too, so that a vector more shows as well. */
-static int run_files(void)
+static int run_files(const struct set *set)
 {
     int files = 0;
-    for (int number = 0; number <= FILES; number++)
-        files += run_file(number);
+    for (int number = 0; number <= set->files; number++)
+        files += run_file(set->folder, number);
     return files;
 }
 
@@ -95,9 +98,9 @@ static int run_call(const char *line, int number)
     return listing;
 }
 
-static int run_calls(void)
+static int run_calls(const struct set *set)
 {
-    struct bytes text = load(vectors, "calls.jsonl");
+    struct bytes text = load(set->folder, "calls.jsonl");
     int number = 0, calls = 0;
     if (text.at == NULL)
         return 0;
@@ -105,6 +108,14 @@ static int run_calls(void)
         calls += run_call(line, ++number);
     free(text.at);
     return calls;
+}
+
+static void run_set(const struct set *set)
+{
+    int files = run_files(set), calls = run_calls(set);
+    printf("listing program, %s: %d of %d files, %d of %d calls\n",
+           set->folder, files, set->files, calls, set->calls);
+    failed += files != set->files || calls != set->calls;
 }
 
 /* ---- files of a length */
@@ -191,23 +202,16 @@ static void run_lengths(void)
 
 int main(int arguments, char **argument)
 {
-    int files, calls;
     if (arguments < 2) {
-        fprintf(stderr, "usage: listing program [vectors] [folder for input and output]\n");
+        fprintf(stderr, "usage: listing program [folder for input and output]\n");
         return 2;
     }
     program = argument[1];
     if (arguments > 2)
-        vectors = argument[2];
-    if (arguments > 3)
-        work = argument[3];
-    files = run_files();
-    calls = run_calls();
+        work = argument[2];
+    for (size_t i = 0; i < sizeof sets / sizeof sets[0]; i++)
+        run_set(&sets[i]);
     run_lengths();
-    if (files != FILES || calls != CALLS) {
-        failed++;
-        printf("listing program: %d of %d files, %d of %d calls\n", files, FILES, calls, CALLS);
-    }
-    printf("listing program, %d files and %d calls: %d passed, %d failed\n", files, calls, passed, failed);
+    printf("listing program: %d passed, %d failed\n", passed, failed);
     return failed != 0;
 }

@@ -1,9 +1,10 @@
 /*
  * A second implementation of every call of craneholt.h, written from the
- * rules of document 01 alone, to compare the library with. It is plain and
- * slow on purpose and allocates memory where that is the simplest way. The
- * parts below stand in the order of the document's sections and cite them;
- * points that it leaves open are taken as docs/DECISIONS.md says.
+ * rules of document 01 and of request W1 of document 02 alone, to compare the
+ * library with. It is plain and slow on purpose and allocates memory where
+ * that is the simplest way. The parts below stand in the order of document
+ * 01's sections and cite them; points that the documents leave open are taken
+ * as docs/DECISIONS.md says.
  */
 #include "model.h"
 
@@ -372,7 +373,8 @@ static int understand(craneholt_reading *r, int field, const uint8_t *text, size
     case LINE_SKIP:
         return read_numbers(text, length, 1, 0, LIMIT32, &r->lineskip);
     case BYTE_SKIP:
-        return read_numbers(text, length, 1, 0, LIMIT32, &r->byteskip);
+        r->fromend = length == 2 && text[0] == '-' && text[1] == '1'; /* W1 */
+        return r->fromend || read_numbers(text, length, 1, 0, LIMIT32, &r->byteskip);
     default:
         return is_file_name(text, length);
     }
@@ -483,6 +485,8 @@ static craneholt_refusal read_refusal(struct header *h, const uint8_t *file, siz
         return refusal;
     if (!needed_are_present(h))
         return (craneholt_refusal){14, 0};
+    if (r->fromend && r->encoding != RAW) /* W1 */
+        return (craneholt_refusal){11, 0};
     r->form = h->present[DATA_FILE] ? 1 : 0;
     r->extent = extent_of(r->sizes, r->dimension, model_types[r->sampletype].bytes);
     return (craneholt_refusal){r->extent > LIMIT32 ? 15 : 0, 0};
@@ -641,6 +645,8 @@ static int find_data(struct header *h, const uint8_t *file, size_t file_length,
         h->refusal.number = 16;
     else if (r->encoding == RAW && data->length - data->at < r->extent)
         h->refusal.number = 18; /* 17 cannot come: both are below 2^32 */
+    else if (r->fromend)
+        data->at = data->length - r->extent; /* W1: the last bytes of the rest */
     else if (r->encoding == RAW)
         data->length = data->at + r->extent; /* raw has the extent, the others all the rest */
     return h->refusal.number == 0;

@@ -68,7 +68,7 @@ static void lend_nothing(void)
 
 /* ---- answers, as lists of numbers; the first two are the refusal */
 
-enum { LENGTH = 27, LINES = 28 }; /* places of the header's length and lines in the answer of a reading */
+enum { LENGTH = 27, LINES = 28, FROM_END = 29 }; /* places of the last numbers in the answer of a reading */
 
 struct answer {
     size_t count;
@@ -102,6 +102,7 @@ static struct answer of_reading(craneholt_read_answer a)
     add(&answer, r->extent);
     add(&answer, r->length);
     add(&answer, r->lines);
+    add(&answer, r->fromend);
     return answer;
 }
 
@@ -212,6 +213,9 @@ static struct {
 
 /* how often each number came from each call: with line 0, with a line */
 static unsigned long refusals[CALL_COUNT][NUMBERS][2];
+
+/* how often the data call gave each number for a header whose byte skip is -1, and that is right up to there */
+static unsigned long from_end[NUMBERS];
 
 /* ---- comparing */
 
@@ -336,9 +340,17 @@ static void check_keys(void)
     }
 }
 
-static void check_data(void)
+/* True if the byte skip is -1, which is refused with line 0 in text and hex. */
+static int is_from_end(const struct answer *header)
 {
-    check(DATA);
+    return header->numbers[FROM_END] != 0 || (header->numbers[0] == 11 && header->numbers[1] == 0);
+}
+
+static void check_data(const struct answer *header)
+{
+    struct answer data = check(DATA);
+    if (is_from_end(header))
+        from_end[data.numbers[0]]++;
     lent.list = lend_room(near_length(volume.count, 8));
     lent.room = random_chance(90) ? lent.list.length / 8 : random_bits() >> random_below(64);
     check(CHECK_SAMPLES);
@@ -380,7 +392,7 @@ static struct answer check_file(void)
     header = check(READ_HEADER);
     check_reading(&header);
     check_keys();
-    check_data();
+    check_data(&header);
     check_coordinates();
     check_listing(&header);
     return header;
@@ -596,6 +608,8 @@ static void check_list(const struct answer *header, int length)
 
 /* ---- the inputs */
 
+enum { ENOUGH = 1000 }; /* inputs, for shares to be judged */
+
 /* Every 250th input is large; every fourth gets a long list of settings. */
 static void check_input(void)
 {
@@ -637,6 +651,16 @@ static void print_refusals(void)
     }
 }
 
+/* A byte skip of -1 has to be in at least one of twenty headers, with each answer that it can have; false if it is not. */
+static int print_from_end(uint64_t inputs)
+{
+    unsigned long found = from_end[0], sum = found + from_end[11] + from_end[16] + from_end[18];
+    printf("byte skip -1: %lu headers of %llu (%.1f %%); data found %lu, refused 11 %lu, 16 %lu, 18 %lu\n", sum,
+           (unsigned long long)inputs, 100.0 * (double)sum / (double)inputs, found, from_end[11], from_end[16],
+           from_end[18]);
+    return 20 * sum >= inputs && found > 0 && from_end[11] > 0 && from_end[16] > 0 && from_end[18] > 0;
+}
+
 int main(int arguments, char **argument)
 {
     uint64_t first = arguments > 1 ? strtoull(argument[1], NULL, 10) : 0;
@@ -644,6 +668,10 @@ int main(int arguments, char **argument)
     for (input = first; input < first + inputs; input++)
         check_input();
     print_refusals();
+    if (!print_from_end(inputs) && inputs >= ENOUGH) {
+        printf("too few headers have a byte skip of -1\n");
+        return 1;
+    }
     printf("%llu inputs, no difference\n", (unsigned long long)inputs);
     return 0;
 }

@@ -1,9 +1,10 @@
 /*
  * Runs the vectors of a folder: calls.jsonl, one call a line, and
  * listing/NNN.in with the text NNN.out. With USE_MODEL the model is run in
- * place of the library: it has to agree with the vectors as well.
+ * place of the library: it has to agree with the vectors as well. Every
+ * reading has to tell its byte skip, but for vectors from before W1.
  *
- *     vectors [folder]
+ *     vectors [folder [before-w1]]
  */
 #include "bytes.h"
 #include "calls.h"
@@ -19,6 +20,8 @@ static const struct calls calls = CALLS(model);
 #else
 static const struct calls calls = CALLS(craneholt);
 #endif
+
+static int before_w1;
 
 /* ---- bytes */
 
@@ -130,7 +133,18 @@ static int same_reading(const craneholt_reading *a, const craneholt_reading *b)
            && a->sampletype == b->sampletype && a->encoding == b->encoding && a->endian == b->endian
            && memcmp(a->sizes, b->sizes, sizeof a->sizes) == 0 && a->lineskip == b->lineskip
            && a->byteskip == b->byteskip && a->extent == b->extent && a->length == b->length
-           && a->lines == b->lines;
+           && a->lines == b->lines && a->fromend == b->fromend;
+}
+
+/* A byte skip is told as a number, or as the text "from the end". */
+static int byte_skip_is_right(const struct json *v, const craneholt_reading *r)
+{
+    const struct json *skip = json_member(v, "expect_byte_skip");
+    if (skip == NULL)
+        return before_w1 && !r->fromend;
+    if (skip->kind == JSON_NUMBER)
+        return r->byteskip == skip->number && r->fromend == 0;
+    return strcmp(skip->text, "from the end") == 0 && r->byteskip == 0 && r->fromend == 1;
 }
 
 /* What both reading calls must answer for a header that is accepted. */
@@ -141,7 +155,7 @@ static int reading_is_right(const struct json *v, struct bytes file, const crane
     return again.refusal.number == 0 && same_reading(&again.reading, r)
            && r->version == number_member(v, "expect_version")
            && r->form == (strcmp(form, "detached") == 0)
-           && r->length == number_member(v, "expect_header_length")
+           && r->length == number_member(v, "expect_header_length") && byte_skip_is_right(v, r)
            && fields_are_right(v, file) && keys_are_right(v, file);
 }
 
@@ -379,6 +393,7 @@ int main(int arguments, char **argument)
 {
     const char *folder = arguments > 1 ? argument[1] : "tests/vectors";
     int right;
+    before_w1 = arguments > 2 && strcmp(argument[2], "before-w1") == 0;
     run_calls(folder);
     for (int number = 0; run_listing_file(folder, number); number++)
         continue;

@@ -484,7 +484,7 @@ static void volumes(void)
             volume_cases(t, i / 4, i / 2 % 2, i % 2);
 }
 
-static void skip_cases(const char *encoding, int detached, uint64_t line_skip, uint64_t byte_skip)
+static void skip_cases(const char *encoding, int detached, uint64_t line_skip, const char *byte_skip)
 {
     static const char *const areas[] = {"12", "ab\n\n\r\n12\n"};
     for (size_t i = 0; i < 2; i++) {
@@ -493,7 +493,7 @@ static void skip_cases(const char *encoding, int detached, uint64_t line_skip, u
         struct files files;
         give(&h, "encoding", encoding);
         give(&h, "line skip", digits(line_skip));
-        give(&h, "byte skip", digits(byte_skip));
+        give(&h, "byte skip", byte_skip);
         give(&h, "data file", detached ? "x" : "");
         files = laid(&h, area, detached);
         put_data(files.file, detached ? files.second : LITERAL("4\n4\n4"));
@@ -519,15 +519,46 @@ static void length_cases(void)
     }
 }
 
+/* A byte skip of -1: as many bytes as the data takes, one fewer, others before them, and lines to skip. */
+static void end_cases(uint64_t t, int detached)
+{
+    static const struct {
+        const char *line_skip, *before;
+        size_t missing;
+        uint32_t refusal;
+    } shapes[] = {{"", "", 0, 0},       {"", "", 1, 18},           {"", "x\n", 0, 0},       {"1", "x\n", 0, 0},
+                  {"1", "x\n", 1, 18}, {"1", "x\n\377bc", 0, 0}, {"9", "x\n\nbc", 0, 16}};
+    static struct text area;
+    for (size_t i = 0; i < COUNT(shapes); i++) {
+        struct head h = sized("2 2");
+        struct files files;
+        give_kind(&h, t, RAW, t % 2, detached);
+        give(&h, "line skip", shapes[i].line_skip);
+        give(&h, i % 2 ? "byteskip" : "byte skip", "-1");
+        area.length = 0;
+        put_string(&area, shapes[i].before);
+        put_encoded(&area, t, RAW, t % 2, some(t, 4));
+        area.length -= shapes[i].missing;
+        files = laid(&h, view(&area), detached);
+        ensure(put_data(files.file, files.second).refusal.number == shapes[i].refusal,
+               "data at the end has another refusal");
+        put_samples(files.file, files.second, 4);
+    }
+}
+
 /* Skips and data about the end of a file. */
 static void places(void)
 {
-    static const uint64_t line_skips[] = {0, 1, 3, 4, 4294967295u}, byte_skips[] = {0, 1, 2, 3, 6, 7, 4294967295u};
+    static const uint64_t line_skips[] = {0, 1, 3, 4, 4294967295u};
+    static const char *const byte_skips[] = {"0", "1", "2", "3", "6", "7", "4294967295", "-1"};
     struct head h = plain();
     for (int i = 0; i < 4; i++)
-        for (size_t j = 0; j < 35; j++)
-            skip_cases(i / 2 ? "hex" : "raw", i % 2, line_skips[j / 7], byte_skips[j % 7]);
+        for (size_t j = 0; j < 40; j++)
+            skip_cases(i / 2 ? "hex" : "raw", i % 2, line_skips[j / 8], byte_skips[j % 8]);
     length_cases();
+    for (uint64_t t = 0; t < MODEL_TYPES; t++)
+        for (int detached = 0; detached < 2; detached++)
+            end_cases(t, detached);
     give(&h, "data file", "d");
     give(&h, "sizes", "2");
     for (size_t i = 0; i < 8; i++) {
@@ -842,12 +873,12 @@ static void coordinates_of(struct list sizes)
 
 static void coordinate_forms(void)
 {
-    for (int i = 0; i < 4; i++) {
+    for (int i = 0; i < 5; i++) {
         struct head h = sized("2 2");
-        give(&h, "encoding", i == 3 ? "hex" : "raw");
+        give(&h, "encoding", i >= 3 ? "hex" : "raw");
         give(&h, "data file", i < 2 ? "d" : "");
         give(&h, "line skip", i == 2 ? "9" : "");
-        give(&h, "byte skip", i == 2 ? "4294967295" : "");
+        give(&h, "byte skip", i == 2 ? "4294967295" : i == 1 || i == 4 ? "-1" : "");
         h.closed = i != 1;
         h.end = i == 3 ? "\r\n" : "\n";
         coords_case(bare(&h), LIST(1, 1));
@@ -968,6 +999,7 @@ typedef uint32_t reasons;
 
 static const reasons READING = REASON(2) | 0xffe0; /* 2, 5 to 15 */
 static const reasons LATER = REASON(16) | 0x7c0000; /* 16, 18 to 22; 23 is of coordinates */
+static const reasons FROM_END = REASON(24); /* a byte skip of -1: with text and hex the 11 of line 0 */
 
 /* Gives the header the reason that the reading refuses it. The lines of 6 and 12 are `:=: x` and `k:=\: x`. */
 static void give_reason(struct head *h, int number)
@@ -997,8 +1029,10 @@ static void faulty(int e, int detached, reasons kind)
     for (int n = 2; n <= 15; n++)
         if (kind & READING & REASON(n))
             give_reason(&h, n);
+    if (kind & FROM_END)
+        give(&h, "byte skip", "-1");
     if (kind & REASON(16))
-        give(&h, "byteskip", "1000");
+        give(&h, kind & FROM_END ? "line skip" : "byteskip", "1000");
     if (kind & REASON(20))
         samples.at[1] = (uint64_t)1 << 63;
     samples.count -= (kind & (REASON(18) | REASON(21))) != 0;
@@ -1007,7 +1041,7 @@ static void faulty(int e, int detached, reasons kind)
     files = laid(&h, view(&area), detached);
     if (kind & REASON(13))
         files.file = bare(&h);
-    if ((kind & ~READING) == 0 || kind & REASON(23))
+    if ((kind & ~(READING | FROM_END)) == 0 || kind & REASON(23))
         coords_case(files.file, LIST(1, kind & REASON(23) ? 2 : 1));
     if (!(kind & REASON(23)))
         both(files.file, files.second, kind & REASON(22) ? 3 : 4);
@@ -1036,6 +1070,12 @@ static size_t reason_sets(reasons *sets)
         for (int m = n + 1; m <= 22; m++)
             if (LATER & REASON(n) && LATER & REASON(m))
                 sets[count++] = REASON(n) | REASON(m);
+    sets[count++] = FROM_END;
+    sets[count++] = FROM_END | REASON(14) | REASON(15);
+    sets[count++] = FROM_END | LATER;
+    for (int n = 9; n <= 23; n++)
+        if ((READING | LATER | REASON(23)) & REASON(n))
+            sets[count++] = FROM_END | REASON(n);
     return count;
 }
 
@@ -1043,7 +1083,7 @@ static size_t reason_sets(reasons *sets)
 static void orders(void)
 {
     static char content[2 * 1020 + 2] = "c";
-    reasons sets[80];
+    reasons sets[96];
     size_t count = reason_sets(sets);
     struct head h = plain();
     for (int i = 0; i < 6; i++)

@@ -117,7 +117,7 @@ static void header_limit(void)
 void put_listing_groups(const char *vectors)
 {
     start_group("rooms and limits");
-    for (int number = 0;; number += 40) {
+    for (int number = 0;; number += 20) {
         struct bytes file = file_of_number(vectors, number);
         if (file.at == NULL)
             break;

@@ -85,6 +85,7 @@ static void put_reading(struct text *c, const craneholt_reading *r)
     put_number(c, r->extent);
     put_number(c, r->length);
     put_number(c, r->lines);
+    put_number(c, r->fromend);
 }
 
 static void put_fields(struct text *c, struct bytes file)

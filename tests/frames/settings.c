@@ -78,8 +78,8 @@ static uint32_t put_setting(struct text *t, struct lent *now, const struct setti
     put_run(t, s->key);
     put_run(t, s->value);
     put_refusal(t, a.refusal);
-    put_number(t, a.length);
-    put_number(t, a.count);
+    put_wide(t, a.length);
+    put_wide(t, a.count);
     now->used = a.length;
     now->count = a.count;
     return a.refusal.number;
@@ -153,8 +153,8 @@ const uint32_t *put_settings(struct lent *first, const struct setting *settings,
         numbers[i] = put_setting(&asked, &now, &settings[i]);
     put_number(c, first->buffer.length);
     put_number(c, first->table.length / 4);
-    put_number(c, first->used);
-    put_number(c, first->count);
+    put_wide(c, first->used);
+    put_wide(c, first->count);
     put_number(c, (uint64_t)fresh);
     put_packed(c, view(&first->buffer));
     put_run(c, view(&first->table));

@@ -7,26 +7,25 @@ use mathlib.Core.Bool.{Bool, true, false, _&&_}
 use mathlib.Core.List.{List}
 use mathlib.Core.Option.{Option, none, some}
 use lib.Dec.{eqb, ltb, leb}
-use lib.ListN.{length, take, drop, length-drop, length-append}
+use lib.ListN.{length, take, drop, length-drop}
 use lib.Seq.{drop-drop}
 use borrow.Author.Tests.{ltb-false, lt-ltb, le-ltb, lt-leb}
 use Rattle.format.specs.declared.Reading.{Reading}
 use Rattle.format.specs.declared.ReadAnswer.{ReadAnswer}
 use Rattle.format.specs.declared.DataAnswer.{DataAnswer}
-use Rattle.format.specs.Bytes.{if_then_else_}
+use Rattle.format.specs.Bytes.{if_then_else_, andThen}
 use Rattle.format.specs.Limits.{maxFile}
 use Rattle.format.specs.Refusals.{fileTooLong, skipPastEnd, placeTooLarge, dataTooShort, floatSamples}
-use Rattle.format.specs.Lines.{unlines}
 use Rattle.format.specs.Fields.{Given}
-use Rattle.format.specs.Descriptors.{isDetached, encodingOf, typeOf, numberKind, isFloating, extentOf, raw, lineSkipOf, byteSkipOf}
-use Rattle.format.specs.Header.{Entry, linesOf, Outcome, refused, accepted, header, headerLength}
-use Rattle.format.specs.Data.{skipLines, afterSkips, Place, nowhere, part, placeFrom, placeOf, partOf}
+use Rattle.format.specs.Descriptors.{ByteSkip, forward, fromEnd, bytesForward, isFromEnd, isDetached, encodingOf, typeOf, numberKind, isFloating, extentOf, raw, lineSkipOf, byteSkipOf}
+use Rattle.format.specs.Header.{Entry, Outcome, refused, accepted, header, headerLength}
+use Rattle.format.specs.Data.{skipLines, skipBytes, lastBytes, pastByteSkip, afterSkips, Place, nowhere, part, placeFrom, placeOf, partOf}
 use Rattle.format.specs.Calls.{readingOf, readAnswer, readHeaderCall, noData, dataAnswer, dataPlaceIn, dataPlaceCall, dataCall}
 use Rattle.format.proofs.Header.{header-sound}
 use Rattle.format.proofs.Rules.{accepted-keeps}
 use Rattle.format.proofs.Numbered.{NumberedOutcome, header-numbered}
-use Rattle.format.proofs.Places.{AtMost, skips-at-most}
-use Rattle.data_place.specs.Places.{IsReading, placeBy, leftBy, placeLeft}
+use Rattle.format.proofs.Places.{AtMost, skips-at-most, header-within}
+use Rattle.data_place.specs.Places.{IsReading, placeBy, skippedOf, skippedBy, leftBy, placeLeft}
 use Rattle.data_place.proofs.Skips.{rest-is, bytes-past, bytes-next}
 
 -- ---- the place by the numbers of a reading
@@ -47,19 +46,38 @@ module _ (x : Reading) (second : Bool) (file : List ℕ) (from : ℕ) where
     pub left-within : from ≤ length file → from + p ≤ length file
     left-within k = omega (arith, ap length (rest-is file from), length-drop from file)
 
-    -- the skip of bytes passes the end
-    pub left-past : length file - (from + p) < x .byteskip → placeLeft x second (length file) (leftBy x (drop from file)) ≡ nowhere skipPastEnd
-    left-past k = rw (lines-left, bytes-past file (from + p) (x .byteskip) k)
+    -- so many bytes are skipped then
+    module _ (b : ℕ) (s : b ≡ skippedBy x (length file - (from + p))) where
+      left-skipped : leftBy x (drop from file) ≡ skipBytes b (drop (from + p) file)
+      left-skipped = rw (lines-left, length-drop (from + p) file, ← s)
 
-    -- or the data starts after it
-    pub left-at : from ≤ length file → x .byteskip ≤ length file - (from + p)
-        → placeLeft x second (length file) (leftBy x (drop from file))
-        ≡ placeBy x second (from + p + x .byteskip) (length file - (from + p) - x .byteskip)
-    left-at l k =
-        let f = left-within l in
-        let n : length file - (length file - (from + p + x .byteskip)) ≡ from + p + x .byteskip = omega arith in
-        let m : length file - (from + p + x .byteskip) ≡ length file - (from + p) - x .byteskip = omega arith in
-        rw (lines-left, bytes-next file (from + p) (x .byteskip) k, length-drop, n, m)
+      -- the skip of bytes passes the end
+      pub left-past : length file - (from + p) < b → placeLeft x second (length file) (leftBy x (drop from file)) ≡ nowhere skipPastEnd
+      left-past k = rw (left-skipped, bytes-past file (from + p) b k)
+
+      -- or the data starts after it
+      pub left-at : from ≤ length file → b ≤ length file - (from + p)
+          → placeLeft x second (length file) (leftBy x (drop from file)) ≡ placeBy x second (from + p + b) (length file - (from + p) - b)
+      left-at l k =
+          let f = left-within l in
+          let n : length file - (length file - (from + p + b)) ≡ from + p + b = omega arith in
+          let m : length file - (from + p + b) ≡ length file - (from + p) - b = omega arith in
+          rw (left-skipped, bytes-next file (from + p) b k, length-drop, n, m)
+
+-- what is left by the reading is what is left by the fields
+skip-same : (b : ByteSkip) (x : ℕ) (s : List ℕ) → skipBytes (skippedOf (isFromEnd b) (bytesForward b) x (length s)) s ≡ pastByteSkip b x s
+unfolding skipBytes lastBytes
+skip-same (forward n) x s = refl
+skip-same fromEnd x s = rw (le-ltb (length s) (length s - x) (omega arith))
+
+left-same : (es : List Entry) (gs : List Given) (area : List ℕ) → leftBy (readingOf es gs) area ≡ afterSkips gs area
+unfolding readingOf
+left-same es gs area = go (skipLines (lineSkipOf gs) area)
+  where
+    go : (o : Option (List ℕ))
+        → andThen o (λ t. skipBytes (skippedBy (readingOf es gs) (length t)) t) ≡ andThen o (λ t. pastByteSkip (byteSkipOf gs) (extentOf gs) t)
+    go none = refl
+    go (some t) = skip-same (byteSkipOf gs) (extentOf gs) t
 
 module _ {file : List ℕ} {x : Reading} {es : List Entry} {gs : List Given} (w : IsReading file x es gs) where
   -- the place by the reading is the place by the fields: the end of the data is below 2 to the 64
@@ -79,7 +97,7 @@ module _ {file : List ℕ} {x : Reading} {es : List Entry} {gs : List Given} (w 
 
   place-left : (second : Bool) (whole : ℕ) (area : List ℕ) → whole ≤ maxFile → placeLeft x second whole (leftBy x area) ≡ placeFrom gs second whole (afterSkips gs area)
   unfolding readingOf
-  place-left second whole area h = rw (w .is) (place-from second whole h (afterSkips gs area))
+  place-left second whole area h = rw (w .is, left-same es gs area) (place-from second whole h (afterSkips gs area))
 
   -- the form
   detached : x .form ≡ 1 → isDetached gs ≡ true
@@ -105,10 +123,6 @@ module _ {file : List ℕ} {x : Reading} {es : List Entry} {gs : List Given} (w 
   length-is : x .length ≡ headerLength es
   unfolding readingOf
   length-is = ap (λ (r : Reading). r .length) (w .is)
-
-  -- the header lies in its file
-  header-within : headerLength es ≤ length file
-  header-within = let s = header-sound file (w .header-is) in omega (arith, ap length (s .bytes), length-append (unlines (linesOf es)) (unlines (w .rest)))
 
   module _ (second : List ℕ) (wanted : Bool) where
     -- samples are wanted of a type that has none
@@ -142,7 +156,7 @@ module _ {file : List ℕ} {x : Reading} {es : List Entry} {gs : List Given} (w 
       pub located-first : (from : ℕ) → from ≡ min (x .length) (length file) → unfit ≡ false → place ≡ placeLeft x false (length file) (leftBy x (drop from file))
       unfolding placeOf
       located-first from e u =
-          let n : from ≡ headerLength es = omega (arith, length-is, header-within) in
+          let n : from ≡ headerLength es = omega (arith, length-is, header-within file (w .header-is)) in
           rw (attached d, rw type-is at u, ← n) (sym (place-left false (length file) (drop from file) (header-sound file (w .header-is) .small)))
 
 -- ---- the place lies within its file
@@ -185,7 +199,7 @@ module _ (file second : List ℕ) where
       shorter : AtMost (length file) (afterSkips gs (drop h file))
       shorter =
           more-left (length (drop h file)) (length file) (omega (arith, length-drop h file)) (afterSkips gs (drop h file))
-          (skips-at-most (lineSkipOf gs) (byteSkipOf gs) (drop h file))
+          (skips-at-most gs (drop h file))
 
       go : (a b c : Bool)
           → Lies file second
@@ -193,7 +207,7 @@ module _ (file second : List ℕ) where
           else if a then placeFrom gs true (length second) (afterSkips gs second) else placeFrom gs false (length file) (afterSkips gs (drop h file)))
       go true true c = tt
       go true false true = tt
-      go true false false = from-lies gs true (afterSkips gs second) (skips-at-most (lineSkipOf gs) (byteSkipOf gs) second)
+      go true false false = from-lies gs true (afterSkips gs second) (skips-at-most gs second)
       go false b true = tt
       go false b false = from-lies gs false (afterSkips gs (drop h file)) shorter
 

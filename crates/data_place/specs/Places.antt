@@ -42,9 +42,16 @@ placeBy x second start left =
     (if ltb left (x .extent) then nowhere dataTooShort else part second start (x .extent))
     else part second start left
 
+-- how many of the bytes left after the lines are skipped: from the end all but the extent, none where there are fewer
+abbrev pub skippedOf : Bool → ℕ → ℕ → ℕ → ℕ
+skippedOf fromend byteskip extent left = if fromend then left - extent else byteskip
+
+abbrev pub skippedBy : Reading → ℕ → ℕ
+skippedBy x left = skippedOf (x .fromend) (x .byteskip) (x .extent) left
+
 -- what is left of the data area past both skips
 abbrev pub leftBy : Reading → List ℕ → Option (List ℕ)
-leftBy x area = andThen (skipLines (x .lineskip) area) (λ t. skipBytes (x .byteskip) t)
+leftBy x area = andThen (skipLines (x .lineskip) area) (λ t. skipBytes (skippedBy x (length t)) t)
 
 -- the data starts where what is left does, which is the end of a file of `whole` bytes
 abbrev pub placeLeft : Reading → Bool → ℕ → Option (List ℕ) → Place

@@ -15,7 +15,7 @@ ghost use Rattle.format.specs.Descriptors.{numberKind, isFloating};
 ghost use Rattle.format.specs.Header.{Entry, headerLength};
 ghost use Rattle.format.specs.Data.{skipLines, part, placeOf};
 ghost use Rattle.format.specs.Calls.{noData, dataAnswer, dataPlaceCall, dataCall, dataPointer};
-ghost use Rattle.data_place.specs.Places.{IsReading, SkipIs, placeBy, leftBy, placeLeft};
+ghost use Rattle.data_place.specs.Places.{IsReading, SkipIs, placeBy, skippedOf, leftBy, placeLeft};
 
 // Where what follows a skip starts, or that the skip passes the end.
 pub enum Skip {
@@ -95,6 +95,19 @@ fn place_at(reading: Reading, second: bool, start: usize, left: usize) -> DataAn
     lies(second, start, reading.extent)
 }
 
+// How many of the bytes left after the lines are skipped: from the end all but the extent, none where there are fewer.
+fn bytes_skipped(fromend: bool, byteskip: u64, extent: u64, left: u64) -> u64
+    ensures { λ r. ⌜ r ≡ skippedOf fromend byteskip extent left ⌝ }
+{
+    if !fromend {
+        return byteskip;
+    }
+    if left < extent {
+        return 0;
+    }
+    left - extent
+}
+
 // The data in a file from `from` on: past the lines, then past the bytes.
 fn place_in(reading: Reading, file: &[u8], from: usize, second: bool) -> DataAnswer
     requires { ⌜ from ≤ length (now file) ⌝ }
@@ -105,10 +118,16 @@ fn place_in(reading: Reading, file: &[u8], from: usize, second: bool) -> DataAns
         Skip::At(p) => {
             let at = from + p;
             let left = file.len() - at;
-            if (left as u64) < reading.byteskip {
+            let skipped = bytes_skipped(
+                reading.fromend,
+                reading.byteskip,
+                reading.extent,
+                left as u64,
+            );
+            if (left as u64) < skipped {
                 return refuse(format::SKIP_PAST_END);
             }
-            let n = reading.byteskip as usize;
+            let n = skipped as usize;
             place_at(reading, second, at + n, left - n)
         }
     }

@@ -16,7 +16,7 @@ use Rattle.format.specs.Refusals.{atLine, fine}
 use Rattle.format.specs.Lines.{Line, line, lf, size, lines}
 use Rattle.format.specs.Pairs.{mark}
 use Rattle.format.specs.Fields.{Given, given, sizes, dimension, type, encoding, fieldAt, descriptorOf, inOrder}
-use Rattle.format.specs.Descriptors.{trimFront, trimEnd, descriptor, digitsFrom, number, parts, notEmpty, numbersIn, typeAt, mayDescribe, hasNeeded, product}
+use Rattle.format.specs.Descriptors.{trimFront, trimEnd, descriptor, digitsFrom, number, parts, notEmpty, numbersIn, typeAt, mayDescribe, hasNeeded, endIsRaw, product}
 use Rattle.format.specs.Header.{magicVersion, onField, judge, entry, Outcome, refused, accepted, withEntry, complete, walk, fromFirst, header}
 use Rattle.format.specs.Trials.{texts, refusalOf, headerWith, comment, comments, AtLimits}
 use Rattle.format.proofs.LimitLaws.{header-in-file, lines-in-header}
@@ -85,7 +85,7 @@ past-five ls = go (walk 1 6 56 fields ls) refl
 closings :
     (walked 7 (maxHeader - 1) closingLine ≡ fine) × (walked 7 maxHeader closingLine ≡ atLine 3 7)
     × (walked maxLines (44 + 2 * maxLines) closingLine ≡ fine) × (walked (maxLines + 1) (46 + 2 * maxLines) closingLine ≡ atLine 4 (maxLines + 1))
-unfolding every same alike isIn isAny rowFrom descriptorOf digitsFrom number parts notEmpty typeAt hasNeeded product judge complete walk
+unfolding every same alike isIn isAny rowFrom descriptorOf digitsFrom number parts notEmpty typeAt hasNeeded endIsRaw product judge complete walk
 closings = (refl, refl, refl, refl)
 
 -- ---- the walk goes over comments

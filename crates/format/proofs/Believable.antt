@@ -4,6 +4,7 @@ use Rattle.format.proofs.Lines.{unlines-of-lines, shape-of-lines, lines
 use Rattle.format.proofs.Pairs.{unescape-of-escape, escape-of-unescape, escape-injective, mark-of-pair, judge-of-pair, pair-key-fine, pair-value-fine}
 use Rattle.format.proofs.Descriptors.{carried-any}
 use Rattle.format.proofs.Header.{header-no-names, header-ends, data-area}
+use Rattle.format.proofs.Places.{data-at-end}
 use Rattle.format.proofs.Found.{field-found, key-found}
 use Rattle.format.proofs.Rules.{accepted-keeps, keeps-accepted, refused-keeps-none, keeps-none-refused}
 use Rattle.format.proofs.Samples.{value-of-bytes, bytes-of-value}
@@ -33,6 +34,7 @@ laws =
       no-names = header-no-names;
       header-ends = header-ends;
       data-area = data-area;
+      data-at-end = data-at-end;
       field-found = field-found;
       key-found = key-found;
       value-of-bytes = value-of-bytes;

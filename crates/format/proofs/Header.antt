@@ -2,7 +2,7 @@
 -- Assumes nothing.
 use mathlib.Core.Path.{_≡_, refl, sym, ap, _∙_, subst}
 use Prim.Native.Nat.{ℕ, suc, _+_, _≤_}
-use mathlib.Core.Bool.{Bool, true, false, not, _&&_, false≢true}
+use mathlib.Core.Bool.{Bool, true, false, _&&_, false≢true}
 use mathlib.Core.List.{List, [], _∷_, _++_, cons≢nil}
 use mathlib.Core.Option.{Option, none, some, Option·none-ne-some}
 use lib.Dec.{eqb, ltb}
@@ -12,20 +12,21 @@ use native.Mathlib.Omega.{arith}
 use Rattle.format.specs.declared.Refusal.{Refusal}
 use Rattle.format.specs.Bytes.{bytes, same, if_then_else_}
 use Rattle.format.specs.Limits.{maxFile, maxHeader, maxLines, maxExtent}
-use Rattle.format.specs.Refusals.{fileTooLong, missingField, extentTooLarge, noEnd, headerTooLong, tooManyLines, atLine, refusal}
+use Rattle.format.specs.Refusals.{fileTooLong, noEnd, headerTooLong, tooManyLines, atLine, refusal}
 use Rattle.format.specs.Lines.{Line, line, lf, crlf, eof, text, size, lines, unlines}
 use Rattle.format.specs.Fields.{Given}
-use Rattle.format.specs.Descriptors.{hasNeeded, extentOf, isDetached, namesFollow}
-use Rattle.format.specs.Header.{Item, magic, closing, Entry, entry, lineOf, linesOf, magicVersion, versionOfLine, Judged, wrong, right, judge, Outcome, refused, accepted, withEntry, closes, afterItem, complete, onJudged, walk, afterMagic, fromFirst, header, tableOf, headerLength}
+use Rattle.format.specs.Descriptors.{hasNeeded, endIsRaw, extentOf, isDetached, namesFollow}
+use Rattle.format.specs.Header.{Item, magic, Entry, entry, lineOf, linesOf, magicVersion, versionOfLine, Judged, wrong, right, judge, Outcome, refused, accepted, withEntry, closes, afterItem, complete, onJudged, walk, afterMagic, fromFirst, header, tableOf, headerLength}
 use Rattle.format.specs.Rules.{Keeps, closed}
 use Rattle.format.proofs.Lines.{unlines-of-lines, unlines-append, length-unlines-cons, Shape, lf-line, crlf-line, eof-line, shape-of-lines, shape-before, shape-after, lines-of-parts, bytes-after, length-starts}
 use Rattle.format.proofs.Judged.{is-closing, judge-keeps, no-names-after, no-names}
 
 -- ---- what an accepted header is, the limits left out
 
--- the fields at the end of a header: the needed ones are there, and the extent is within its limit
+-- the fields at the end of a header: the needed ones are there, a byte skip of -1 stands with raw, and the extent is within its limit
 pub record Complete (gs : List Given) : Type 0 where
   pub needed : hasNeeded gs ≡ true
+  pub fitting : endIsRaw gs ≡ true
   pub small : extentOf gs ≤ maxExtent
 
 -- a line after the fields gs, before the entries es: it closes the header (true), or `next` is asked
@@ -57,18 +58,19 @@ pub record Walked (version n at : ℕ) (gs : List Given) (ls : List Line) (es : 
 complete-cases : (P : Outcome → Type 0) (gs : List Given) (ls : List Line)
     → ((x : Refusal) → P (refused x)) → (Complete gs → P (accepted [] gs ls)) → P (complete gs ls)
 unfolding complete
-complete-cases P gs ls f g = go (hasNeeded gs) refl (ltb maxExtent (extentOf gs)) refl
+complete-cases P gs ls f g = go (hasNeeded gs) refl (endIsRaw gs) refl (ltb maxExtent (extentOf gs)) refl
   where
-    go : (t : Bool) → hasNeeded gs ≡ t → (u : Bool) → ltb maxExtent (extentOf gs) ≡ u
-        → P (if not t then refused (refusal missingField) else if u then refused (refusal extentTooLarge) else accepted [] gs ls)
-    go false e u h = f (refusal missingField)
-    go true e true h = f (refusal extentTooLarge)
-    go true e false h = g (record { needed = e; small = ltb-false maxExtent (extentOf gs) h })
+    go : (t : Bool) → hasNeeded gs ≡ t → (s : Bool) → endIsRaw gs ≡ s → (u : Bool) → ltb maxExtent (extentOf gs) ≡ u → P (complete gs ls)
+    go false e s k u h = simp e (f _)
+    go true e false k true h = simp (e, k, h) (f _)
+    go true e false k false h = simp (e, k, h) (f _)
+    go true e true k true h = simp (e, k, h) (f _)
+    go true e true k false h = simp (e, k, h) (g (record { needed = e; fitting = k; small = ltb-false maxExtent (extentOf gs) h }))
 
 -- complete fields are accepted
 complete-is : (gs : List Given) (ls : List Line) → Complete gs → complete gs ls ≡ accepted [] gs ls
 unfolding complete
-complete-is gs ls c = rw (c .needed, le-ltb maxExtent (extentOf gs) (c .small))
+complete-is gs ls c = rw (c .needed, c .fitting, le-ltb maxExtent (extentOf gs) (c .small))
 
 module _ (version : ℕ) where
   -- an outcome of the walk is right if it is a refusal, or what it accepts is fine and within the limits

@@ -1,5 +1,6 @@
 -- The refusals of a reading have the numbers 1 to 15.
 -- Assumes nothing.
+use mathlib.Core.Path.{_≡_, refl}
 use Prim.Native.Nat.{ℕ, _+_, _≤_, _<_}
 use native.Mathlib.Omega.{arith}
 use mathlib.Core.Bool.{Bool, true, false, not}
@@ -9,11 +10,11 @@ use lib.Dec.{ltb}
 use lib.ListN.{length}
 use Rattle.format.specs.Bytes.{if_then_else_, every}
 use Rattle.format.specs.Limits.{maxFile, maxHeader, maxLines, maxExtent}
-use Rattle.format.specs.Refusals.{fileTooLong, headerTooLong, tooManyLines, badByte, notInVersion, repeatedField, outOfOrder, badDescriptor, noEnd, missingField, extentTooLarge, atLine, refusal}
+use Rattle.format.specs.Refusals.{fileTooLong, headerTooLong, tooManyLines, badByte, notInVersion, repeatedField, outOfOrder, badDescriptor, noEnd, extentTooLarge, atLine, refusal}
 use Rattle.format.specs.Lines.{Line, size, text, lines}
 use Rattle.format.specs.Pairs.{plain, Marked, unmarked, fieldMark, pairMark, LineKind, emptyLine, commentLine, otherLine, kindOf, unescape}
 use Rattle.format.specs.Fields.{fieldNamed, pairsSince, fieldSince, Given, isGiven, inOrder}
-use Rattle.format.specs.Descriptors.{descriptor, mayDescribe, dimensionOf, hasNeeded, extentOf, isDetached}
+use Rattle.format.specs.Descriptors.{descriptor, mayDescribe, dimensionOf, hasNeeded, endIsRaw, extentOf, isDetached}
 use Rattle.format.specs.Header.{Item, magic, field, Entry, entry, versionOfLine, Judged, wrong, right, unescaped, onPair, onField, onMark, onKind, judge, Outcome, refused, accepted, withEntry, closes, afterItem, complete, onJudged, walk, afterMagic, fromFirst, header}
 
 -- ---- a line's
@@ -77,12 +78,14 @@ entry-numbered e (accepted es gs ls) h = tt
 
 complete-numbered : (gs : List Given) (ls : List Line) → NumberedOutcome (complete gs ls)
 unfolding complete
-complete-numbered gs ls = go (hasNeeded gs) (ltb maxExtent (extentOf gs))
+complete-numbered gs ls = go (hasNeeded gs) refl (endIsRaw gs) refl (ltb maxExtent (extentOf gs)) refl
   where
-    go : (a b : Bool) → NumberedOutcome (if not a then refused (refusal missingField) else if b then refused (refusal extentTooLarge) else accepted [] gs ls)
-    go false b = omega arith
-    go true true = omega arith
-    go true false = tt
+    go : (a : Bool) → hasNeeded gs ≡ a → (b : Bool) → endIsRaw gs ≡ b → (c : Bool) → ltb maxExtent (extentOf gs) ≡ c → NumberedOutcome (complete gs ls)
+    go false e b k c h = simp e (omega arith)
+    go true e false k true h = simp (e, k, h) (omega arith)
+    go true e false k false h = simp (e, k, h) (omega arith)
+    go true e true k true h = simp (e, k, h) (omega arith)
+    go true e true k false h = simp (e, k, h) tt
 
 walk-numbered : (version : ℕ) (ls : List Line) (n at : ℕ) (gs : List Given) → NumberedOutcome (walk version n at gs ls)
 unfolding walk

@@ -3,7 +3,7 @@
 -- Assumes nothing.
 use Prim.Native.Nat.{ℕ, zero, suc, _+_, _-_, _^_, _≤_, _<_}
 use native.Mathlib.Omega.{arith}
-use mathlib.Core.Path.{_≡_, refl, ap}
+use mathlib.Core.Path.{_≡_, refl, ap, _∙_, subst}
 use mathlib.Core.Bool.{Bool, true, false, _&&_}
 use mathlib.Core.List.{List, [], _∷_}
 use mathlib.Core.Option.{Option, none, some}
@@ -11,15 +11,15 @@ use lib.Dec.{eqb, ltb, leb}
 use lib.IntN.{ℤ}
 use lib.ListN.{length, drop, length-drop, length-append}
 use lib.Seq.{drop-drop}
-use borrow.Author.Tests.{lt-leb}
+use borrow.Author.Tests.{lt-leb, ltb-false}
 use Rattle.format.specs.Bytes.{if_then_else_, andThen, LF}
 use Rattle.format.specs.Limits.{maxFile, maxExtent}
 use Rattle.format.specs.Refusals.{fileTooLong, placeTooLarge, dataTooShort, floatSamples, lentTooShort}
 use Rattle.format.specs.Lines.{Line, unlines}
 use Rattle.format.specs.Fields.{Given}
-use Rattle.format.specs.Descriptors.{isDetached, lineSkipOf, byteSkipOf, encodingOf, typeOf, numberKind, isFloating, extentOf, raw}
+use Rattle.format.specs.Descriptors.{ByteSkip, forward, fromEnd, isDetached, byteSkipOf, encodingOf, typeOf, numberKind, isFloating, extentOf, raw}
 use Rattle.format.specs.Header.{Entry, linesOf, accepted, header, headerLength}
-use Rattle.format.specs.Data.{skipLine, skipLines, skipBytes, afterSkips, Place, nowhere, part, placeFrom, placeOf, partOf}
+use Rattle.format.specs.Data.{skipLine, skipLines, skipBytes, lastBytes, pastByteSkip, afterSkips, Place, nowhere, part, placeFrom, placeOf, partOf}
 use Rattle.format.specs.Calls.{dataAnswer, dataPlaceCall, dataCall, decoded, checkAt, checkSamplesCall, seenIn, listAfter, samplesCall}
 use Rattle.format.proofs.Header.{header-sound, data-area}
 use Rattle.format.proofs.Rules.{accepted-keeps}
@@ -65,9 +65,15 @@ bytes-at-most n s = go (ltb (length s) n)
     go true = tt
     go false = omega (arith, length-drop n s)
 
--- past lines and bytes
-pub skips-at-most : (m n : ℕ) (s : List ℕ) → AtMost (length s) (andThen (skipLines m s) (λ t. skipBytes n t))
-skips-at-most m n s = then-at-most (length s) (skipLines m s) (λ t. skipBytes n t) (lines-at-most m s) (bytes-at-most n)
+skip-at-most : (b : ByteSkip) (x : ℕ) (s : List ℕ) → AtMost (length s) (pastByteSkip b x s)
+unfolding lastBytes
+skip-at-most (forward n) x s = bytes-at-most n s
+skip-at-most fromEnd x s = omega (arith, length-drop (length s - x) s)
+
+-- past both skips
+pub skips-at-most : (gs : List Given) (s : List ℕ) → AtMost (length s) (afterSkips gs s)
+skips-at-most gs s =
+    then-at-most (length s) (skipLines _ s) (λ t. pastByteSkip (byteSkipOf gs) (extentOf gs) t) (lines-at-most _ s) (skip-at-most (byteSkipOf gs) (extentOf gs))
 
 -- ---- the refusals of a place are not about room
 
@@ -171,7 +177,7 @@ place-past wanted gs h file second k l m =
     here : placeFrom gs false (length file) (afterSkips gs area) ≡ past h (placeFrom gs false (length area) (afterSkips gs area))
     here =
         rw whole
-        (past-first gs h (length area) (omega (arith, whole)) m (afterSkips gs area) (skips-at-most (lineSkipOf gs) (byteSkipOf gs) area))
+        (past-first gs h (length area) (omega (arith, whole)) m (afterSkips gs area) (skips-at-most gs area))
 
     go : (a b c : Bool)
         → (if a then nowhere fileTooLong else if b then nowhere floatSamples else if c then there else placeFrom gs false (length file) (afterSkips gs area))
@@ -189,6 +195,72 @@ check-past gs h room file second (nowhere n) = refl
 check-past gs h room file second (part true start n) = refl
 check-past gs h room file second (part false start n) = rw (drop-drop start h file)
 
+-- ---- a byte skip of -1: the data is the end of its file
+
+-- at most n bytes are left, and at most x
+abbrev Last : ℕ → ℕ → Option (List ℕ) → Type 0
+Last n x none = Unit {0}
+Last n x (some t) = (length t ≤ n) × (length t ≤ x)
+
+last-left : (m x : ℕ) (s : List ℕ) → Last (length s) x (andThen (skipLines m s) (λ t. some (lastBytes x t)))
+unfolding lastBytes
+last-left m x s = go (skipLines m s) (lines-at-most m s)
+  where
+    go : (o : Option (List ℕ)) → AtMost (length s) o → Last (length s) x (andThen o (λ t. some (lastBytes x t)))
+    go none h = tt
+    go (some t) h = (omega (arith, length-drop (length t - x) t), omega (arith, length-drop (length t - x) t))
+
+-- a place in the file that these fields ask for, past a header of h bytes, as long as the extent, that ends where its file does
+abbrev AtEnd : List Given → ℕ → List ℕ → List ℕ → Place → Type 0
+AtEnd gs h file second (nowhere n) = Unit {0}
+AtEnd gs h file second (part s start n) =
+    (s ≡ isDetached gs) × ((if s then 0 else h) ≤ start) × (n ≡ extentOf gs) × (start + n ≡ length (if s then second else file))
+
+module _ (gs : List Given) (h : ℕ) (file second : List ℕ) (r : encodingOf gs ≡ raw) (short : h ≤ length file) where
+  -- in a file of which `area` bytes follow the header
+  from-at-end : (s : Bool) (whole area : ℕ) → s ≡ isDetached gs → whole ≡ length (if s then second else file) → (if s then 0 else h) + area ≡ whole
+      → (o : Option (List ℕ)) → Last area (extentOf gs) o → AtEnd gs h file second (placeFrom gs s whole o)
+  from-at-end s whole area d w f none l = tt
+  from-at-end s whole area d w f (some left) l = rw r (go (leb (2 ^ 64) (whole - length left + extentOf gs)) (ltb (length left) (extentOf gs)) refl)
+    where
+      go : (a b : Bool) → ltb (length left) (extentOf gs) ≡ b
+          → AtEnd gs h file second
+          (if a then nowhere placeTooLarge else if b then nowhere dataTooShort else part s (whole - length left) (extentOf gs))
+      go true b e = tt
+      go false true e = tt
+      go false false e =
+          let k : extentOf gs ≤ length left = ltb-false (length left) (extentOf gs) e in
+          let m : (if s then 0 else h) ≤ whole - length left = omega (arith, l .0, f) in
+          (d, m, refl, omega (arith, l .0, l .1, k, f) ∙ w)
+
+  place-at-end : byteSkipOf gs ≡ fromEnd → (wanted : Bool) → AtEnd gs h file second (placeOf wanted gs h file second)
+  unfolding placeOf
+  place-at-end e wanted = go (isDetached gs && ltb maxFile (length second)) (wanted && isFloating (numberKind (typeOf gs))) (isDetached gs) refl
+    where
+      left : (s : List ℕ) → Last (length s) (extentOf gs) (afterSkips gs s)
+      left s = rw e (last-left _ (extentOf gs) s)
+
+      go : (a b c : Bool) → c ≡ isDetached gs
+          → AtEnd gs h file second
+          (if a then nowhere fileTooLong else if b then nowhere floatSamples
+          else if c then placeFrom gs true (length second) (afterSkips gs second) else placeFrom gs false (length file) (afterSkips gs (drop h file)))
+      go true b c d = tt
+      go false true c d = tt
+      go false false true d = from-at-end true (length second) (length second) d refl (omega arith) (afterSkips gs second) (left second)
+      go false false false d =
+          from-at-end false (length file) (length (drop h file)) d refl (omega (arith, length-drop h file)) (afterSkips gs (drop h file)) (left (drop h file))
+
+-- a header is no longer than its file
+pub header-within : (file : List ℕ) {es : List Entry} {gs : List Given} {ls : List Line} → header file ≡ accepted es gs ls → headerLength es ≤ length file
+header-within file {es} {gs} {ls} e = omega (arith, ap length (header-sound file e .bytes), length-append (unlines (linesOf es)) (unlines ls))
+
+pub data-at-end : (file : List ℕ) {es : List Entry} {gs : List Given} {r : List Line} → header file ≡ accepted es gs r → byteSkipOf gs ≡ fromEnd
+    → (wanted : Bool) (second : List ℕ) (inSecond : Bool) (start n : ℕ) → placeOf wanted gs (headerLength es) file second ≡ part inSecond start n
+    → (inSecond ≡ isDetached gs) × ((if inSecond then 0 else headerLength es) ≤ start) × (n ≡ extentOf gs) × (start + n ≡ length (if inSecond then second else file))
+data-at-end file {es} {gs} e b wanted second s start n p =
+    subst (AtEnd gs (headerLength es) file second) p
+    (place-at-end gs (headerLength es) file second (accepted-keeps file e .end-is-raw b) (header-within file e) b wanted)
+
 -- ---- the calls, of a file with an accepted header
 
 module _ (file : List ℕ) {es : List Entry} {gs : List Given} {ls : List Line} (e : header file ≡ accepted es gs ls) (second : List ℕ) where
@@ -198,9 +270,8 @@ module _ (file : List ℕ) {es : List Entry} {gs : List Given} {ls : List Line} 
 
   place-after : (wanted : Bool) → placeOf wanted gs (headerLength es) file second ≡ past (headerLength es) (placeAfter wanted)
   place-after wanted =
-      let x = header-sound file e in
-      let k : headerLength es ≤ length file = omega (arith, ap length (x .bytes), length-append (unlines (linesOf es)) (unlines ls)) in
-      rw (← data-area file e) (place-past wanted gs (headerLength es) file second k (x .small) (accepted-keeps file e .extent-bytes))
+      rw (← data-area file e)
+      (place-past wanted gs (headerLength es) file second (header-within file e) (header-sound file e .small) (accepted-keeps file e .extent-bytes))
 
   part-after : (wanted : Bool)
       → partOf (placeOf wanted gs (headerLength es) file second) file second ≡ partOf (placeAfter wanted) (unlines ls) second

@@ -6,11 +6,13 @@ use native.Mathlib.Omega.{arith}
 use mathlib.Core.Bool.{Bool, true, false, not, _&&_, _||_, false≢true}
 use mathlib.Core.List.{List, [], _∷_, _++_, cons≢nil, append-assoc, append-nil, map-append}
 use mathlib.Core.Option.{Option, none, some, Option·none-ne-some}
+use lib.Dec.{eqb}
 use lib.ListN.{length}
+use borrow.Author.Tests.{eqb-true}
 use Rattle.format.specs.declared.Refusal.{Refusal}
 use Rattle.format.specs.Lines.{Line, line, lf, crlf, eof, text, ending, lines}
 use Rattle.format.specs.Fields.{Given, isGiven, dimension, type, encoding, endian, sizes, dataFile}
-use Rattle.format.specs.Descriptors.{endianNeeded, typeOf, encodingOf, hasNeeded}
+use Rattle.format.specs.Descriptors.{ByteSkip, forward, fromEnd, isFromEnd, endianNeeded, typeOf, encodingOf, byteSkipOf, raw, hasNeeded, endIsRaw}
 use Rattle.format.specs.Header.{Item, magic, closing, fieldOf, closes, Entry, entry, linesOf, magicVersion, versionOfLine, Outcome, refused, accepted, withField, afterItem, header}
 use Rattle.format.specs.Rules.{Keeps, hasEnding, fieldsOf, closed, Needed, KeepsRules}
 use Rattle.format.proofs.Bytes.{and-left, and-right}
@@ -54,6 +56,19 @@ unfolding hasNeeded
 of-needed gs n =
     rw (n .has-dimension, n .has-type, n .has-encoding, n .has-sizes)
     (or-unless-is (isGiven endian gs) (endianNeeded (typeOf gs) (encodingOf gs)) (n .has-endian))
+
+-- a byte skip of -1 stands with raw alone
+raw-at-end : (gs : List Given) → endIsRaw gs ≡ true → byteSkipOf gs ≡ fromEnd → encodingOf gs ≡ raw
+unfolding endIsRaw
+raw-at-end gs h e = eqb-true (encodingOf gs) raw (rw e at h)
+
+end-with-raw : (gs : List Given) → (byteSkipOf gs ≡ fromEnd → encodingOf gs ≡ raw) → endIsRaw gs ≡ true
+unfolding endIsRaw
+end-with-raw gs h = go (byteSkipOf gs) refl
+  where
+    go : (b : ByteSkip) → byteSkipOf gs ≡ b → (not (isFromEnd b) || eqb (encodingOf gs) raw) ≡ true
+    go (forward n) e = refl
+    go fromEnd e = rw (h e)
 
 -- ---- the lines after line 1, from any of them on
 
@@ -204,7 +219,7 @@ keeps-accepted file {es} {gs} {r} k =
     } in
     rw (k .entries)
     (header-fine file (k .first) (k .version) (k .others) gs r (rw (k .entries) at (k .split)) (is-first (k .first) (k .first-magic) (k .first-ended))
-    (lined-fine (k .version) gs r (k .others) [] t (k .unclosed) (record { needed = of-needed gs (k .needed); small = k .extent-bytes }))
+    (lined-fine (k .version) gs r (k .others) [] t (k .unclosed) (record { needed = of-needed gs (k .needed); fitting = end-with-raw gs (k .end-is-raw); small = k .extent-bytes }))
     (rw (k .entries) at (k .header-bytes)) (rw (k .entries) at (k .header-lines)) (k .file-bytes))
 
 pub accepted-keeps : (file : List ℕ) {es : List Entry} {gs : List Given} {r : List Line} → header file ≡ accepted es gs r → KeepsRules file es gs r
@@ -229,6 +244,7 @@ accepted-keeps file {es} {gs} {r} e =
       unclosed = fine-unclosed (x .version) gs r (x .rest) [] (x .fine);
       fields = t .fields ∙ append-nil (fieldsOf (x .rest));
       needed = needed-of gs (c .needed);
+      end-is-raw = raw-at-end gs (c .fitting);
       file-bytes = x .small;
       header-bytes = x .short;
       header-lines = x .few;

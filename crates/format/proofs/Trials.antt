@@ -4,9 +4,9 @@ use Rattle.format.specs.Bytes.{every, same, alike, beginsWith, isIn, isA
 use Rattle.format.specs.Lines.{lines, unlines, starts}
 use Rattle.format.specs.Pairs.{mark, escape, unescapeFrom}
 use Rattle.format.specs.Fields.{fieldAt, descriptorOf, inOrder}
-use Rattle.format.specs.Descriptors.{trimFront, trimEnd, descriptor, digitsFrom, number, parts, notEmpty, numbersIn, typeAt, mayDescribe, hasNeeded, product}
+use Rattle.format.specs.Descriptors.{trimFront, trimEnd, descriptor, digitsFrom, number, parts, notEmpty, numbersIn, typeAt, mayDescribe, hasNeeded, endIsRaw, product}
 use Rattle.format.specs.Header.{magicVersion, onPair, onField, judge, complete, walk, header, valueOf}
-use Rattle.format.specs.Data.{skipLine, skipLines, skipBytes, placeOf}
+use Rattle.format.specs.Data.{skipLine, skipLines, skipBytes, lastBytes, placeOf}
 use Rattle.format.specs.Samples.{inType, toBytes, valueBytes, fromBytes, sampleValue, rawSamples, skipBlanks, token, afterToken, tokenValue, tokens, samplesOf}
 use Rattle.format.specs.Axes.{inside, sampleNumber}
 use Rattle.format.specs.Writer.{decimalFrom, spaced, hexText, rawData, textData, dataBytes, headerLines, fileBytes, allInType, writable, writeRefusal}
@@ -19,7 +19,7 @@ use Rattle.format.specs.EntryTrials.{entries}
 use Rattle.format.specs.FurtherTrials.{FurtherTrials}
 
 trials : StarredTrials × FurtherTrials
-unfolding every same alike beginsWith isIn isAny rowFrom lines unlines starts mark escape unescapeFrom fieldAt descriptorOf inOrder trimFront trimEnd descriptor digitsFrom number parts notEmpty numbersIn typeAt mayDescribe hasNeeded product magicVersion onPair onField judge complete walk header valueOf skipLine skipLines skipBytes placeOf inType fromBytes sampleValue rawSamples skipBlanks token afterToken tokenValue tokens samplesOf inside sampleNumber keyFine valueFine pairText replaced newLines refilled tableFine store setRead setKey noReading readingOf withTable texts keyPlace fieldPlace decimalFrom spaced shownRefusal shownKeys shownReading listing hexText rawData textData dataBytes headerLines fileBytes allInType writable writeRefusal groups numberBytes wordsOfSamples entries toBytes valueBytes
+unfolding every same alike beginsWith isIn isAny rowFrom lines unlines starts mark escape unescapeFrom fieldAt descriptorOf inOrder trimFront trimEnd descriptor digitsFrom number parts notEmpty numbersIn typeAt mayDescribe hasNeeded endIsRaw product magicVersion onPair onField judge complete walk header valueOf skipLine skipLines skipBytes lastBytes placeOf inType fromBytes sampleValue rawSamples skipBlanks token afterToken tokenValue tokens samplesOf inside sampleNumber keyFine valueFine pairText replaced newLines refilled tableFine store setRead setKey noReading readingOf withTable texts keyPlace fieldPlace decimalFrom spaced shownRefusal shownKeys shownReading listing hexText rawData textData dataBytes headerLines fileBytes allInType writable writeRefusal groups numberBytes wordsOfSamples entries toBytes valueBytes
 trials = (
   (refl, (refl, (refl, (refl, (refl, (refl, (refl, (refl, (refl, (refl, (refl, (refl, (refl, (refl, (refl, (refl, (refl, (refl, (refl, (refl, (refl, (refl, (refl, (refl, (refl, tt))))))))))))))))))))))))),
   record {
@@ -28,6 +28,7 @@ trials = (
     listed = (refl, (refl, (refl, (refl, (refl, (refl, (refl, tt)))))));
     written = (refl, (refl, (refl, (refl, (refl, (refl, (refl, (refl, (refl, tt)))))))));
     crossing = (refl, (refl, (refl, (refl, (refl, (refl, (refl, (refl, tt))))))));
+    skipped = (refl, (refl, (refl, (refl, (refl, (refl, (refl, (refl, (refl, (refl, (refl, (refl, (refl, (refl, (refl, (refl, (refl, (refl, (refl, (refl, (refl, (refl, (refl, (refl, (refl, (refl, (refl, (refl, (refl, (refl, (refl, (refl, (refl, (refl, (refl, (refl, tt))))))))))))))))))))))))))))))))))));
   },
 )
 

@@ -2,7 +2,7 @@
 -- What they answer follows from document 01, "Lines and headers", "Understood fields", "Versions", "Order" and "Data and samples".
 use Prim.Native.Nat.{ℕ, _+_, _-_}
 use Prim.Native.String.{String}
-use mathlib.Core.Bool.{true}
+use mathlib.Core.Bool.{true, false}
 use mathlib.Core.List.{List, [], _∷_, _++_}
 use lib.ListN.{replicate}
 use Rattle.format.specs.declared.Refusal.{Refusal}
@@ -39,6 +39,7 @@ readingDetached =
       extent = 4;
       length = 114;
       lines = 9;
+      fromend = false;
     }
 
 -- its second file: a line of 6 bytes and LF, 3 bytes, 4 bytes of data, one byte more

@@ -1,4 +1,4 @@
--- The place of the data (document 01, "Data and samples", the first paragraph).
+-- The place of the data (document 01, "Data and samples", the first paragraph; a byte skip of -1: document 02, W1).
 -- After the reading its refusals are tried in this order: 1 (a detached header's second file), 19 (where samples are wanted), 16, 17, 18.
 use Prim.Native.Nat.{ℕ, zero, suc, _+_, _-_, _^_}
 use mathlib.Core.Bool.{Bool, true, false, _&&_}
@@ -10,7 +10,7 @@ use Rattle.format.specs.Bytes.{if_then_else_, andThen, LF}
 use Rattle.format.specs.Limits.{maxFile}
 use Rattle.format.specs.Refusals.{fileTooLong, skipPastEnd, placeTooLarge, dataTooShort, floatSamples}
 use Rattle.format.specs.Fields.{Given}
-use Rattle.format.specs.Descriptors.{isDetached, lineSkipOf, byteSkipOf, encodingOf, typeOf, numberKind, isFloating, extentOf, raw}
+use Rattle.format.specs.Descriptors.{ByteSkip, forward, fromEnd, isDetached, lineSkipOf, byteSkipOf, encodingOf, typeOf, numberKind, isFloating, extentOf, raw}
 
 -- ---- the skips: first lines, then bytes; none where a skip passes the end
 
@@ -28,9 +28,18 @@ skipLines (suc n) s = andThen (skipLine s) (λ t. skipLines n t)
 unfoldable pub skipBytes : ℕ → List ℕ → Option (List ℕ)
 skipBytes n s = if ltb (length s) n then none else some (drop n s)
 
+-- the last n bytes, or all where there are fewer
+unfoldable pub lastBytes : ℕ → List ℕ → List ℕ
+lastBytes n s = drop (length s - n) s
+
+-- what is left after a byte skip, for an extent of x: -1 leaves the last x bytes, or all where there are fewer, which `placeFrom` refuses (18)
+abbrev pub pastByteSkip : ByteSkip → ℕ → List ℕ → Option (List ℕ)
+pastByteSkip (forward n) x s = skipBytes n s
+pastByteSkip fromEnd x s = some (lastBytes x s)
+
 -- what is left of the data area past both skips
 abbrev pub afterSkips : List Given → List ℕ → Option (List ℕ)
-afterSkips gs area = andThen (skipLines (lineSkipOf gs) area) (λ t. skipBytes (byteSkipOf gs) t)
+afterSkips gs area = andThen (skipLines (lineSkipOf gs) area) (λ t. pastByteSkip (byteSkipOf gs) (extentOf gs) t)
 
 -- ---- the place
 

@@ -1,5 +1,5 @@
 -- Descriptors and what they mean (document 01, "Lines and headers", point 5; "Understood fields", "Needed", "Types";
--- "Data and samples", extent).
+-- "Data and samples", extent; document 02, W1, byte skips).
 use Prim.Native.Nat.{ℕ, _+_, _-_, _*_, min}
 use Prim.Native.String.{String}
 use mathlib.Core.Bool.{Bool, true, false, not, _&&_, _||_}
@@ -58,6 +58,30 @@ numberIn least most t = within least most (number t)
 -- the value of a number, 0 where it is none
 abbrev pub valueOfNumber : List ℕ → ℕ
 valueOfNumber t = orDefault 0 (number t)
+
+-- ---- byte skips (-1: document 02, W1)
+
+-- so many bytes are skipped; or, for -1, the data is the last bytes of what the line skip leaves
+pub data ByteSkip : Type 0 where
+  forward : ℕ → ByteSkip
+  fromEnd : ByteSkip
+
+-- the text is exactly `-1`; `-01`, `- 1`, `-0` and `-2` are not
+abbrev pub isMinusOne : List ℕ → Bool
+isMinusOne t = same t (bytes "-1")
+
+-- what a byte skip's descriptor says
+abbrev pub byteSkipSaid : List ℕ → ByteSkip
+byteSkipSaid t = if isMinusOne t then fromEnd else forward (valueOfNumber t)
+
+-- the number of bytes to skip, 0 for -1
+abbrev pub bytesForward : ByteSkip → ℕ
+bytesForward (forward n) = n
+bytesForward fromEnd = 0
+
+abbrev pub isFromEnd : ByteSkip → Bool
+isFromEnd (forward n) = false
+isFromEnd fromEnd = true
 
 -- ---- numbers parted by spaces or tabs
 
@@ -185,14 +209,15 @@ abbrev pub meaning : {A : Type 0} → A → (List ℕ → A) → Option (List �
 meaning d f none = d
 meaning d f (some t) = f t
 
--- the number that a field's descriptor says: of a type, an encoding or an endian the one of its name, of dimension and skips their value;
--- 0 for a field that says none
+-- the number that a field's descriptor says: of a type, an encoding or an endian the one of its name, of dimension and line skip their value,
+-- of a byte skip the number of bytes; 0 for a field that says none
 abbrev pub numberSaid : ℕ → List ℕ → ℕ
 numberSaid f t =
     if eqb f type then orDefault 0 (typeNamed t)
     else if eqb f encoding then orDefault 0 (encodingNamed t)
     else if eqb f endian then orDefault noEndian (endianNamed t)
-    else if eqb f dimension || (eqb f lineSkip || eqb f byteSkip) then valueOfNumber t
+    else if eqb f dimension || eqb f lineSkip then valueOfNumber t
+    else if eqb f byteSkip then bytesForward (byteSkipSaid t)
     else 0
 
 -- the number of a field that is not given
@@ -218,8 +243,9 @@ endianOf gs = numberOf endian gs
 abbrev pub lineSkipOf : List Given → ℕ
 lineSkipOf gs = numberOf lineSkip gs
 
-abbrev pub byteSkipOf : List Given → ℕ
-byteSkipOf gs = numberOf byteSkip gs
+-- a byte skip that is not given skips nothing
+abbrev pub byteSkipOf : List Given → ByteSkip
+byteSkipOf gs = meaning (forward 0) byteSkipSaid (descriptorOf byteSkip gs)
 
 -- the sizes that a descriptor says
 abbrev pub sizesSaid : List ℕ → List ℕ
@@ -260,11 +286,11 @@ mayDescribe n f t =
     else if eqb f endian then isSome (endianNamed t)
     else if eqb f sizes then sizesFine n (words t)
     else if eqb f lineSkip then numberIn 0 maxSkip t
-    else if eqb f byteSkip then numberIn 0 maxSkip t
+    else if eqb f byteSkip then isMinusOne t || numberIn 0 maxSkip t
     else if eqb f dataFile then isName t
     else true
 
--- ---- what is needed (refusal 14), and the extent
+-- ---- what is needed (refusal 14), the encoding that a byte skip of -1 asks for (11 with line 0), and the extent
 
 -- dimension, type, encoding and sizes are given, and endian where the order of bytes matters
 unfoldable pub hasNeeded : List Given → Bool
@@ -274,6 +300,10 @@ hasNeeded gs =
     && (isGiven encoding gs
     && (isGiven sizes gs
     && (isGiven endian gs || not (endianNeeded (typeOf gs) (encodingOf gs))))))
+
+-- a byte skip of -1 stands with raw alone
+unfoldable pub endIsRaw : List Given → Bool
+endIsRaw gs = not (isFromEnd (byteSkipOf gs)) || eqb (encodingOf gs) raw
 
 unfoldable pub product : List ℕ → ℕ
 product [] = 1

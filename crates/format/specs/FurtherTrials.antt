@@ -1,10 +1,11 @@
 -- Trials beside the starred ones, as one statement: `FurtherTrials`. They show rules of document 01 that the starred trials do not: which headers are
--- accepted, what the look-ups find, what is listed, which bytes are written, and the bytes of numbers that callers in C lend.
+-- accepted, what the look-ups find, what is listed, which bytes are written, and the bytes of numbers that callers in C lend; and the byte skip of -1 (document 02, W1).
 use Rattle.format.specs.AcceptanceTrials.{AcceptanceTrials}
 use Rattle.format.specs.FindTrials.{FindTrials}
 use Rattle.format.specs.ListingTrials.{ListingTrials}
 use Rattle.format.specs.WriteTrials.{WriteTrials}
 use Rattle.format.specs.EntryTrials.{EntryTrials}
+use Rattle.format.specs.SkipTrials.{SkipTrials}
 
 pub record FurtherTrials : Type 0 where
   pub accepted : AcceptanceTrials
@@ -12,3 +13,4 @@ pub record FurtherTrials : Type 0 where
   pub listed : ListingTrials
   pub written : WriteTrials
   pub crossing : EntryTrials
+  pub skipped : SkipTrials

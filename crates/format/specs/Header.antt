@@ -1,5 +1,5 @@
 -- The header: what each line is, the walk over the lines with its refusals in order, the reading and the line table
--- (document 01, "Lines and headers", "Numbers of refusal", order for reading).
+-- (document 01, "Lines and headers", "Numbers of refusal", order for reading; the 11 with line 0, after 14: document 02, W1).
 use Prim.Native.Nat.{ℕ, _+_}
 use mathlib.Core.Bool.{Bool, true, false, not}
 use mathlib.Core.List.{List, [], _∷_, map}
@@ -13,7 +13,7 @@ use Rattle.format.specs.Refusals.{fileTooLong, noMagic, headerTooLong, t
 use Rattle.format.specs.Lines.{Line, line, lf, crlf, eof, text, size, lines, unlines, starts}
 use Rattle.format.specs.Pairs.{plain, Marked, unmarked, fieldMark, pairMark, LineKind, emptyLine, commentLine, otherLine, kindOf, unescape}
 use Rattle.format.specs.Fields.{fieldNamed, pairsSince, fieldSince, Given, given, isGiven, inOrder}
-use Rattle.format.specs.Descriptors.{descriptor, mayDescribe, dimensionOf, hasNeeded, extentOf, isDetached}
+use Rattle.format.specs.Descriptors.{descriptor, mayDescribe, dimensionOf, hasNeeded, endIsRaw, extentOf, isDetached}
 
 -- ---- what a line is
 
@@ -157,6 +157,7 @@ afterItem i gs = withField (fieldOf i) gs
 unfoldable pub complete : List Given → List Line → Outcome
 complete gs ls =
     if not (hasNeeded gs) then refused (refusal missingField)
+    else if not (endIsRaw gs) then refused (refusal badDescriptor)
     else if ltb maxExtent (extentOf gs) then refused (refusal extentTooLarge)
     else accepted [] gs ls
 

@@ -1,5 +1,5 @@
 -- The laws that make the definitions believable, as one statement: `Laws`. proofs/ proves them; the crates above use most of them.
-use Prim.Native.Nat.{ℕ, _^_, _/_, _≤_, _<_}
+use Prim.Native.Nat.{ℕ, _+_, _^_, _/_, _≤_, _<_}
 use mathlib.Core.Path.{_≡_}
 use mathlib.Core.Bool.{Bool, true, false, not}
 use mathlib.Core.List.{List, [], _∷_, _++_}
@@ -8,21 +8,22 @@ use lib.Dec.{eqb}
 use lib.IntN.{ℤ}
 use lib.ListN.{length, drop, getD}
 use Rattle.format.specs.declared.Refusal.{Refusal}
-use Rattle.format.specs.Bytes.{every, over, LF, CR}
+use Rattle.format.specs.Bytes.{if_then_else_, every, over, LF, CR}
 use Rattle.format.specs.Limits.{maxFile}
 use Rattle.format.specs.Lines.{Line, line, lf, crlf, eof, lines, unlines, starts}
 use Rattle.format.specs.Pairs.{pairMark, mark, escape, unescape}
 use Rattle.format.specs.Fields.{pairsSince, Given, isUnderstood}
-use Rattle.format.specs.Descriptors.{NumberKind, signed, number, namesFollow, mayDescribe}
+use Rattle.format.specs.Descriptors.{NumberKind, signed, number, fromEnd, byteSkipOf, isDetached, extentOf, namesFollow, mayDescribe}
 use Rattle.format.specs.Header.{Entry, linesOf, right, judge, pair, refused, accepted, header, headerLength}
 use Rattle.format.specs.Rules.{closed, KeepsRules}
+use Rattle.format.specs.Data.{part, placeOf}
 use Rattle.format.specs.Samples.{inType, sampleValue, valueBytes, hexRun, hexBytes, tokenValue, samplesOf}
 use Rattle.format.specs.Writer.{decimal, signedDecimal, hexText, dataBytes, allInType}
 use Rattle.format.specs.Settings.{keyFine, valueFine, pairText}
 use Rattle.format.specs.Calls.{findFieldCall, findKeyCall}
 use Rattle.format.specs.Found.{FindsField, FindsKey}
 use Rattle.format.specs.Trials.{AtLimits}
-use Rattle.format.specs.Boundary.{wordBytes, numbersOf, samplesLent, numberBytes, lentNumbers, lentSamples}
+use Rattle.format.specs.Boundary.{wordBytes, numbersOf, samplesLent, lentNumbers, lentSamples}
 
 -- ---- the line rule (document 01, "Lines and headers", the first point), said of lines instead of computed
 
@@ -92,6 +93,9 @@ pub record Laws : Type 0 where
   -- what follows the closing line decides nothing about the header; the data area is what follows it
   pub header-ends : (s : List ℕ) {es : List Entry} {gs : List Given} {r : List Line} → header s ≡ accepted es gs r → closed es ≡ true → (d : List ℕ) → length (unlines (linesOf es) ++ d) ≤ maxFile → header (unlines (linesOf es) ++ d) ≡ accepted es gs (lines d)
   pub data-area : (s : List ℕ) {es : List Entry} {gs : List Given} {r : List Line} → header s ≡ accepted es gs r → drop (headerLength es) s ≡ unlines r
+  -- where the byte skip is -1, data that is found is in the file of the header's form, past the header, as long as the extent, and ends where its file does
+  pub data-at-end : (file : List ℕ) {es : List Entry} {gs : List Given} {r : List Line} → header file ≡ accepted es gs r → byteSkipOf gs ≡ fromEnd → (wanted : Bool) (second : List ℕ) (inSecond : Bool) (start n : ℕ) → placeOf wanted gs (headerLength es) file second ≡ part inSecond start n
+      → (inSecond ≡ isDetached gs) × ((if inSecond then 0 else headerLength es) ≤ start) × (n ≡ extentOf gs) × (start + n ≡ length (if inSecond then second else file))
   -- what the look-ups find is the reading's: the descriptor of the field, and the last value of the key as it is written
   pub field-found : (file : List ℕ) (f : ℕ) → FindsField file f (header file) (findFieldCall file f)
   pub key-found : (file k : List ℕ) → FindsKey file k (header file) (findKeyCall file k)

@@ -24,6 +24,7 @@ pub mod Room
 pub mod ListingTrials
 pub mod WriteTrials
 pub mod EntryTrials
+pub mod SkipTrials
 pub mod FurtherTrials
 pub mod Rules
 pub mod Laws

@@ -1,5 +1,6 @@
 -- The numbers of refusal by name, in document 01's order ("Numbers of refusal").
--- A refusal is one record: its number, and the line at which the reader met it (numbers 2 to 12); 0 where no line is meant.
+-- A refusal is one record: its number, and the line at which the reader met it (numbers 2 to 12); 0 where no line is meant,
+-- as for the 11 of a byte skip of -1 with text or hex (document 02, W1).
 use Prim.Native.Nat.{ℕ}
 use Rattle.format.specs.declared.Refusal.{Refusal}
 use Rattle.format.specs.declared.RefusalNumbers.{RefusalNumbers}
@@ -44,7 +45,7 @@ repeatedField = 9
 abbrev pub outOfOrder : ℕ
 outOfOrder = 10
 
--- a descriptor that its field cannot have; from the writer, a number that is not in its list or range
+-- a descriptor that its field cannot have; with line 0, a byte skip of -1 with text or hex; from the writer, a number that is not in its list or range
 abbrev pub badDescriptor : ℕ
 badDescriptor = 11
 

@@ -1,4 +1,5 @@
--- When a header keeps the rules of document 01: `KeepsRules`. It is said of all lines at once, each with the lines before it, and not by a walk over them.
+-- When a header keeps the rules of document 01, with request W1 of document 02: `KeepsRules`.
+-- It is said of all lines at once, each with the lines before it, and not by a walk over them.
 -- Headers are accepted exactly when they keep the rules: the laws `accepted-keeps` and `keeps-accepted` (specs/Laws.antt).
 -- At each rule stand its heading, where that is not "Lines and headers", and the number of the refusal where it is broken.
 use Prim.Native.Nat.{ℕ, _≤_}
@@ -13,7 +14,7 @@ use Rattle.format.specs.Limits.{maxFile, maxHeader, maxLines, maxExtent}
 use Rattle.format.specs.Lines.{Ending, lf, crlf, eof, Line, text, ending, lines}
 use Rattle.format.specs.Pairs.{plain, unescape}
 use Rattle.format.specs.Fields.{fieldNamed, pairsSince, fieldSince, Given, isGiven, needsDimension, needsSpace, dimension, type, encoding, endian, sizes, dataFile, space, spaceDimension}
-use Rattle.format.specs.Descriptors.{descriptor, mayDescribe, endianNeeded, dimensionOf, typeOf, encodingOf, extentOf}
+use Rattle.format.specs.Descriptors.{descriptor, mayDescribe, endianNeeded, fromEnd, dimensionOf, typeOf, encodingOf, byteSkipOf, raw, extentOf}
 use Rattle.format.specs.Header.{Item, magic, comment, field, pair, closing, Entry, entry, itemOf, linesOf, magicVersion, closes, afterItem, headerLength}
 
 -- ---- one line after line 1
@@ -125,6 +126,8 @@ pub record KeepsRules (file : List ℕ) (es : List Entry) (gs : List Given) (r :
   -- its fields are those that its lines give, and the needed ones are among them
   pub fields : gs ≡ fieldsOf others
   pub needed : Needed gs
+  -- a byte skip of -1 stands with raw alone (document 02, W1; 11)
+  pub end-is-raw : byteSkipOf gs ≡ fromEnd → encodingOf gs ≡ raw
   -- the limits of the file, the header's bytes and lines, and the extent ("Numbers of refusal"; 1, 3, 4, 15)
   pub file-bytes : length file ≤ maxFile
   pub header-bytes : headerLength es ≤ maxHeader

@@ -88,6 +88,7 @@ readingS =
       extent = 8;
       length = 114;
       lines = 10;
+      fromend = false;
     }
 
 -- ---- calls

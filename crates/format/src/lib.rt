@@ -170,7 +170,7 @@ pub struct RefusalNumbers {
     pub wrongcount: u32,
 }
 
-// A refusal: its number, and the line at which the reader met it (numbers 2 to 12); 0 where no line is meant. Number 0: nothing is refused.
+// A refusal: its number, and the line at which the reader met it (numbers 2 to 12); 0 where no line is meant, as for the 11 of a byte skip of -1 with text or hex. Number 0: nothing is refused.
 #[repr(C)]
 pub struct Refusal {
     pub number: u32,
@@ -201,6 +201,8 @@ pub struct Reading {
     // the header's bytes and lines, the closing empty line included
     pub length: u64,
     pub lines: u32,
+    // the byte skip is -1: the data is the last `extent` bytes of its file, and `byteskip` is 0
+    pub fromend: bool,
 }
 
 // The answer of the reading calls.

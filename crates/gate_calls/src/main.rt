@@ -1,5 +1,5 @@
 // Runs the cases of standard input through the calls on the data, its samples, coordinates and written files. The frame and what is printed
-// are those of crate `gate_frames`. A wide number is 8 bytes, low byte first; a negative sample is its two's complement.
+// are those of crate `gate_frames`. A negative sample is its two's complement.
 //
 // A case has at most 131,072 bytes:
 //   0    which call: 0 data, 1 samples, 2 coordinates, 3 writer
@@ -31,12 +31,12 @@ use format::WriteAnswer;
 use format_values::refusals;
 use gate_frames::parts::number_at;
 use gate_frames::parts::part;
-use gate_frames::parts::plus;
 use gate_frames::parts::refusal_at;
 use gate_frames::parts::rest;
 use gate_frames::parts::run_at;
 use gate_frames::parts::run_end;
 use gate_frames::parts::same_refusal;
+use gate_frames::parts::wide_at;
 use gate_frames::report::MALFORMED;
 
 // The most bytes of a case, entries of a list of samples, and bytes of a written file.
@@ -51,11 +51,6 @@ const UNTOUCHED_SAMPLE: i64 = -6510615555426900571;
 
 // What the bytes of a buffer are before the call.
 const UNTOUCHED: u8 = 165;
-
-// The wide number at `at`.
-fn wide_at(s: &[u8], at: usize) -> u64 {
-    number_at(s, at) as u64 + 4294967296 * (number_at(s, plus(at, 4)) as u64)
-}
 
 // The number with these bits, a two's complement.
 fn signed(bits: u64) -> i64 {

@@ -29,6 +29,11 @@ pub fn number_at(s: &[u8], at: usize) -> u32 {
     wide(s[at]) + 256 * wide(s[at + 1]) + 65536 * wide(s[at + 2]) + 16777216 * wide(s[at + 3])
 }
 
+// The wide number at `at`.
+pub fn wide_at(s: &[u8], at: usize) -> u64 {
+    number_at(s, at) as u64 + 4294967296 * (number_at(s, plus(at, 4)) as u64)
+}
+
 // So many bytes at `at`, none where they pass the end.
 pub fn part<'a>(s: &'a [u8], at: usize, n: usize) -> &'a [u8] {
     if s.len() < at {

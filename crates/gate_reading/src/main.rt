@@ -4,14 +4,14 @@
 //   0    the room: how many entries the lent table has, at most 16,384
 //   4    the refusal by `read`, zeros where it accepts
 //   16   the same for `read_header`
-//   28   the 27 numbers of the reading, in the order of `format::Reading`, all 0 where `read_header` refuses
-//   136  a run, the file
+//   28   the 28 numbers of the reading, in the order of `format::Reading`, the last one 1 for true, all 0 where `read_header` refuses
+//   140  a run, the file
 //   a run, the entries that `read` writes, as numbers
 //   for each of the 30 fields, in the order of the definitions (`fieldTable`): a text, the descriptor
 //   the number of keys; for each a run, the key; a text, the value as it stands in the file; a run, the value
 //
 // The table is filled with 7 before the call; its entries past those written must still be 7. `read` must answer the same reading as
-// `read_header`, or 27 zeros where it refuses. Of a file that is refused each look-up must answer the refusal.
+// `read_header`, or 28 zeros where it refuses. Of a file that is refused each look-up must answer the refusal.
 //
 // The parts of a case: 1 the answer of `read`, 2 the table, 3 the answer of `read_header`, 4 fields, 5 keys and values.
 // Where the input does not fit the frame the run ends with the line `malformed`.
@@ -60,7 +60,9 @@ fn kinds_right(r: Reading, s: &[u8]) -> bool {
 
 // Whether the numbers after the sizes are those of the frame.
 fn lengths_right(r: Reading, s: &[u8]) -> bool {
-    let skips = (r.lineskip == number_at(s, 88) as u64) & (r.byteskip == number_at(s, 92) as u64);
+    let skips = (r.lineskip == number_at(s, 88) as u64)
+        & (r.byteskip == number_at(s, 92) as u64)
+        & (r.fromend == (number_at(s, 108) == 1));
     let header = (r.length == number_at(s, 100) as u64) & (r.lines == number_at(s, 104));
     skips & (r.extent == number_at(s, 96) as u64) & header
 }
@@ -76,7 +78,7 @@ fn sizes_right(sizes: &[u64; 16], s: &[u8]) -> bool {
     right
 }
 
-// Whether the answer has the refusal and the 27 numbers at the front of `s`, zeros where they are missing.
+// Whether the answer has the refusal and the 28 numbers at the front of `s`, zeros where they are missing.
 fn answer_right(a: ReadAnswer, refusal: Refusal, s: &[u8]) -> bool {
     let told = a.refusal;
     let r = a.reading;
@@ -84,10 +86,10 @@ fn answer_right(a: ReadAnswer, refusal: Refusal, s: &[u8]) -> bool {
     same_refusal(told, refusal) & kinds_right(r, s) & sizes_right(&sizes, s) & lengths_right(r, s)
 }
 
-// How many of the 108 bytes of a reading an answer with this refusal has.
+// How many of the 112 bytes of a reading an answer with this refusal has.
 fn reading_bytes(refusal: Refusal) -> usize {
     if refusal.number == 0 {
-        return 108;
+        return 112;
     }
     0
 }
@@ -232,7 +234,7 @@ fn header_fault(file: &[u8], s: &[u8], from: usize) -> u32 {
     if keys.at != s.len() {
         return MALFORMED;
     }
-    if !answer_right(answer, refusal, part(s, 28, 108)) {
+    if !answer_right(answer, refusal, part(s, 28, 112)) {
         return 3;
     }
     if !fields.right {
@@ -258,8 +260,8 @@ fn case_fault(s: &[u8]) -> u32 {
     if 16384 < room {
         return MALFORMED;
     }
-    let file = run_at(s, 136);
-    let at = run_end(s, 136);
+    let file = run_at(s, 140);
+    let at = run_end(s, 140);
     let refusal = refusal_at(s, 4);
     let mut table = [7u32; 16384];
     let answer = read_to(file, &mut table, room);

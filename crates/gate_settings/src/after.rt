@@ -10,6 +10,7 @@ use gate_frames::parts::number_at;
 use gate_frames::parts::part;
 use gate_frames::parts::run_at;
 use gate_frames::parts::run_end;
+use gate_frames::parts::wide_at;
 
 fn same_buffers(a: &[u8; BUFFER], b: &[u8; BUFFER]) -> bool {
     check::same(a, b)
@@ -68,10 +69,10 @@ fn same_reading(a: Reading, b: Reading) -> bool {
     let samples = (a.sampletype == b.sampletype)
         & (a.encoding == b.encoding)
         & (a.endian == b.endian);
-    let skips = (a.lineskip == b.lineskip) & (a.byteskip == b.byteskip) & (a.extent == b.extent);
+    let skips = (a.lineskip == b.lineskip) & (a.byteskip == b.byteskip) & (a.fromend == b.fromend);
     let x = a.sizes;
     let y = b.sizes;
-    kinds & samples & skips & same_sizes(&x, &y)
+    kinds & samples & skips & (a.extent == b.extent) & same_sizes(&x, &y)
 }
 
 // What follows the first `n` bytes of a file.
@@ -141,7 +142,7 @@ fn fresh_fault(buf: &[u8; BUFFER], table: &[u32; TABLE], left: Left, s: &[u8]) -
     packed::unpack(&mut first, packed::given(s, packed::LENT_BUFFER));
     file_fault(
         &first,
-        number_at(s, 8) as usize,
+        wide_at(s, 8) as usize,
         file,
         packed::given(s, packed::KEYS),
     )
@@ -158,7 +159,7 @@ pub fn fault(buf: &[u8; BUFFER], table: &[u32; TABLE], left: Left, s: &[u8]) -> 
     if !table_right(table, packed::given(s, packed::LEFT_TABLE)) {
         return 3;
     }
-    if number_at(s, 16) == 0 {
+    if number_at(s, 24) == 0 {
         return 0;
     }
     fresh_fault(buf, table, left, s)

@@ -3,6 +3,7 @@ use gate_frames::parts::number_at;
 use gate_frames::parts::plus;
 use gate_frames::parts::run_at;
 use gate_frames::parts::run_end;
+use gate_frames::parts::wide_at;
 
 // What the settings up to a place in their run leave: the used length and the count, and whether all answers were right.
 pub struct Left {
@@ -23,10 +24,10 @@ fn set_next(buf: &mut [u8], table: &mut [u32], s: &[u8], now: Left) -> Left {
         a.refusal,
         gate_frames::parts::refusal_at(s, at),
     );
-    let used = a.length == number_at(s, plus(at, 12)) as u64;
-    let count = a.count == number_at(s, plus(at, 16)) as u64;
+    let used = a.length == wide_at(s, plus(at, 12));
+    let count = a.count == wide_at(s, plus(at, 20));
     Left {
-        at: plus(at, 20),
+        at: plus(at, 28),
         used: a.length as usize,
         count: a.count as usize,
         right: now.right & refused & used & count,
@@ -58,8 +59,8 @@ fn set_all(buf: &mut [u8], table: &mut [u32], s: &[u8], used: usize, count: usiz
 pub fn run(buf: &mut [u8], table: &mut [u32], s: &[u8]) -> Left {
     let room = number_at(s, 0) as usize;
     let slots = number_at(s, 4) as usize;
-    let used = number_at(s, 8) as usize;
-    let count = number_at(s, 12) as usize;
+    let used = wide_at(s, 8) as usize;
+    let count = wide_at(s, 16) as usize;
     let list = crate::packed::given(s, crate::packed::SETTINGS);
     if buf.len() < room {
         return start(used, count, false);

@@ -1,11 +1,12 @@
 // The layout of a case, at most 65,536 bytes:
 //   0    how many bytes of the buffer are lent, at most 73,728
 //   4    how many entries of the table are lent, at most 2,048
-//   8    the used length and the count that the first setting is lent
-//   16   1 where the buffer has a file with an accepted header and the table is that of its reading, else 0
-//   20   seven runs: the buffer as it is lent, packed
+//   8    the used length and the count that the first setting is lent, as wide numbers
+//   24   1 where the buffer has a file with an accepted header and the table is that of its reading, else 0
+//   28   seven runs: the buffer as it is lent, packed
 //        the table as it is lent, as numbers
-//        the settings: their number; for each a run, the key; a run, the value; the answer: a refusal, the length and the count
+//        the settings: their number; for each a run, the key; a run, the value; the answer: a refusal, the length and the count as
+//        wide numbers
 //        the buffer as the last setting leaves it, packed
 //        the table as the last setting leaves it, as numbers
 //        the keys of the file then: their number; for each a run, the key; a run, its value
@@ -50,7 +51,7 @@ pub const END: u32 = 7;
 
 // Where the run with this number starts.
 pub fn place(s: &[u8], number: u32) -> usize {
-    let mut at: usize = 20;
+    let mut at: usize = 28;
     let mut left = number;
     while 0 < left {
         at = run_end(s, at);

@@ -61,7 +61,7 @@ number-wrong (some m) e least most h = go (leb m maxSize) refl e
 
 -- ---- a field that says no number
 
-pub says-none : (b : Bool) → record { fine = b; number = 0 } ≡ found b 0
+pub says-none : (b : Bool) → record { fine = b; number = 0; fromend = false } ≡ found b 0 false
 says-none true = refl
 says-none false = refl
 
@@ -81,14 +81,14 @@ fine-length n ws e = eqb-true (length ws) n (and-left (eqb (length ws) n) (numbe
 
 -- by what is read
 pub sizes-read : (n : ℕ) (t ns : List ℕ) (r : Sizes) → r ≡ sizesAnswer n (words t)
-    → _≡_ {A = Checked × List ℕ} (record { fine = r .fine; number = 0 }, if r .fine then r .sizes else ns) (checked n sizes t ns)
+    → _≡_ {A = Checked × List ℕ} (record { fine = r .fine; number = 0; fromend = false }, if r .fine then r .sizes else ns) (checked n sizes t ns)
 unfolding sizesAnswer mayDescribe
 sizes-read n t ns r e = go (leb n maxAxes && sizesFine n (words t)) refl e
   where
     go : (x : Bool) → (leb n maxAxes && sizesFine n (words t)) ≡ x
         → r ≡ (if x then record { fine = true; sizes = map valueOfNumber (words t) ++ replicate (maxAxes - n) 0 } else noSizes)
-        → _≡_ {A = Checked × List ℕ} (record { fine = r .fine; number = 0 }, if r .fine then r .sizes else ns)
-        (found x 0, if x then padded (sizesSaid t) else ns)
+        → _≡_ {A = Checked × List ℕ} (record { fine = r .fine; number = 0; fromend = false }, if r .fine then r .sizes else ns)
+        (found x 0 false, if x then padded (sizesSaid t) else ns)
     go true s q =
         let k = fine-length n (words t) (and-right (leb n maxAxes) (sizesFine n (words t)) s) in
         rw (q, length-map (words t) valueOfNumber, k)
@@ -121,10 +121,10 @@ none-is f (x ∷ gs) h g e = go (eqb g x) refl e (none-is f gs (h .0) g)
     go true q e i = ne-eqb f g (λ z. h .1 (z ∙ eqb-true g x q))
     go false q e i = i e
 
-pub any-taken : (n f : ℕ) (t ns : List ℕ) → NoneOf f asked → _≡_ {A = Checked × List ℕ} (record { fine = true; number = 0 }, ns) (checked n f t ns)
+pub any-taken : (n f : ℕ) (t ns : List ℕ) → NoneOf f asked → _≡_ {A = Checked × List ℕ} (record { fine = true; number = 0; fromend = false }, ns) (checked n f t ns)
 unfolding mayDescribe isIn
 any-taken n f t ns h =
-    rw (eqb-comm sizes f, no dimension refl, no type refl, no encoding refl, no endian refl, no sizes refl, no lineSkip refl, no byteSkip refl, no dataFile refl)
+    rw (eqb-comm sizes f, eqb-comm byteSkip f, no dimension refl, no type refl, no encoding refl, no endian refl, no sizes refl, no lineSkip refl, no byteSkip refl, no dataFile refl)
   where
     no : (g : ℕ) → isIn g asked ≡ true → eqb f g ≡ false
     no = none-is f asked h

@@ -5,18 +5,22 @@ use mathlib.Core.List.{List}
 use lib.Dec.{eqb, leb}
 use Rattle.format.specs.Bytes.{if_then_else_}
 use Rattle.format.specs.Limits.{maxAxes}
-use Rattle.format.specs.Fields.{sizes}
-use Rattle.format.specs.Descriptors.{mayDescribe, numberSaid, sizesSaid}
+use Rattle.format.specs.Fields.{sizes, byteSkip}
+use Rattle.format.specs.Descriptors.{isFromEnd, byteSkipSaid, mayDescribe, numberSaid, sizesSaid}
 use Rattle.format.specs.Calls.{padded}
 use Rattle.read_descriptors.specs.declared.check.Checked.{Checked}
 
--- the number counts only where the descriptor is fine
-abbrev pub found : Bool → ℕ → Checked
-found fine n = record { fine = fine; number = if fine then n else 0 }
+-- the number, and whether the data is found from the end, count only where the descriptor is fine
+abbrev pub found : Bool → ℕ → Bool → Checked
+found fine n end = record { fine = fine; number = if fine then n else 0; fromend = fine && end }
 
 -- whether the descriptor t of the field f is taken in a header of dimension n: no header has sizes of more axes than the largest dimension
 abbrev pub takes : ℕ → ℕ → List ℕ → Bool
 takes n f t = (not (eqb sizes f) || leb n maxAxes) && mayDescribe n f t
+
+-- whether the field f says with t that the data is found from the end: a byte skip of -1
+abbrev pub saysEnd : ℕ → List ℕ → Bool
+saysEnd f t = eqb byteSkip f && isFromEnd (byteSkipSaid t)
 
 -- the sizes kept once the field f has the descriptor t: of sizes those that it says, 0 past them, and otherwise those of before
 abbrev pub sizesKept : ℕ → List ℕ → List ℕ → List ℕ
@@ -24,4 +28,4 @@ sizesKept f t ns = if eqb sizes f then padded (sizesSaid t) else ns
 
 -- the answer, and the sizes kept
 abbrev pub checked : ℕ → ℕ → List ℕ → List ℕ → Checked × List ℕ
-checked n f t ns = (found (takes n f t) (numberSaid f t), if takes n f t then sizesKept f t ns else ns)
+checked n f t ns = (found (takes n f t) (numberSaid f t) (saysEnd f t), if takes n f t then sizesKept f t ns else ns)

@@ -3,31 +3,34 @@ use format::field;
 use read_text::numbers::Number;
 use read_text::words::Row;
 ghost use mathlib.Core.Path.{_≡_};
+ghost use mathlib.Core.Bool.{false, _||_};
 ghost use mathlib.Core.List.{List};
 ghost use mathlib.Core.Option.{Option};
 ghost use Prim.Native.Nat.{ℕ, _≤_};
 ghost use Rattle.format.specs.Bytes.{isSome, orDefault};
-ghost use Rattle.format.specs.Limits.{maxSize};
+ghost use Rattle.format.specs.Limits.{maxSize, maxSkip};
 ghost use Rattle.format.specs.Fields.{sizes};
-ghost use Rattle.format.specs.Descriptors.{isName, numberIn, valueOfNumber};
+ghost use Rattle.format.specs.Descriptors.{isName, numberIn, valueOfNumber, isMinusOne, byteSkipSaid, bytesForward, isFromEnd};
 ghost use Rattle.read_text.specs.Rows.{rowAnswer};
 ghost use Rattle.read_descriptors.specs.declared.check.Checked.{Checked};
 ghost use Rattle.read_descriptors.specs.Checked.{found, checked};
 
-// Whether the descriptor is one that the field may have; the number that it says, 0 where it says none or is wrong.
+// Whether the descriptor is one that the field may have; the number that it says, 0 where it says none or is wrong; whether it says that the data is found from the end.
 pub struct Checked {
     pub fine: bool,
     pub number: u32,
+    pub fromend: bool,
 }
 
 // A number from the least to the most.
 fn check_number(t: &[u8], least: u64, most: u64) -> Checked
     requires { ⌜ most ≤ maxSize ⌝ }
-    ensures { λ r. ⌜ r ≡ found (numberIn least most (now (t .entry))) (valueOfNumber (now (t .entry))) ⌝ }
+    ensures { λ r. ⌜ r ≡ found (numberIn least most (now (t .entry))) (valueOfNumber (now (t .entry))) false ⌝ }
 {
     let wrong = Checked {
         fine: false,
         number: 0,
+        fromend: false,
     };
     let x = read_text::numbers::read_number(t);
     match x {
@@ -41,24 +44,41 @@ fn check_number(t: &[u8], least: u64, most: u64) -> Checked
             Checked {
                 fine: true,
                 number: n as u32,
+                fromend: false,
             }
         }
         Number::Wrong => wrong,
     }
 }
 
+// A number of bytes to skip, or -1.
+fn check_byte_skip(t: &[u8]) -> Checked
+    ensures { λ r. ⌜ r ≡ found (isMinusOne (now (t .entry)) || numberIn 0 maxSkip (now (t .entry))) (bytesForward (byteSkipSaid (now (t .entry)))) (isFromEnd (byteSkipSaid (now (t .entry)))) ⌝ }
+{
+    if read_text::bytes::is_same(t, b"-1") {
+        return Checked {
+            fine: true,
+            number: 0,
+            fromend: true,
+        };
+    }
+    check_number(t, 0, format::MAX_SKIP)
+}
+
 // A name that has a row.
 fn check_row(row: Row) -> Checked
-    ensures { λ r. ⌜ ((o : Option ℕ) (d : ℕ) → row ≡ rowAnswer o → r ≡ found (isSome o) (orDefault d o)) ⌝ }
+    ensures { λ r. ⌜ ((o : Option ℕ) (d : ℕ) → row ≡ rowAnswer o → r ≡ found (isSome o) (orDefault d o) false) ⌝ }
 {
     match row {
         Row::Number(n) => Checked {
             fine: true,
             number: n,
+            fromend: false,
         },
         Row::Unknown => Checked {
             fine: false,
             number: 0,
+            fromend: false,
         },
     }
 }
@@ -72,6 +92,7 @@ fn check_sizes(t: &[u8], dimension: u32, kept: &mut [u64; format::AXES]) -> Chec
         return Checked {
             fine: false,
             number: 0,
+            fromend: false,
         };
     }
     let said = x.sizes;
@@ -79,6 +100,7 @@ fn check_sizes(t: &[u8], dimension: u32, kept: &mut [u64; format::AXES]) -> Chec
     Checked {
         fine: true,
         number: 0,
+        fromend: false,
     }
 }
 
@@ -109,14 +131,16 @@ pub fn check(f: usize, t: &[u8], dimension: u32, kept: &mut [u64; format::AXES])
         field::ENDIAN => check_row(read_text::words::endian_named(t)),
         field::SIZES => check_sizes(t, dimension, kept),
         field::LINE_SKIP => check_number(t, 0, format::MAX_SKIP),
-        field::BYTE_SKIP => check_number(t, 0, format::MAX_SKIP),
+        field::BYTE_SKIP => check_byte_skip(t),
         field::DATA_FILE => Checked {
             fine: is_name(t),
             number: 0,
+            fromend: false,
         },
         _ => Checked {
             fine: true,
             number: 0,
+            fromend: false,
         },
     }
 }

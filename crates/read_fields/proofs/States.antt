@@ -6,7 +6,7 @@ use native.Mathlib.Nat.{add-zero, zero-add, not-suc-le-zero, le-of-suc-le-suc}
 use native.Mathlib.Omega.{arith}
 use mathlib.Core.Path.{_≡_, refl, sym, ap, subst, _∙_}
 use mathlib.Core.Bool.{Bool, true, false, not, _&&_, _||_, false≢true}
-use mathlib.Core.List.{List, [], _∷_, _++_, map}
+use mathlib.Core.List.{List, [], _∷_, map}
 use mathlib.Core.Option.{Option, none, some}
 use lib.Dec.{eqb, leb}
 use lib.ListN.{length, replicate, take, getD, set, length-map}
@@ -14,11 +14,11 @@ use lib.Seq.{take-at}
 use borrow.Author.Tests.{lt-ltb, le-ltb, le-leb, leb-true, eqb-true, eqb-false, eq-eqb, ne-eqb}
 use mir.Val.{boolByte}
 use Rattle.format.specs.declared.Reading.{Reading}
-use Rattle.format.specs.Bytes.{isAny, rowFrom, orDefault, if_then_else_}
+use Rattle.format.specs.Bytes.{isAny, isSome, rowFrom, orDefault, if_then_else_}
 use Rattle.format.specs.Limits.{maxAxes, maxExtent}
 use Rattle.format.specs.Refusals.{badDescriptor, missingField, extentTooLarge, refusal, fine}
 use Rattle.format.specs.Fields.{namesOf, fieldTable, fieldAt, fieldCount, fieldNamed, Given, given, descriptorOf, isGiven, dimension, type, encoding, endian, sizes, lineSkip, byteSkip, dataFile}
-use Rattle.format.specs.Descriptors.{meaning, number, valueOfNumber, within, words, isDetached, mayDescribe, numberSaid, numberOf, dimensionOf, sizesSaid, sizesOf, endianNeeded, hasNeeded, extent, extentOf}
+use Rattle.format.specs.Descriptors.{forward, byteSkipSaid, bytesForward, isFromEnd, byteSkipOf, raw, endIsRaw, meaning, number, valueOfNumber, within, words, isDetached, mayDescribe, numberSaid, numberOf, dimensionOf, sizesSaid, sizesOf, endianNeeded, hasNeeded, extent, extentOf}
 use Rattle.format.specs.Header.{Item, field, fieldOf, Entry, wrong, right, judge, refused, withField, afterItem, versionOf, headerLength}
 use Rattle.format.specs.Rules.{FieldLine, Keeps}
 use Rattle.format.specs.Calls.{readAnswer, padded, readingAt, readingOf}
@@ -26,10 +26,10 @@ use Rattle.format.proofs.Bytes.{and-right}
 use Rattle.format.proofs.Judged.{is-field, judge-keeps, after-cases}
 use Rattle.format.proofs.Rules.{needed-of}
 use Rattle.read_descriptors.specs.declared.check.Checked.{Checked}
-use Rattle.read_descriptors.specs.Checked.{found, takes, sizesKept, checked}
+use Rattle.read_descriptors.specs.Checked.{found, takes, saysEnd, sizesKept, checked}
 use Rattle.read_descriptors.proofs.Checking.{fine-length}
 use Rattle.read_fields.specs.declared.state.Step.{Step}
-use Rattle.read_fields.specs.States.{each, flags, numbersOf, Kept, Holds, Known, described, fieldGiven, numberGiven, sizesGiven, stepOf, stepped, keptAt, completeNumber, finished}
+use Rattle.read_fields.specs.States.{each, flags, numbersOf, Kept, Holds, Known, described, fieldGiven, numberGiven, endGiven, sizesGiven, stepOf, stepped, keptAt, completeNumber, finished}
 
 -- ---- flags and numbers
 
@@ -90,6 +90,25 @@ module _ (f : ℕ) (d : List ℕ) (gs : List Given) where
       each-set (λ g. numberOf g gs) (λ g. numberOf g (given f d ∷ gs)) (numberSaid f d) 0 fieldCount f f
       (λ g n. rw (other-descriptor g n)) (rw own-descriptor) (omega arith) h
 
+  end-after : isGiven f gs ≡ false → isFromEnd (byteSkipOf (given f d ∷ gs)) ≡ (endGiven (some (given f d)) || isFromEnd (byteSkipOf gs))
+  unfolding descriptorOf
+  end-after new = go (eqb byteSkip f) refl
+    where
+      absent : (o : Option (List ℕ)) → isSome o ≡ false → isFromEnd (meaning (forward 0) byteSkipSaid o) ≡ false
+      absent none e = refl
+      absent (some t) e = absurd (false≢true (sym e))
+
+      or-false : (x : Bool) → x ≡ (x || false)
+      or-false true = refl
+      or-false false = refl
+
+      go : (x : Bool) → eqb byteSkip f ≡ x
+          → isFromEnd (meaning (forward 0) byteSkipSaid (if x then some d else descriptorOf byteSkip gs)) ≡ (x && isFromEnd (byteSkipSaid d) || isFromEnd (byteSkipOf gs))
+      go true e =
+          let none-before = absent (descriptorOf byteSkip gs) (rw (eqb-true byteSkip f e) new) in
+          rw none-before (or-false (isFromEnd (byteSkipSaid d)))
+      go false e = refl
+
   sizes-after : padded (sizesOf (given f d ∷ gs)) ≡ sizesGiven (some (given f d)) (padded (sizesOf gs))
   unfolding descriptorOf
   sizes-after = go (eqb sizes f)
@@ -111,13 +130,13 @@ module _ (n f : ℕ) (t ns : List ℕ) (x : Checked) (after : List ℕ) (e : _�
 
   pub check-taken
       : _≡_ {A = Step × List ℕ}
-      (if x .fine then record { wrong = 0; closes = false; field = f; number = x .number } else stepOf (wrong badDescriptor), after)
+      (if x .fine then record { wrong = 0; closes = false; field = f; number = x .number; fromend = x .fromend } else stepOf (wrong badDescriptor), after)
       (stepped (described n f t) ns)
   check-taken = go (mayDescribe n f t) (rw axes-fit at e)
     where
-      go : (b : Bool) → _≡_ {A = Checked × List ℕ} (x, after) (found b (numberSaid f t), if b then sizesKept f t ns else ns)
+      go : (b : Bool) → _≡_ {A = Checked × List ℕ} (x, after) (found b (numberSaid f t) (saysEnd f t), if b then sizesKept f t ns else ns)
           → _≡_ {A = Step × List ℕ}
-          (if x .fine then record { wrong = 0; closes = false; field = f; number = x .number } else stepOf (wrong badDescriptor), after)
+          (if x .fine then record { wrong = 0; closes = false; field = f; number = x .number; fromend = x .fromend } else stepOf (wrong badDescriptor), after)
           (stepped (if not b then wrong badDescriptor else right (field f t)) ns)
       go true q = rw (ap (λ (y : Checked × List ℕ). y .0) q, ap (λ (y : Checked × List ℕ). y .1) q)
       go false q = rw (ap (λ (y : Checked × List ℕ). y .0) q, ap (λ (y : Checked × List ℕ). y .1) q)
@@ -139,9 +158,17 @@ needed-is gs a b = rw (a, b)
 pub needs-sizes : (gs : List Given) → hasNeeded gs ≡ true → isGiven sizes gs ≡ true
 needs-sizes gs e = needed-of gs e .has-sizes
 
--- the reading by the flags, numbers and sizes, with the skips and the extent x
-abbrev pub readingBy : ℕ → List Bool → List ℕ → List ℕ → ℕ → ℕ → ℕ → ℕ → ℕ → Reading
-readingBy version marks numbers ns skip skipped x bytes count =
+-- the bytes skipped, as they are kept
+bytes-kept : (gs : List Given) → numberOf byteSkip gs ≡ bytesForward (byteSkipOf gs)
+bytes-kept gs = go (descriptorOf byteSkip gs)
+  where
+    go : (o : Option (List ℕ)) → meaning 0 (numberSaid byteSkip) o ≡ bytesForward (meaning (forward 0) byteSkipSaid o)
+    go none = refl
+    go (some t) = refl
+
+-- the reading by the flags, numbers, sizes, and whether the data is found from the end, with the skips and the extent x
+abbrev pub readingBy : ℕ → List Bool → List ℕ → List ℕ → Bool → ℕ → ℕ → ℕ → ℕ → ℕ → Reading
+readingBy version marks numbers ns end skip skipped x bytes count =
     let n : ℕ → ℕ = λ f. getD numbers f 0 in
     record {
       version = version;
@@ -156,9 +183,10 @@ readingBy version marks numbers ns skip skipped x bytes count =
       extent = x;
       length = bytes;
       lines = count;
+      fromend = end;
     }
 
-module _ {marks : List Bool} {numbers ns : List ℕ} {gs : List Given} (h : Holds marks numbers ns gs) where
+module _ {marks : List Bool} {numbers ns : List ℕ} {end : Bool} {gs : List Given} (h : Holds marks numbers ns end gs) where
   -- a number that is kept
   pub number-at : (f : ℕ) → f < fieldCount → getD numbers f 0 ≡ numberOf f gs
   number-at f l = rw (h .numbers-are) (each-at (λ g. numberOf g gs) 0 f l)
@@ -172,31 +200,40 @@ module _ {marks : List Bool} {numbers ns : List ℕ} {gs : List Given} (h : Hold
       let s = take-at (sizesOf gs) (replicate (maxAxes - length (sizesOf gs)) 0) (dimensionOf gs) (h .kept .sized e) in
       rw (number-at dimension (omega arith), number-at type (omega arith), h .sizes-are, s)
 
+  -- whether a byte skip of -1, if it is one, stands with raw
+  pub fits-is : (not end || eqb (getD numbers encoding 0) raw) ≡ endIsRaw gs
+  unfolding endIsRaw
+  fits-is = rw (h .end-is, number-at encoding (omega arith))
+
   -- the reading that they make
   pub reading-is : (version bytes count : ℕ) {skip skipped x : ℕ} → skip ≡ getD numbers lineSkip 0 → skipped ≡ getD numbers byteSkip 0 → x ≡ extentOf gs
-      → readingBy version marks numbers ns skip skipped x bytes count ≡ readingAt version gs bytes count
+      → readingBy version marks numbers ns end skip skipped x bytes count ≡ readingAt version gs bytes count
   unfolding each
-  reading-is version bytes count p q e = rw (p, q, h .marks-are, h .numbers-are, h .sizes-are, e, form-of (isDetached gs))
+  reading-is version bytes count p q e = rw (p, q ∙ number-at byteSkip (omega arith) ∙ bytes-kept gs, h .marks-are, h .numbers-are, h .sizes-are, h .end-is, e, form-of (isDetached gs))
     where
       form-of : (b : Bool) → boolByte b ≡ (if b then 1 else 0)
       form-of true = refl
       form-of false = refl
 
 module _ (version : ℕ) (gs : List Given) (bytes count : ℕ) where
-  -- the answer: a field is missing, the extent is too large, or nothing is refused
+  -- the answer: a field is missing, the skip does not fit, the extent is too large, or nothing is refused
   pub finished-missing : hasNeeded gs ≡ false → finished version gs bytes count ≡ readAnswer (refused (refusal missingField))
   unfolding finished completeNumber
   finished-missing e = rw e
 
-  pub finished-large : hasNeeded gs ≡ true → maxExtent < extentOf gs
+  pub finished-unfit : hasNeeded gs ≡ true → endIsRaw gs ≡ false → finished version gs bytes count ≡ readAnswer (refused (refusal badDescriptor))
+  unfolding finished completeNumber
+  finished-unfit e s = rw (e, s)
+
+  pub finished-large : hasNeeded gs ≡ true → endIsRaw gs ≡ true → maxExtent < extentOf gs
       → finished version gs bytes count ≡ readAnswer (refused (refusal extentTooLarge))
   unfolding finished completeNumber
-  finished-large e l = rw (e, lt-ltb maxExtent (extentOf gs) l)
+  finished-large e s l = rw (e, s, lt-ltb maxExtent (extentOf gs) l)
 
-  pub finished-fine : hasNeeded gs ≡ true → extentOf gs ≤ maxExtent
+  pub finished-fine : hasNeeded gs ≡ true → endIsRaw gs ≡ true → extentOf gs ≤ maxExtent
       → finished version gs bytes count ≡ record { refusal = fine; reading = readingAt version gs bytes count }
   unfolding finished completeNumber
-  finished-fine e l = rw (e, le-ltb maxExtent (extentOf gs) l)
+  finished-fine e s l = rw (e, s, le-ltb maxExtent (extentOf gs) l)
 
 -- the reading of an accepted header, by its fields
 pub reading-at : (es : List Entry) (gs : List Given) → readingOf es gs ≡ readingAt (versionOf es) gs (headerLength es) (length es)
@@ -280,20 +317,20 @@ kept-next version gs t i k e = after-cases version gs t Kept e k (λ f d s. kept
 -- ---- what is kept once a line is read
 
 -- no field is given
-pub holds-none : Holds (flags []) (numbersOf []) (padded []) []
+pub holds-none : Holds (flags []) (numbersOf []) (padded []) false []
 unfolding descriptorOf
-holds-none = record { marks-are = refl; numbers-are = refl; sizes-are = refl; kept = kept-none }
+holds-none = record { marks-are = refl; numbers-are = refl; sizes-are = refl; end-is = refl; kept = kept-none }
 
 -- what is kept once a line is read, by the field that it gives
-abbrev pub HoldsAfter : List Bool → List ℕ → List ℕ → List Given → Option Given → Type 0
-HoldsAfter marks numbers ns gs o =
-    Holds (keptAt (fieldGiven o) true marks) (keptAt (fieldGiven o) (numberGiven o) numbers) (sizesGiven o ns) (withField o gs)
+abbrev pub HoldsAfter : List Bool → List ℕ → List ℕ → Bool → List Given → Option Given → Type 0
+HoldsAfter marks numbers ns end gs o =
+    Holds (keptAt (fieldGiven o) true marks) (keptAt (fieldGiven o) (numberGiven o) numbers) (sizesGiven o ns) (endGiven o || end) (withField o gs)
 
-pub holds-next : (version : ℕ) {marks : List Bool} {numbers ns : List ℕ} {gs : List Given} (t : List ℕ) (i : Item)
-    → Holds marks numbers ns gs → judge version gs t ≡ right i → HoldsAfter marks numbers ns gs (fieldOf i)
-holds-next version {marks} {numbers} {ns} {gs} t i h j = go (fieldOf i) refl
+pub holds-next : (version : ℕ) {marks : List Bool} {numbers ns : List ℕ} {end : Bool} {gs : List Given} (t : List ℕ) (i : Item)
+    → Holds marks numbers ns end gs → judge version gs t ≡ right i → HoldsAfter marks numbers ns end gs (fieldOf i)
+holds-next version {marks} {numbers} {ns} {end} {gs} t i h j = go (fieldOf i) refl
   where
-    go : (o : Option Given) → fieldOf i ≡ o → HoldsAfter marks numbers ns gs o
+    go : (o : Option Given) → fieldOf i ≡ o → HoldsAfter marks numbers ns end gs o
     go none e = h
     go (some (given f d)) e =
         let s : FieldLine version gs t f d = subst (Keeps version gs t) (is-field i e) (judge-keeps version gs t j) in
@@ -303,9 +340,10 @@ holds-next version {marks} {numbers} {ns} {gs} t i h j = go (fieldOf i) refl
           marks-are = rw (l, h .marks-are) (sym (flags-after f d gs b));
           numbers-are = rw (l, h .numbers-are) (sym (numbers-after f d gs b));
           sizes-are = rw (h .sizes-are) (sym (sizes-after f d gs));
+          end-is = rw (h .end-is) (sym (end-after f d gs (s .new)));
           kept = kept-field version f d (h .kept) s;
         }
 
 -- what the judgement of a line has to know
-pub known-of : {marks : List Bool} {numbers ns : List ℕ} {gs : List Given} → Holds marks numbers ns gs → Known marks (getD numbers dimension 0) gs
+pub known-of : {marks : List Bool} {numbers ns : List ℕ} {end : Bool} {gs : List Given} → Holds marks numbers ns end gs → Known marks (getD numbers dimension 0) gs
 known-of h = record { marks-are = h .marks-are; dimension-is = number-at h dimension (omega arith); axes = axes-at h }

@@ -11,10 +11,10 @@ use Rattle.format.specs.Bytes.{if_then_else_}
 use Rattle.format.specs.Limits.{maxAxes, maxExtent}
 use Rattle.format.specs.Refusals.{badDescriptor, missingField, extentTooLarge, refusal, fine}
 use Rattle.format.specs.Fields.{Given, given, fieldCount, isGiven, dimension, sizes}
-use Rattle.format.specs.Descriptors.{numberSaid, numberOf, dimensionOf, sizesOf, mayDescribe, hasNeeded, extentOf}
+use Rattle.format.specs.Descriptors.{isFromEnd, numberSaid, numberOf, dimensionOf, byteSkipOf, sizesOf, mayDescribe, hasNeeded, endIsRaw, extentOf}
 use Rattle.format.specs.Header.{Judged, wrong, right, field, fieldOf, closes, Outcome, refused, accepted, headerLength}
 use Rattle.format.specs.Calls.{noReading, padded, readingAt}
-use Rattle.read_descriptors.specs.Checked.{sizesKept}
+use Rattle.read_descriptors.specs.Checked.{saysEnd, sizesKept}
 use Rattle.read_fields.specs.declared.state.Step.{Step}
 
 -- what v says of each of n fields from f on
@@ -36,11 +36,12 @@ pub record Kept (gs : List Given) : Type 0 where
   pub ordered : isGiven sizes gs ≡ true → isGiven dimension gs ≡ true
   pub sized : isGiven sizes gs ≡ true → length (sizesOf gs) ≡ dimensionOf gs
 
--- the flags, the numbers and the sizes are those of the fields given
-pub record Holds (marks : List Bool) (numbers ns : List ℕ) (gs : List Given) : Type 0 where
+-- the flags, the numbers, the sizes, and whether the data is found from the end, are those of the fields given
+pub record Holds (marks : List Bool) (numbers ns : List ℕ) (end : Bool) (gs : List Given) : Type 0 where
   pub marks-are : marks ≡ flags gs
   pub numbers-are : numbers ≡ numbersOf gs
   pub sizes-are : ns ≡ padded (sizesOf gs)
+  pub end-is : end ≡ isFromEnd (byteSkipOf gs)
   pub kept : Kept gs
 
 -- what the judgement of a line has to know of the fields given: which they are, and the dimension
@@ -62,6 +63,11 @@ abbrev pub numberGiven : Option Given → ℕ
 numberGiven none = 0
 numberGiven (some (given f d)) = numberSaid f d
 
+-- whether it says that the data is found from the end
+abbrev pub endGiven : Option Given → Bool
+endGiven none = false
+endGiven (some (given f d)) = saysEnd f d
+
 -- the sizes once the line is read
 abbrev pub sizesGiven : Option Given → List ℕ → List ℕ
 sizesGiven none ns = ns
@@ -69,8 +75,8 @@ sizesGiven (some (given f d)) ns = sizesKept f d ns
 
 -- a line's step by what the line was judged to be
 abbrev pub stepOf : Judged → Step
-stepOf (wrong w) = record { wrong = w; closes = false; field = fieldCount; number = 0 }
-stepOf (right i) = record { wrong = 0; closes = closes i; field = fieldGiven (fieldOf i); number = numberGiven (fieldOf i) }
+stepOf (wrong w) = record { wrong = w; closes = false; field = fieldCount; number = 0; fromend = false }
+stepOf (right i) = record { wrong = 0; closes = closes i; field = fieldGiven (fieldOf i); number = numberGiven (fieldOf i); fromend = endGiven (fieldOf i) }
 
 abbrev pub sizesAfter : Judged → List ℕ → List ℕ
 sizesAfter (wrong w) ns = ns
@@ -93,6 +99,7 @@ wrongOf (right i) = 0
 unfoldable pub completeNumber : List Given → ℕ
 completeNumber gs =
     if not (hasNeeded gs) then missingField
+    else if not (endIsRaw gs) then badDescriptor
     else if ltb maxExtent (extentOf gs) then extentTooLarge
     else 0
 

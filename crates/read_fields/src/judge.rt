@@ -54,6 +54,7 @@ fn without_field(number: u32) -> Step
         closes: false,
         field: field::COUNT,
         number: 0,
+        fromend: false,
     }
 }
 
@@ -70,6 +71,7 @@ fn take_field(f: usize, t: &[u8], dimension: u32, sizes: &mut [u64; format::AXES
         closes: false,
         field: f,
         number: x.number,
+        fromend: x.fromend,
     }
 }
 
@@ -150,6 +152,7 @@ pub fn judge_line(
             closes: true,
             field: field::COUNT,
             number: 0,
+            fromend: false,
         },
         Kind::Comment => without_field(0),
         Kind::Field(i) => on_field(version, given, dimension, t, i, sizes),

@@ -1,4 +1,4 @@
-// What the reader keeps of the fields given so far: flags, numbers, sizes; and the answer that they make.
+// What the reader keeps of the fields given so far: flags, numbers, sizes, and whether the data is found from the end; and the answer that they make.
 use format::ReadAnswer;
 use format::Reading;
 use format::field;
@@ -6,24 +6,27 @@ use format_values::products;
 use format_values::refusals;
 use format_values::types;
 ghost use mathlib.Core.Path.{_≡_};
-ghost use mathlib.Core.Bool.{true};
+ghost use mathlib.Core.Bool.{true, not, _||_};
 ghost use mathlib.Core.List.{List, []};
 ghost use Prim.Native.Nat.{_≤_};
+ghost use lib.Dec.{eqb};
 ghost use lib.ListN.{take};
 ghost use Rattle.format.specs.Limits.{maxAxes};
 ghost use Rattle.format.specs.Refusals.{atLine};
 ghost use Rattle.format.specs.Fields.{Given};
-ghost use Rattle.format.specs.Descriptors.{endianNeeded, extent, hasNeeded, capped};
+ghost use Rattle.format.specs.Descriptors.{raw, endianNeeded, extent, hasNeeded, capped};
 ghost use Rattle.format.specs.Header.{refused};
 ghost use Rattle.format.specs.Calls.{padded, readAnswer};
 ghost use Rattle.read_fields.specs.States.{flags, numbersOf, keptAt, Holds, finished};
 
-// What a line comes to: the number of its refusal or 0, whether it closes the header, and the field that it gives with its number; `field::COUNT` where it gives none.
+// What a line comes to: the number of its refusal or 0, whether it closes the header, and the field that it gives, `field::COUNT` where it gives none, with its number
+// and whether it says that the data is found from the end.
 pub struct Step {
     pub wrong: u32,
     pub closes: bool,
     pub field: usize,
     pub number: u32,
+    pub fromend: bool,
 }
 
 // No field is given: the flags.
@@ -83,6 +86,7 @@ pub fn refuse(number: u32, line: u32) -> ReadAnswer
             extent: 0,
             length: 0,
             lines: 0,
+            fromend: false,
         },
     }
 }
@@ -110,6 +114,13 @@ fn has_needed(given: &[bool; field::COUNT], numbers: &[u32; field::COUNT]) -> bo
         & (given[field::TYPE] & (given[field::ENCODING] & (given[field::SIZES] & endian)))
 }
 
+// Whether a byte skip from the end, if it is one, stands with raw.
+fn end_is_raw(fromend: bool, encoding: u32) -> bool
+    ensures { λ r. ⌜ r ≡ (not fromend || eqb encoding raw) ⌝ }
+{
+    !fromend | (encoding == format::RAW)
+}
+
 // The extent, or the least number that is none where it is above.
 fn extent(dimension: u32, sampletype: u32, sizes: [u64; format::AXES]) -> u64
     ensures { λ r. ⌜ (dimension ≤ maxAxes → r ≡ capped (extent (take dimension sizes) sampletype)) ⌝ }
@@ -131,13 +142,18 @@ pub fn finish(
     given: &[bool; field::COUNT],
     numbers: &[u32; field::COUNT],
     sizes: [u64; format::AXES],
+    fromend: bool,
     bytes: usize,
     count: u32,
 ) -> ReadAnswer
-    ensures { λ r. ⌜ ((gs : List Given) → Holds (now (given .entry)) (now (numbers .entry)) sizes gs → r ≡ finished version gs bytes count) ⌝ }
+    ensures { λ r. ⌜ ((gs : List Given) → Holds (now (given .entry)) (now (numbers .entry)) sizes fromend gs → r ≡ finished version gs bytes count) ⌝ }
 {
     if !has_needed(given, numbers) {
         return refuse(format::MISSING_FIELD, 0);
+    }
+    let encoding = numbers[field::ENCODING];
+    if !end_is_raw(fromend, encoding) {
+        return refuse(format::BAD_DESCRIPTOR, 0);
     }
     let dimension = numbers[field::DIMENSION];
     let sampletype = numbers[field::TYPE];
@@ -145,7 +161,6 @@ pub fn finish(
     if format::MAX_EXTENT < x {
         return refuse(format::EXTENT_TOO_LARGE, 0);
     }
-    let encoding = numbers[field::ENCODING];
     let endian = numbers[field::ENDIAN];
     let form = given[field::DATA_FILE] as u32;
     let lineskip = wide(numbers[field::LINE_SKIP]);
@@ -166,6 +181,7 @@ pub fn finish(
             extent: x,
             length: length,
             lines: count,
+            fromend: fromend,
         },
     }
 }

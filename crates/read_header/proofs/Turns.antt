@@ -4,7 +4,7 @@ use Prim.Native.Nat.{ℕ, suc, _+_, _-_, _≤_, _<_}
 use native.Mathlib.Nat.{add-zero}
 use native.Mathlib.Omega.{arith}
 use mathlib.Core.Path.{_≡_, refl, sym, ap, subst, _∙_}
-use mathlib.Core.Bool.{Bool, true, false, not}
+use mathlib.Core.Bool.{Bool, true, false, not, _||_}
 use mathlib.Core.List.{List, [], _∷_}
 use lib.Dec.{eqb, ltb}
 use lib.ListN.{length, take, drop, getD}
@@ -12,10 +12,10 @@ use borrow.Author.Tests.{lt-ltb, le-ltb}
 use Rattle.format.specs.declared.ReadAnswer.{ReadAnswer}
 use Rattle.format.specs.Bytes.{if_then_else_}
 use Rattle.format.specs.Limits.{maxHeader, maxLines, maxExtent}
-use Rattle.format.specs.Refusals.{noEnd, missingField, extentTooLarge, headerTooLong, tooManyLines, atLine, refusal, fine}
+use Rattle.format.specs.Refusals.{noEnd, badDescriptor, missingField, extentTooLarge, headerTooLong, tooManyLines, atLine, refusal, fine}
 use Rattle.format.specs.Lines.{Line, line, size, lines, unlines}
 use Rattle.format.specs.Fields.{Given, dimension, dataFile}
-use Rattle.format.specs.Descriptors.{hasNeeded, extentOf, isDetached}
+use Rattle.format.specs.Descriptors.{hasNeeded, endIsRaw, extentOf, isDetached}
 use Rattle.format.specs.Header.{Item, entry, Judged, wrong, right, judge, Outcome, refused, accepted, withEntry, closes, afterItem, complete, onJudged, walk, headerLength}
 use Rattle.format.specs.Calls.{noReading, padded, readingAt, readAnswer}
 use Rattle.format.proofs.Lines.{lines-none, length-unlines-cons}
@@ -41,16 +41,21 @@ answer-entry version n at l i (accepted es gs ls) h =
 answer-complete : (version n at : ℕ) (gs : List Given) (ls : List Line)
     → answerFrom version n at (complete gs ls) ≡ finished version gs at (n - 1)
 unfolding complete finished completeNumber unlines
-answer-complete version n at gs ls = go (hasNeeded gs) (ltb maxExtent (extentOf gs))
+answer-complete version n at gs ls = go (hasNeeded gs) (endIsRaw gs) (ltb maxExtent (extentOf gs))
   where
-    go : (a b : Bool)
-        → answerFrom version n at (if not a then refused (refusal missingField) else if b then refused (refusal extentTooLarge) else accepted [] gs ls)
-        ≡ (if eqb (if not a then missingField else if b then extentTooLarge else 0) 0
-        then record { refusal = fine; reading = readingAt version gs at (n - 1) }
-        else record { refusal = refusal (if not a then missingField else if b then extentTooLarge else 0); reading = noReading })
-    go false b = refl
-    go true true = refl
-    go true false = simp add-zero
+    number : Bool → Bool → Bool → ℕ
+    number a b c = if not a then missingField else if not b then badDescriptor else if c then extentTooLarge else 0
+
+    go : (a b c : Bool)
+        → answerFrom version n at
+        (if not a then refused (refusal missingField) else if not b then refused (refusal badDescriptor)
+        else if c then refused (refusal extentTooLarge) else accepted [] gs ls)
+        ≡ (if eqb (number a b c) 0 then record { refusal = fine; reading = readingAt version gs at (n - 1) }
+        else record { refusal = refusal (number a b c); reading = noReading })
+    go false b c = refl
+    go true false c = refl
+    go true true true = refl
+    go true true false = simp add-zero
 
 -- ---- a turn
 
@@ -125,10 +130,10 @@ module _ (file : List ℕ) (version : ℕ) (gs : List Given) (n at : ℕ) where
             go (right i) e q b = record { item = i; is-right = e; stepped-is = q }
 
         -- what is kept once it is read
-        kept-after : {marks : List Bool} {numbers : List ℕ} → Holds marks numbers ns gs
-            → Holds (keptAt (s .field) true marks) (keptAt (s .field) (s .number) numbers) ns′ (afterItem (right-of .item) gs)
-        kept-after {marks} {numbers} h =
-            subst (λ (x : Step × List ℕ). Holds (keptAt (x .0 .field) true marks) (keptAt (x .0 .field) (x .0 .number) numbers) (x .1) (afterItem (right-of .item) gs))
+        kept-after : {marks : List Bool} {numbers : List ℕ} {end : Bool} → Holds marks numbers ns end gs
+            → Holds (keptAt (s .field) true marks) (keptAt (s .field) (s .number) numbers) ns′ (s .fromend || end) (afterItem (right-of .item) gs)
+        kept-after {marks} {numbers} {end} h =
+            subst (λ (x : Step × List ℕ). Holds (keptAt (x .0 .field) true marks) (keptAt (x .0 .field) (x .0 .number) numbers) (x .1) (x .0 .fromend || end) (afterItem (right-of .item) gs))
             (sym (right-of .stepped-is))
             (holds-next version (take (textEnd - at) (drop at file)) (right-of .item) h (right-of .is-right))
 
@@ -149,19 +154,19 @@ module _ (file : List ℕ) (version : ℕ) (gs : List Given) (n at : ℕ) where
             )
 
         -- it gives no field
-        pub holds-closed : s .closes ≡ true → {marks : List Bool} {numbers : List ℕ} → Holds marks numbers ns gs → Holds marks numbers ns′ gs
+        pub holds-closed : s .closes ≡ true → {marks : List Bool} {numbers : List ℕ} {end : Bool} → Holds marks numbers ns end gs → Holds marks numbers ns′ end gs
         holds-closed h k =
             let q = right-of .stepped-is in
             let c = is-closing (right-of .item) (ap (λ (x : Step × List ℕ). x .0 .closes) (sym q) ∙ h) in
             rw (ap (λ (x : Step × List ℕ). x .1) q, c) k
 
         -- the header goes on, with the fields gs′
-        pub record Next (marks : List Bool) (numbers : List ℕ) : Type 0 where
+        pub record Next (marks : List Bool) (numbers : List ℕ) (end : Bool) : Type 0 where
           pub gs′ : List Given
-          pub holds : Holds (keptAt (s .field) true marks) (keptAt (s .field) (s .number) numbers) ns′ gs′
+          pub holds : Holds (keptAt (s .field) true marks) (keptAt (s .field) (s .number) numbers) ns′ (s .fromend || end) gs′
           pub answer : answerAt file version gs n at ≡ answerAt file version gs′ (n + 1) next
 
-        pub turn-next : s .closes ≡ false → {marks : List Bool} {numbers : List ℕ} → Holds marks numbers ns gs → Next marks numbers
+        pub turn-next : s .closes ≡ false → {marks : List Bool} {numbers : List ℕ} {end : Bool} → Holds marks numbers ns end gs → Next marks numbers end
         unfolding t
         turn-next h k =
             let i = right-of .item in
@@ -177,9 +182,9 @@ module _ (file : List ℕ) (version : ℕ) (gs : List Given) (n at : ℕ) where
 -- ---- the loop over the lines after line 1, which ends at `from`
 
 -- line n, which starts at `at`, is to be read, with this kept of the fields given: the answer from there on is the whole answer
-pub record Going (file : List ℕ) (version from : ℕ) (marks : List Bool) (numbers ns : List ℕ) (at n : ℕ) : Type 0 where
+pub record Going (file : List ℕ) (version from : ℕ) (marks : List Bool) (numbers ns : List ℕ) (end : Bool) (at n : ℕ) : Type 0 where
   pub gs : List Given
-  pub holds : Holds marks numbers ns gs
+  pub holds : Holds marks numbers ns end gs
   pub same : answerAt file version gs n at ≡ answerAt file version [] 2 from
   pub within : at ≤ length file
   pub short : at ≤ maxHeader
@@ -188,7 +193,7 @@ pub record Going (file : List ℕ) (version from : ℕ) (marks : List Bool) (num
 
 -- the first of those lines
 pub going-start : (file : List ℕ) (version from : ℕ) {marks : List Bool} {numbers ns : List ℕ} → marks ≡ flags [] → numbers ≡ numbersOf [] → ns ≡ padded []
-    → from ≤ length file → from ≤ maxHeader → Going file version from marks numbers ns from 2
+    → from ≤ length file → from ≤ maxHeader → Going file version from marks numbers ns false from 2
 going-start file version from a b c h k =
     record {
       gs = [];
@@ -200,7 +205,8 @@ going-start file version from a b c h k =
       high = omega arith;
     }
 
-module _ {file : List ℕ} {version from : ℕ} {marks : List Bool} {numbers ns : List ℕ} {at n : ℕ} (g : Going file version from marks numbers ns at n) where
+module _ {file : List ℕ} {version from : ℕ} {marks : List Bool} {numbers ns : List ℕ} {end : Bool} {at n : ℕ}
+    (g : Going file version from marks numbers ns end at n) where
   -- the flag of data file
   detached : getD marks dataFile false ≡ isDetached (g .gs)
   detached = given-at (known-of (g .holds)) dataFile (omega arith)
@@ -239,13 +245,13 @@ module _ {file : List ℕ} {version from : ℕ} {marks : List Bool} {numbers ns 
         pub going-closes : s .closes ≡ true → finished version (g .gs) next n ≡ answerAt file version [] 2 from
         going-closes h = sym (turn-closes file version (g .gs) n at textEnd next w few past-one s ns ns′ here fine h) ∙ g .same
 
-        pub going-closed : s .closes ≡ true → Holds marks numbers ns′ (g .gs)
+        pub going-closed : s .closes ≡ true → Holds marks numbers ns′ end (g .gs)
         going-closed h = holds-closed file version (g .gs) n at textEnd next w few past-one s ns ns′ here fine h (g .holds)
 
         -- the header goes on
         pub going-next : s .closes ≡ false → {marks′ : List Bool} {numbers′ : List ℕ}
             → marks′ ≡ keptAt (s .field) true marks → numbers′ ≡ keptAt (s .field) (s .number) numbers
-            → Going file version from marks′ numbers′ ns′ next (n + 1)
+            → Going file version from marks′ numbers′ ns′ (s .fromend || end) next (n + 1)
         going-next h a b =
             let x = turn-next file version (g .gs) n at textEnd next w few past-one s ns ns′ here fine h (g .holds) in
             record {

@@ -50,6 +50,7 @@ fn read_lines(file: &[u8], from: usize, version: u32) -> ReadAnswer
     let mut given = read_fields::state::no_flags();
     let mut numbers = read_fields::state::no_numbers();
     let mut sizes = read_fields::state::no_sizes();
+    let mut fromend = false;
     let mut at = from;
     let mut n: u32 = 2;
     while at < file.len() {
@@ -73,16 +74,25 @@ fn read_lines(file: &[u8], from: usize, version: u32) -> ReadAnswer
                     return read_fields::state::refuse(step.wrong, n);
                 }
                 if step.closes {
-                    return read_fields::state::finish(version, &given, &numbers, sizes, next, n);
+                    return read_fields::state::finish(
+                        version,
+                        &given,
+                        &numbers,
+                        sizes,
+                        fromend,
+                        next,
+                        n,
+                    );
                 }
                 read_fields::state::keep(&mut given, &mut numbers, step.field, step.number);
+                fromend = step.fromend | fromend;
                 at = next;
                 n += 1;
             }
         }
     }
     if given[field::DATA_FILE] {
-        return read_fields::state::finish(version, &given, &numbers, sizes, at, n - 1);
+        return read_fields::state::finish(version, &given, &numbers, sizes, fromend, at, n - 1);
     }
     read_fields::state::refuse(format::NO_END, 0)
 }

@@ -96,6 +96,7 @@ resized n k r =
       extent = r .extent;
       length = n;
       lines = k;
+      fromend = r .fromend;
     }
 
 -- the data was found, in the header's file

@@ -17,7 +17,7 @@ use Rattle.format.specs.Limits.{maxLines, maxAxes}
 use Rattle.format.specs.Lines.{Line, line, lf, lines, unlines}
 use Rattle.format.specs.Pairs.{plain, mark}
 use Rattle.format.specs.Fields.{Given, given, descriptorOf, isGiven, inOrder, fieldAt, fieldSince, isUnderstood, dimension, type, encoding, endian, sizes, lineSkip, byteSkip, dataFile}
-use Rattle.format.specs.Descriptors.{descriptor, numberIn, valueOfNumber, words, sizesFine, mayDescribe, hasNeeded, types, typeAt, typeName, typeNames, encodings, endians, endianNeeded, noEndian, dimensionOf, typeOf, encodingOf, endianOf, sizesOf, lineSkipOf, byteSkipOf, isDetached, sampleBytes, namesFollow}
+use Rattle.format.specs.Descriptors.{forward, endIsRaw, descriptor, numberIn, valueOfNumber, words, sizesFine, mayDescribe, hasNeeded, types, typeAt, typeName, typeNames, encodings, endians, endianNeeded, noEndian, dimensionOf, typeOf, encodingOf, endianOf, sizesOf, lineSkipOf, byteSkipOf, isDetached, sampleBytes, namesFollow}
 use Rattle.format.specs.Header.{field, closing, magic, Entry, entry, linesOf, right, onField, judge, accepted, header, headerLength}
 use Rattle.format.specs.Writer.{decimal, spaced, nameAt, fieldLine, headerLines, fileBytes, dataBytes}
 use Rattle.format.proofs.Lines.{Shape, lf-line, no-lf-of, ends-of, shape-of-lines, lines-of-parts}
@@ -90,7 +90,7 @@ pub record Means (gs : List Given) (x : Bool) (ns : List ℕ) (t e n : ℕ) : Ty
   pub endian-is : endianOf gs ≡ (if x then n else noEndian)
   pub sizes-are : sizesOf gs ≡ ns
   pub no-line-skip : lineSkipOf gs ≡ 0
-  pub no-byte-skip : byteSkipOf gs ≡ 0
+  pub no-byte-skip : byteSkipOf gs ≡ forward 0
   pub attached : isDetached gs ≡ false
 
 -- ---- one line of a field
@@ -165,8 +165,8 @@ module _ (version : ℕ) (ns : List ℕ) (t e n : ℕ) (zs : List ℤ) (a : Acce
 
   -- they are complete
   complete-fields : (x : Bool) → endianNeeded t e ≡ x → Complete (fieldsOf x ns t e n)
-  unfolding hasNeeded descriptorOf
-  complete-fields x h = record { needed = go x h; small = rw (means x .sizes-are, means x .type-is) (a .extent-small) }
+  unfolding hasNeeded endIsRaw descriptorOf
+  complete-fields x h = record { needed = go x h; fitting = rw (means x .no-byte-skip); small = rw (means x .sizes-are, means x .type-is) (a .extent-small) }
     where
       go : (x : Bool) → endianNeeded t e ≡ x → hasNeeded (fieldsOf x ns t e n) ≡ true
       go true h = refl

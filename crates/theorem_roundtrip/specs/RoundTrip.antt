@@ -34,6 +34,7 @@ readBack version sizes t e endian =
         extent = extent sizes t;
         length = length (headerBytes version sizes t e endian);
         lines = length (headerLines version sizes t e endian);
+        fromend = false;
       };
     }
 

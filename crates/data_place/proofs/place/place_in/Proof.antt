@@ -46,6 +46,9 @@ add-at c = omega (arith, within c)
 sub-left : tie.Need-sub-left
 sub-left c = omega (arith, within c)
 
+bytes-skipped-requires : tie.Need-bytes-skipped-requires
+bytes-skipped-requires c κs = search needs
+
 refuse-requires-2 : tie.Need-refuse-requires-2
 refuse-requires-2 c κs = search needs
 
@@ -54,7 +57,8 @@ returns c =
     let a = c .before .before .before .before .before .before .before .before .before .args in
     let p = c .before .before .before .before .p .given in
     let t = rw (p .1) at (c .before .before .before .before .before .before .skip-lines .ensures) in
-    c .refuse2 .ensures ∙ sym (ap dataAnswer (left-past (a .reading) (a .second) (a .file .now) (a .from) (p .0 .0) (t .0) (t .1) (c .before .if1 .taken)))
+    let b = c .before .before .bytes-skipped in
+    c .refuse2 .ensures ∙ sym (ap dataAnswer (left-past (a .reading) (a .second) (a .file .now) (a .from) (p .0 .0) (t .0) (t .1) (b .result) (b .ensures) (c .before .if1 .taken)))
 
 add-place-at : tie.Need-add-place-at
 add-place-at c = omega (arith, within (c .before .before))
@@ -77,7 +81,8 @@ returns-3 c =
     let a = s .args in
     let p = c .before .before .before .before .p .given in
     let t = rw (p .1) at (c .before .before .before .before .before .before .skip-lines .ensures) in
-    c .place-at .ensures ∙ sym (ap dataAnswer (left-at (a .reading) (a .second) (a .file .now) (a .from) (p .0 .0) (t .0) (t .1) (s .pre) (c .before .if1 .left)))
+    let b = c .before .before .bytes-skipped in
+    c .place-at .ensures ∙ sym (ap dataAnswer (left-at (a .reading) (a .second) (a .file .now) (a .from) (p .0 .0) (t .0) (t .1) (b .result) (b .ensures) (s .pre) (c .before .if1 .left)))
 
 pub place-in-spec : {M : Type 1} → statement M
 place-in-spec =
@@ -92,6 +97,7 @@ place-in-spec =
     enum-known-p
     add-at
     sub-left
+    bytes-skipped-requires
     refuse-requires-2
     returns
     add-place-at

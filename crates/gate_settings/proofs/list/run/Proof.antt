@@ -18,17 +18,11 @@ number-at-requires-2 c κs = search needs
 cast-slots : tie.Need-cast-slots
 cast-slots c = search needs
 
-number-at-requires-3 : tie.Need-number-at-requires-3
-number-at-requires-3 c κs = search needs
+wide-at-requires : tie.Need-wide-at-requires
+wide-at-requires c κs = search needs
 
-cast-used : tie.Need-cast-used
-cast-used c = search needs
-
-number-at-requires-4 : tie.Need-number-at-requires-4
-number-at-requires-4 c κs = search needs
-
-cast-count : tie.Need-cast-count
-cast-count c = search needs
+wide-at-requires-2 : tie.Need-wide-at-requires-2
+wide-at-requires-2 c κs = search needs
 
 given-requires : tie.Need-given-requires
 given-requires c κs = search needs
@@ -77,10 +71,8 @@ run-spec =
     cast-room
     number-at-requires-2
     cast-slots
-    number-at-requires-3
-    cast-used
-    number-at-requires-4
-    cast-count
+    wide-at-requires
+    wide-at-requires-2
     given-requires
     start-requires
     returns

@@ -35,8 +35,8 @@ check-sizes-requires c κs = search needs
 check-number-requires-2 : tie.Need-check-number-requires-2
 check-number-requires-2 c κs = search needs
 
-check-number-requires-3 : tie.Need-check-number-requires-3
-check-number-requires-3 c κs = search needs
+check-byte-skip-requires : tie.Need-check-byte-skip-requires
+check-byte-skip-requires c κs = search needs
 
 is-name-requires : tie.Need-is-name-requires
 is-name-requires c κs = search needs
@@ -75,7 +75,7 @@ returns-6 c = let a = c .before .before .before .args in let e : a .f ≡ lineSk
 
 returns-7 : tie.Need-returns-7
 unfolding mayDescribe
-returns-7 c = let a = c .before .before .before .args in let e : a .f ≡ byteSkip = omega arith in rw e (stay (a .kept .now) (c .check-number3 .ensures))
+returns-7 c = let a = c .before .before .before .args in let e : a .f ≡ byteSkip = omega arith in rw e (stay (a .kept .now) (c .check-byte-skip .ensures))
 
 returns-8 : tie.Need-returns-8
 unfolding mayDescribe
@@ -100,7 +100,7 @@ check-spec =
     check-row-requires-3
     check-sizes-requires
     check-number-requires-2
-    check-number-requires-3
+    check-byte-skip-requires
     is-name-requires
     returns
     returns-2

@@ -8,7 +8,7 @@ use Rattle.format.specs.Limits.{maxExtent}
 use Rattle.format.specs.Refusals.{fine}
 use Rattle.format.specs.Descriptors.{extentOf, capped}
 use borrow.Author.Needs.{needs}
-use Rattle.read_fields.proofs.States.{needs-sizes, axes-at, extent-is, reading-is, finished-missing, finished-large, finished-fine}
+use Rattle.read_fields.proofs.States.{needs-sizes, axes-at, extent-is, fits-is, reading-is, finished-missing, finished-unfit, finished-large, finished-fine}
 use Rattle.read_fields.proofs.state.finish.Statement.{statement}
 use Rattle.read_fields.proofs.state.finish.Tie as tie
 
@@ -25,6 +25,24 @@ returns c gs h =
     let e = sym (n .ensures gs (h .marks-are) (h .numbers-are)) ∙ not-true (n .result) (c .before .if1 .taken) in
     c .refuse .ensures ∙ sym (finished-missing (a .version) gs (a .bytes) (a .count) e)
 
+element-copy-out-encoding : tie.Need-element-copy-out-encoding
+element-copy-out-encoding c = search needs
+
+end-is-raw-requires : tie.Need-end-is-raw-requires
+end-is-raw-requires c κs = search needs
+
+refuse-requires-2 : tie.Need-refuse-requires-2
+refuse-requires-2 c κs = search needs
+
+returns-2 : tie.Need-returns-2
+returns-2 c gs h =
+    let a = c .before .before .before .before .before .before .args in
+    let n = c .before .before .before .before .before .has-needed in
+    let f = c .before .before .end-is-raw in
+    let e = sym (n .ensures gs (h .marks-are) (h .numbers-are)) ∙ not-false (n .result) (c .before .before .before .before .if1 .left) in
+    let s = sym (f .ensures ∙ fits-is h) ∙ not-true (f .result) (c .before .if2 .taken) in
+    c .refuse2 .ensures ∙ sym (finished-unfit (a .version) gs (a .bytes) (a .count) e s)
+
 element-copy-out-dimension : tie.Need-element-copy-out-dimension
 element-copy-out-dimension c = search needs
 
@@ -34,20 +52,19 @@ element-copy-out-sampletype c = search needs
 extent-requires : tie.Need-extent-requires
 extent-requires c κs = search needs
 
-refuse-requires-2 : tie.Need-refuse-requires-2
-refuse-requires-2 c κs = search needs
+refuse-requires-3 : tie.Need-refuse-requires-3
+refuse-requires-3 c κs = search needs
 
-returns-2 : tie.Need-returns-2
-returns-2 c gs h =
-    let a = c .before .before .before .before .before .before .before .args in
-    let n = c .before .before .before .before .before .before .has-needed in
-    let e = sym (n .ensures gs (h .marks-are) (h .numbers-are)) ∙ not-false (n .result) (c .before .before .before .before .before .if1 .left) in
+returns-3 : tie.Need-returns-3
+returns-3 c gs h =
+    let a = c .before .before .before .before .before .before .before .before .before .before .args in
+    let n = c .before .before .before .before .before .before .before .before .before .has-needed in
+    let f = c .before .before .before .before .before .before .end-is-raw in
+    let e = sym (n .ensures gs (h .marks-are) (h .numbers-are)) ∙ not-false (n .result) (c .before .before .before .before .before .before .before .before .if1 .left) in
+    let s = sym (f .ensures ∙ fits-is h) ∙ not-false (f .result) (c .before .before .before .before .before .if2 .left) in
     let m = c .before .before .extent .ensures (axes-at h) ∙ ap capped (extent-is h (needs-sizes gs e)) in
     let l : maxExtent < extentOf gs = omega arith in
-    c .refuse2 .ensures ∙ sym (finished-large (a .version) gs (a .bytes) (a .count) e l)
-
-element-copy-out-encoding : tie.Need-element-copy-out-encoding
-element-copy-out-encoding c = search needs
+    c .refuse3 .ensures ∙ sym (finished-large (a .version) gs (a .bytes) (a .count) e s l)
 
 element-copy-out-endian : tie.Need-element-copy-out-endian
 element-copy-out-endian c = search needs
@@ -70,17 +87,19 @@ element-copy-out-wide-2 c = search needs
 wide-requires-2 : tie.Need-wide-requires-2
 wide-requires-2 c κs = search needs
 
-returns-3 : tie.Need-returns-3
-returns-3 c gs h =
-    let a = c .before .before .before .before .before .before .before .before .before .before .before .before .before .args in
-    let n = c .before .before .before .before .before .before .before .before .before .before .before .before .has-needed in
-    let x = c .before .before .before .before .before .before .before .before .extent .result in
-    let e = sym (n .ensures gs (h .marks-are) (h .numbers-are)) ∙ not-false (n .result) (c .before .before .before .before .before .before .before .before .before .before .before .if1 .left) in
-    let m = c .before .before .before .before .before .before .before .before .extent .ensures (axes-at h) ∙ ap capped (extent-is h (needs-sizes gs e)) in
+returns-4 : tie.Need-returns-4
+returns-4 c gs h =
+    let a = c .before .before .before .before .before .before .before .before .before .before .before .before .before .before .before .args in
+    let n = c .before .before .before .before .before .before .before .before .before .before .before .before .before .before .has-needed in
+    let f = c .before .before .before .before .before .before .before .before .before .before .before .end-is-raw in
+    let x = c .before .before .before .before .before .before .before .extent .result in
+    let e = sym (n .ensures gs (h .marks-are) (h .numbers-are)) ∙ not-false (n .result) (c .before .before .before .before .before .before .before .before .before .before .before .before .before .if1 .left) in
+    let s = sym (f .ensures ∙ fits-is h) ∙ not-false (f .result) (c .before .before .before .before .before .before .before .before .before .before .if2 .left) in
+    let m = c .before .before .before .before .before .before .before .extent .ensures (axes-at h) ∙ ap capped (extent-is h (needs-sizes gs e)) in
     let l : extentOf gs ≤ maxExtent = omega arith in
     let k : x ≡ extentOf gs = omega arith in
     ap (λ (r : Reading). record { refusal = fine; reading = r }) (reading-is h (a .version) (a .bytes) (a .count) (c .before .before .wide .ensures) (c .wide2 .ensures) k)
-    ∙ sym (finished-fine (a .version) gs (a .bytes) (a .count) e l)
+    ∙ sym (finished-fine (a .version) gs (a .bytes) (a .count) e s l)
 
 pub finish-spec : {M : Type 1} → statement M
 finish-spec =
@@ -89,12 +108,15 @@ finish-spec =
     has-needed-requires
     refuse-requires
     returns
+    element-copy-out-encoding
+    end-is-raw-requires
+    refuse-requires-2
+    returns-2
     element-copy-out-dimension
     element-copy-out-sampletype
     extent-requires
-    refuse-requires-2
-    returns-2
-    element-copy-out-encoding
+    refuse-requires-3
+    returns-3
     element-copy-out-endian
     element-copy-out-form
     cast-form
@@ -102,4 +124,4 @@ finish-spec =
     wide-requires
     element-copy-out-wide-2
     wide-requires-2
-    returns-3)
+    returns-4)

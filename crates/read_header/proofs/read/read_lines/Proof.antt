@@ -12,10 +12,10 @@ use Rattle.read_header.proofs.read.read_lines.Statement.{statement}
 use Rattle.read_header.proofs.read.read_lines.Tie as tie
 
 abbrev Inv-loop : tie.InvT-loop
-Inv-loop file from version given₀ numbers₀ sizes₀ at₀ n₀ given numbers sizes at n = Going file version from given numbers sizes at n
+Inv-loop file from version given₀ numbers₀ sizes₀ fromend₀ at₀ n₀ given numbers sizes fromend at n = Going file version from given numbers sizes fromend at n
 
 abbrev μ-loop : tie.MeasureT-loop
-μ-loop file from version given₀ numbers₀ sizes₀ at₀ n₀ given numbers sizes at n = length file - at
+μ-loop file from version given₀ numbers₀ sizes₀ fromend₀ at₀ n₀ given numbers sizes fromend at n = length file - at
 
 no-flags-requires : tie.Need-no-flags-requires Inv-loop μ-loop
 no-flags-requires c κs = search needs
@@ -97,11 +97,11 @@ add-n : tie.Need-add-n Inv-loop μ-loop
 add-n c = search needs
 
 loop-less : tie.Need-loop-less Inv-loop μ-loop
-loop-less c = omega (arith, lined (c .before .before .before .before .before .before .before .before .before .before .before))
+loop-less c = omega (arith, lined (c .before .before .before .before .before .before .before .before .before .before .before .before))
 
 loop-again : tie.Need-loop-again Inv-loop μ-loop
 loop-again c =
-    going-next (c .before .before .before .before .before .before .before .before .before .before .before .before .before .before .before .before .loop .inv) (lined (c .before .before .before .before .before .before .before .before .before .before .before)) (c .before .before .before .before .before .before .before .before .before .before .if1 .left) (c .before .before .before .before .before .before .judge-line .ensures) (c .before .before .before .before .if2 .left) (c .before .before .before .if3 .left) (c .keep .ensures .0) (c .keep .ensures .1)
+    going-next (c .before .before .before .before .before .before .before .before .before .before .before .before .before .before .before .before .before .loop .inv) (lined (c .before .before .before .before .before .before .before .before .before .before .before .before)) (c .before .before .before .before .before .before .before .before .before .before .before .if1 .left) (c .before .before .before .before .before .before .before .judge-line .ensures) (c .before .before .before .before .before .if2 .left) (c .before .before .before .before .if3 .left) (c .before .keep .ensures .0) (c .before .keep .ensures .1)
 
 array-read-if4 : tie.Need-array-read-if4 Inv-loop μ-loop
 array-read-if4 c = search needs
