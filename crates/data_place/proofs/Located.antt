@@ -30,6 +30,21 @@ use Rattle.data_place.proofs.Skips.{rest-is, bytes-past, bytes-next}
 
 -- ---- the place by the numbers of a reading
 
+-- what is left by the reading is what is left by the fields
+skip-same : (b : ByteSkip) (x : ℕ) (s : List ℕ) → skipBytes (skippedOf (isFromEnd b) (bytesForward b) x (length s)) s ≡ pastByteSkip b x s
+unfolding skipBytes lastBytes
+skip-same (forward n) x s = refl
+skip-same fromEnd x s = rw (le-ltb (length s) (length s - x) (omega arith))
+
+left-same : (es : List Entry) (gs : List Given) (area : List ℕ) → leftBy (readingOf es gs) area ≡ afterSkips gs area
+unfolding readingOf
+left-same es gs area = go (skipLines (lineSkipOf gs) area)
+  where
+    go : (o : Option (List ℕ))
+        → andThen o (λ t. skipBytes (skippedBy (readingOf es gs) (length t)) t) ≡ andThen o (λ t. pastByteSkip (byteSkipOf gs) (extentOf gs) t)
+    go none = refl
+    go (some t) = skip-same (byteSkipOf gs) (extentOf gs) t
+
 module _ (x : Reading) (second : Bool) (file : List ℕ) (from : ℕ) where
   -- the data area, as the code has it
   abbrev area : List ℕ
@@ -63,21 +78,6 @@ module _ (x : Reading) (second : Bool) (file : List ℕ) (from : ℕ) where
           let n : length file - (length file - (from + p + b)) ≡ from + p + b = omega arith in
           let m : length file - (from + p + b) ≡ length file - (from + p) - b = omega arith in
           rw (left-skipped, bytes-next file (from + p) b k, length-drop, n, m)
-
--- what is left by the reading is what is left by the fields
-skip-same : (b : ByteSkip) (x : ℕ) (s : List ℕ) → skipBytes (skippedOf (isFromEnd b) (bytesForward b) x (length s)) s ≡ pastByteSkip b x s
-unfolding skipBytes lastBytes
-skip-same (forward n) x s = refl
-skip-same fromEnd x s = rw (le-ltb (length s) (length s - x) (omega arith))
-
-left-same : (es : List Entry) (gs : List Given) (area : List ℕ) → leftBy (readingOf es gs) area ≡ afterSkips gs area
-unfolding readingOf
-left-same es gs area = go (skipLines (lineSkipOf gs) area)
-  where
-    go : (o : Option (List ℕ))
-        → andThen o (λ t. skipBytes (skippedBy (readingOf es gs) (length t)) t) ≡ andThen o (λ t. pastByteSkip (byteSkipOf gs) (extentOf gs) t)
-    go none = refl
-    go (some t) = skip-same (byteSkipOf gs) (extentOf gs) t
 
 module _ {file : List ℕ} {x : Reading} {es : List Entry} {gs : List Given} (w : IsReading file x es gs) where
   -- the place by the reading is the place by the fields: the end of the data is below 2 to the 64
