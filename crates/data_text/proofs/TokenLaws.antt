@@ -17,7 +17,7 @@ use mir.Val.{SFits, toZ, ofZ}
 use mir.Facts.{toZ-pos, toZ-ofZ}
 use borrow.Author.Tests.{ne-eqb, le-leb, lt-leb, leb-true, leb-false, ltb-true, ltb-false}
 use Rattle.format.specs.Bytes.{isDigit}
-use Rattle.format.specs.Descriptors.{digitsFrom, number}
+use Rattle.format.specs.Words.{digitsFrom, number}
 use Rattle.format.specs.Samples.{blank, skipBlanks, token, tokenValue, signedBy}
 use Rattle.data_text.specs.declared.reader.Digits.{Digits}
 use Rattle.data_text.specs.declared.reader.Digits.the-variants.{NoDigits, Run}

@@ -12,7 +12,7 @@ use mir.Syntax.{w64}
 use mir.Val.{SFits, boolByte}
 use Rattle.format.specs.Bytes.{if_then_else_, isDigit}
 use Rattle.format.specs.Boundary.{samplesLent, lentSamples}
-use Rattle.format.specs.Descriptors.{number, digitsFrom}
+use Rattle.format.specs.Words.{number, digitsFrom}
 use Rattle.format.specs.Refusals.{badSample, dataEndsEarly}
 use Rattle.format.specs.Samples.{Decoded, stopped, withSample, skipBlanks, token, afterToken, tokenValue}
 use Rattle.data_text.specs.declared.reader.Digits.{Digits}

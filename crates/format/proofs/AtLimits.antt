@@ -16,7 +16,8 @@ use Rattle.format.specs.Refusals.{atLine, fine}
 use Rattle.format.specs.Lines.{Line, line, lf, size, lines}
 use Rattle.format.specs.Pairs.{mark}
 use Rattle.format.specs.Fields.{Given, given, sizes, dimension, type, encoding, fieldAt, descriptorOf, inOrder}
-use Rattle.format.specs.Descriptors.{trimFront, trimEnd, descriptor, digitsFrom, number, parts, notEmpty, numbersIn, typeAt, mayDescribe, hasNeeded, endIsRaw, product}
+use Rattle.format.specs.Words.{trimFront, trimEnd, digitsFrom, number, parts, notEmpty, numbersIn}
+use Rattle.format.specs.Descriptors.{descriptor, typeAt, mayDescribe, hasNeeded, endIsRaw, product}
 use Rattle.format.specs.Header.{magicVersion, onField, judge, entry, Outcome, refused, accepted, withEntry, complete, walk, fromFirst, header}
 use Rattle.format.specs.Trials.{texts, refusalOf, headerWith, comment, comments, AtLimits}
 use Rattle.format.proofs.LimitLaws.{header-in-file, lines-in-header}

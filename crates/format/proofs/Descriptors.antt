@@ -10,7 +10,8 @@ use lib.ListN.{length, take, drop}
 use borrow.Author.Tests.{ne-eqb}
 use Rattle.format.specs.Bytes.{spaceOrTab, if_then_else_}
 use Rattle.format.specs.Fields.{isUnderstood, fieldAt, dimension, type, encoding, endian, sizes, lineSkip, byteSkip, dataFile}
-use Rattle.format.specs.Descriptors.{trimFront, trimByte, trimEnd, fromDescriptor, mayDescribe}
+use Rattle.format.specs.Words.{trimFront, trimByte, trimEnd}
+use Rattle.format.specs.Descriptors.{fromDescriptor, mayDescribe}
 
 -- ---- where it starts
 

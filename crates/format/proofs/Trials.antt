@@ -4,7 +4,12 @@ use Rattle.format.specs.Bytes.{every, same, alike, beginsWith, isIn, isA
 use Rattle.format.specs.Lines.{lines, unlines, starts}
 use Rattle.format.specs.Pairs.{mark, escape, unescapeFrom}
 use Rattle.format.specs.Fields.{fieldAt, descriptorOf, inOrder}
-use Rattle.format.specs.Descriptors.{trimFront, trimEnd, descriptor, digitsFrom, number, parts, notEmpty, numbersIn, typeAt, mayDescribe, hasNeeded, endIsRaw, product}
+use Rattle.format.specs.Words.{trimFront, trimEnd, digitsFrom, number, parts, notEmpty, numbersIn}
+use Rattle.format.specs.Descriptors.{descriptor, typeAt, mayDescribe, hasNeeded, endIsRaw, product}
+use Rattle.format.specs.Decimals.{digitsOf, afterDigits, numeralValue, component}
+use Rattle.format.specs.Spaces.{spaceAt}
+use Rattle.format.specs.Vectors.{partsOutside, vectorWords, closed, commaParts, allSaid, saidBy, vectorSaid, directionSaid}
+use Rattle.format.specs.HeaderWriter.{componentText, joined, vectorText}
 use Rattle.format.specs.Header.{magicVersion, onPair, onField, judge, complete, walk, header, valueOf}
 use Rattle.format.specs.Data.{skipLine, skipLines, skipBytes, lastBytes, placeOf}
 use Rattle.format.specs.Samples.{inType, toBytes, valueBytes, fromBytes, sampleValue, rawSamples, skipBlanks, token, afterToken, tokenValue, tokens, samplesOf}
@@ -19,7 +24,7 @@ use Rattle.format.specs.EntryTrials.{entries}
 use Rattle.format.specs.FurtherTrials.{FurtherTrials}
 
 trials : StarredTrials × FurtherTrials
-unfolding every same alike beginsWith isIn isAny rowFrom lines unlines starts mark escape unescapeFrom fieldAt descriptorOf inOrder trimFront trimEnd descriptor digitsFrom number parts notEmpty numbersIn typeAt mayDescribe hasNeeded endIsRaw product magicVersion onPair onField judge complete walk header valueOf skipLine skipLines skipBytes lastBytes placeOf inType fromBytes sampleValue rawSamples skipBlanks token afterToken tokenValue tokens samplesOf inside sampleNumber keyFine valueFine pairText replaced newLines refilled tableFine store setRead setKey noReading readingOf withTable texts keyPlace fieldPlace decimalFrom spaced shownRefusal shownKeys shownReading listing hexText rawData textData dataBytes headerLines fileBytes allInType writable writeRefusal groups numberBytes wordsOfSamples entries toBytes valueBytes
+unfolding every same alike beginsWith isIn isAny rowFrom lines unlines starts mark escape unescapeFrom fieldAt descriptorOf inOrder trimFront trimEnd descriptor digitsFrom number parts notEmpty numbersIn typeAt mayDescribe hasNeeded endIsRaw product magicVersion onPair onField judge complete walk header valueOf skipLine skipLines skipBytes lastBytes placeOf inType fromBytes sampleValue rawSamples skipBlanks token afterToken tokenValue tokens samplesOf inside sampleNumber keyFine valueFine pairText replaced newLines refilled tableFine store setRead setKey noReading readingOf withTable texts keyPlace fieldPlace decimalFrom spaced shownRefusal shownKeys shownReading listing hexText rawData textData dataBytes headerLines fileBytes allInType writable writeRefusal groups numberBytes wordsOfSamples entries toBytes valueBytes digitsOf afterDigits numeralValue component spaceAt partsOutside vectorWords closed commaParts allSaid saidBy vectorSaid directionSaid componentText joined vectorText
 trials = (
   (refl, (refl, (refl, (refl, (refl, (refl, (refl, (refl, (refl, (refl, (refl, (refl, (refl, (refl, (refl, (refl, (refl, (refl, (refl, (refl, (refl, (refl, (refl, (refl, (refl, tt))))))))))))))))))))))))),
   record {
@@ -29,6 +34,11 @@ trials = (
     written = (refl, (refl, (refl, (refl, (refl, (refl, (refl, (refl, (refl, tt)))))))));
     crossing = (refl, (refl, (refl, (refl, (refl, (refl, (refl, (refl, tt))))))));
     skipped = (refl, (refl, (refl, (refl, (refl, (refl, (refl, (refl, (refl, (refl, (refl, (refl, (refl, (refl, (refl, (refl, (refl, (refl, (refl, (refl, (refl, (refl, (refl, (refl, (refl, (refl, (refl, (refl, (refl, (refl, (refl, (refl, (refl, (refl, (refl, (refl, tt))))))))))))))))))))))))))))))))))));
+    oriented = record {
+      decimals = (refl, (refl, (refl, (refl, (refl, (refl, (refl, (refl, (refl, (refl, (refl, (refl, (refl, (refl, (refl, (refl, (refl, (refl, (refl, (refl, (refl, (refl, (refl, (refl, (refl, (refl, (refl, (refl, (refl, (refl, (refl, (refl, (refl, (refl, (refl, (refl, (refl, (refl, (refl, (refl, tt))))))))))))))))))))))))))))))))))))))));
+      parted = (refl, (refl, (refl, (refl, (refl, (refl, (refl, (refl, (refl, (refl, (refl, (refl, (refl, (refl, (refl, (refl, (refl, (refl, (refl, (refl, (refl, (refl, (refl, (refl, (refl, (refl, tt))))))))))))))))))))))))));
+      spaced = (refl, (refl, (refl, (refl, (refl, (refl, (refl, (refl, (refl, (refl, (refl, (refl, (refl, (refl, tt))))))))))))));
+    };
   },
 )
 

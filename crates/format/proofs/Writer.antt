@@ -13,7 +13,8 @@ use lib.ListN.{length, length-append}
 use lib.Seq.{take-at, drop-at}
 use borrow.Author.Tests.{ltb-true, ltb-false, leb-true, le-leb, lt-leb, ne-eqb}
 use Rattle.format.specs.Bytes.{between, isDigit, every, LF, if_then_else_}
-use Rattle.format.specs.Descriptors.{NumberKind, digitsFrom, number, raw, asText}
+use Rattle.format.specs.Words.{digitsFrom, number}
+use Rattle.format.specs.Descriptors.{NumberKind, raw, asText}
 use Rattle.format.specs.Samples.{inType, valueBytes, rawSamples, blank, withoutBlanks, hexDigit, hexRun, hexBytes, hexSamples, skipBlanks, token, afterToken, signedBy, tokenValue, textSample, tokens, textSamples, samplesOf}
 use Rattle.format.specs.Writer.{digit, byDigits, decimalFrom, decimal, signedDecimal, hexLetter, hexText, rawData, textData, dataBytes, allInType}
 use Rattle.format.proofs.Samples.{AllBytes, length-value-bytes, value-bytes-bytes, value-of-bytes}

@@ -50,6 +50,21 @@ PLUS = 43
 abbrev pub MINUS : ℕ
 MINUS = 45
 
+-- `(` and `)`
+abbrev pub OPEN : ℕ
+OPEN = 40
+
+abbrev pub CLOSE : ℕ
+CLOSE = 41
+
+-- `,`
+abbrev pub COMMA : ℕ
+COMMA = 44
+
+-- `.`
+abbrev pub POINT : ℕ
+POINT = 46
+
 -- `:`
 abbrev pub COLON : ℕ
 COLON = 58

@@ -8,25 +8,11 @@ use mathlib.Core.Option.{Option, none, some}
 use lib.Dec.{eqb, ltb}
 use lib.ListN.{length, getD}
 use Rattle.format.specs.Bytes.{if_then_else_, bytes, between, spaceOrTab, isDigit, same, beginsWith, isIn, isEmpty, rowOf, isSome, orDefault, PERCENT}
+use Rattle.format.specs.Words.{trimFront, trimEnd, numberIn, valueOfNumber, words, numbersIn}
 use Rattle.format.specs.Limits.{maxAxes, maxSize, maxSkip, pastExtent}
 use Rattle.format.specs.Fields.{Given, descriptorOf, isGiven, isUnderstood, dimension, type, encoding, endian, sizes, lineSkip, byteSkip, dataFile}
 
 -- ---- the text of a descriptor
-
--- without the spaces and tabs at its front
-unfoldable pub trimFront : List ℕ → List ℕ
-trimFront [] = []
-trimFront (b ∷ s) = if spaceOrTab b then trimFront s else b ∷ s
-
--- a byte before a trimmed text: a space or tab stays only before something
-abbrev pub trimByte : ℕ → List ℕ → List ℕ
-trimByte b [] = if spaceOrTab b then [] else b ∷ []
-trimByte b (c ∷ s) = b ∷ c ∷ s
-
--- without the spaces and tabs at its end
-unfoldable pub trimEnd : List ℕ → List ℕ
-trimEnd [] = []
-trimEnd (b ∷ s) = trimByte b (trimEnd s)
 
 -- what follows the mark of a field, from where its descriptor starts: in understood fields past the spaces and tabs
 abbrev pub fromDescriptor : ℕ → List ℕ → List ℕ
@@ -35,29 +21,6 @@ fromDescriptor f rest = if isUnderstood f then trimFront rest else rest
 -- the descriptor of a field in what follows its mark
 unfoldable pub descriptor : ℕ → List ℕ → List ℕ
 descriptor f rest = trimEnd (fromDescriptor f rest)
-
--- ---- numbers: digits without sign, leading zeros allowed
-
--- the number that the digits of the text write after those of n, or none where one is no digit
-unfoldable pub digitsFrom : ℕ → List ℕ → Option ℕ
-digitsFrom n [] = some n
-digitsFrom n (b ∷ s) = if isDigit b then digitsFrom (n * 10 + (b - 48)) s else none
-
--- one digit or more
-unfoldable pub number : List ℕ → Option ℕ
-number [] = none
-number (b ∷ s) = digitsFrom 0 (b ∷ s)
-
-abbrev pub within : ℕ → ℕ → Option ℕ → Bool
-within least most none = false
-within least most (some n) = between least most n
-
-abbrev pub numberIn : ℕ → ℕ → List ℕ → Bool
-numberIn least most t = within least most (number t)
-
--- the value of a number, 0 where it is none
-abbrev pub valueOfNumber : List ℕ → ℕ
-valueOfNumber t = orDefault 0 (number t)
 
 -- ---- byte skips (-1: document 02, W1)
 
@@ -82,29 +45,6 @@ bytesForward fromEnd = 0
 abbrev pub isFromEnd : ByteSkip → Bool
 isFromEnd (forward n) = false
 isFromEnd fromEnd = true
-
--- ---- numbers parted by spaces or tabs
-
--- a byte in front of the first word
-abbrev pub joinFirst : ℕ → List (List ℕ) → List (List ℕ)
-joinFirst b [] = (b ∷ []) ∷ []
-joinFirst b (w ∷ ws) = (b ∷ w) ∷ ws
-
--- what each space or tab parts, empty parts included
-unfoldable pub parts : List ℕ → List (List ℕ)
-parts [] = [] ∷ []
-parts (b ∷ s) = if spaceOrTab b then [] ∷ parts s else joinFirst b (parts s)
-
-unfoldable pub notEmpty : List (List ℕ) → List (List ℕ)
-notEmpty [] = []
-notEmpty (w ∷ ws) = if isEmpty w then notEmpty ws else w ∷ notEmpty ws
-
-abbrev pub words : List ℕ → List (List ℕ)
-words t = notEmpty (parts t)
-
-unfoldable pub numbersIn : ℕ → ℕ → List (List ℕ) → Bool
-numbersIn least most [] = true
-numbersIn least most (w ∷ ws) = numberIn least most w && numbersIn least most ws
 
 -- ---- types, encodings, endians: numbered from 0 as listed, by names that ignore case
 

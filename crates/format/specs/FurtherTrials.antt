@@ -1,11 +1,13 @@
 -- Trials beside the starred ones, as one statement: `FurtherTrials`. They show rules of document 01 that the starred trials do not: which headers are
--- accepted, what the look-ups find, what is listed, which bytes are written, and the bytes of numbers that callers in C lend; and the byte skip of -1 (document 02, W1).
+-- accepted, what the look-ups find, what is listed, which bytes are written, and the bytes of numbers that callers in C lend; the byte skip of -1 (document 02, W1); and decimals,
+-- vectors and spaces (W2).
 use Rattle.format.specs.AcceptanceTrials.{AcceptanceTrials}
 use Rattle.format.specs.FindTrials.{FindTrials}
 use Rattle.format.specs.ListingTrials.{ListingTrials}
 use Rattle.format.specs.WriteTrials.{WriteTrials}
 use Rattle.format.specs.EntryTrials.{EntryTrials}
 use Rattle.format.specs.SkipTrials.{SkipTrials}
+use Rattle.format.specs.OrientationTrials.{OrientationTrials}
 
 pub record FurtherTrials : Type 0 where
   pub accepted : AcceptanceTrials
@@ -14,3 +16,4 @@ pub record FurtherTrials : Type 0 where
   pub written : WriteTrials
   pub crossing : EntryTrials
   pub skipped : SkipTrials
+  pub oriented : OrientationTrials

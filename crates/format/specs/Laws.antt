@@ -13,7 +13,8 @@ use Rattle.format.specs.Limits.{maxFile}
 use Rattle.format.specs.Lines.{Line, line, lf, crlf, eof, lines, unlines, starts}
 use Rattle.format.specs.Pairs.{pairMark, mark, escape, unescape}
 use Rattle.format.specs.Fields.{pairsSince, Given, isUnderstood}
-use Rattle.format.specs.Descriptors.{NumberKind, signed, number, fromEnd, byteSkipOf, isDetached, extentOf, namesFollow, mayDescribe}
+use Rattle.format.specs.Words.{number}
+use Rattle.format.specs.Descriptors.{NumberKind, signed, fromEnd, byteSkipOf, isDetached, extentOf, namesFollow, mayDescribe}
 use Rattle.format.specs.Header.{Entry, linesOf, right, judge, pair, refused, accepted, header, headerLength}
 use Rattle.format.specs.Rules.{closed, KeepsRules}
 use Rattle.format.specs.Data.{part, placeOf}

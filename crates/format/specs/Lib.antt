@@ -4,6 +4,10 @@ pub mod Refusals
 pub mod Lines
 pub mod Pairs
 pub mod Fields
+pub mod Words
+pub mod Decimals
+pub mod Spaces
+pub mod Vectors
 pub mod Descriptors
 pub mod Widths
 pub mod Header
@@ -11,6 +15,7 @@ pub mod Data
 pub mod Samples
 pub mod Axes
 pub mod Writer
+pub mod HeaderWriter
 pub mod Settings
 pub mod Calls
 pub mod Listing
@@ -25,6 +30,7 @@ pub mod ListingTrials
 pub mod WriteTrials
 pub mod EntryTrials
 pub mod SkipTrials
+pub mod OrientationTrials
 pub mod FurtherTrials
 pub mod Rules
 pub mod Laws

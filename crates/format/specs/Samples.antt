@@ -10,7 +10,8 @@ use lib.ListN.{length, take, drop}
 use Rattle.format.specs.Bytes.{if_then_else_, between, isDigit, SPACE, PLUS, MINUS}
 use Rattle.format.specs.Limits.{maxSample}
 use Rattle.format.specs.Refusals.{badSample, dataEndsEarly}
-use Rattle.format.specs.Descriptors.{number, NumberKind, signed, unsigned, floating, raw, asText, big}
+use Rattle.format.specs.Words.{number}
+use Rattle.format.specs.Descriptors.{NumberKind, signed, unsigned, floating, raw, asText, big}
 
 -- ---- the range of a type, over the bytes w of a sample
 

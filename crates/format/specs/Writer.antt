@@ -88,15 +88,18 @@ fieldLine name t = line (bytes name ++ (bytes ": " ++ t)) lf
 abbrev pub endianLines : ℕ → ℕ → ℕ → List Line
 endianLines t e endian = if endianNeeded t e then fieldLine "endian" (nameAt endians endian) ∷ [] else []
 
--- magic, type, dimension, sizes, encoding, endian, an empty line
-unfoldable pub headerLines : ℕ → List ℕ → ℕ → ℕ → ℕ → List Line
-headerLines version sizes t e endian =
+-- magic, type, dimension, sizes, encoding, endian, then these lines, an empty line
+abbrev pub headerWith : ℕ → List ℕ → ℕ → ℕ → ℕ → List Line → List Line
+headerWith version sizes t e endian more =
     line (bytes "NRRD000" ++ decimal version) lf
     ∷ fieldLine "type" (bytes (typeName (typeAt t)))
     ∷ fieldLine "dimension" (decimal (length sizes))
     ∷ fieldLine "sizes" (spaced sizes)
     ∷ fieldLine "encoding" (nameAt encodings e)
-    ∷ (endianLines t e endian ++ line [] lf ∷ [])
+    ∷ (endianLines t e endian ++ (more ++ line [] lf ∷ []))
+
+unfoldable pub headerLines : ℕ → List ℕ → ℕ → ℕ → ℕ → List Line
+headerLines version sizes t e endian = headerWith version sizes t e endian []
 
 abbrev pub headerBytes : ℕ → List ℕ → ℕ → ℕ → ℕ → List ℕ
 headerBytes version sizes t e endian = unlines (headerLines version sizes t e endian)

@@ -177,6 +177,15 @@ pub struct Refusal {
     pub line: u32,
 }
 
+// A decimal, kept exactly: number times ten to the power. All three as callers in C have them: 16 bytes.
+#[repr(C)]
+pub struct Decimal {
+    pub number: i64,
+    pub power: i32,
+    // 0 a number, 1 nan, 2 inf, 3 -inf; 4 for the first component of an axis without a direction. With 1 to 4 number and power are 0.
+    pub kind: u32,
+}
+
 // What a reading says in numbers. All zero where the call is refused.
 #[repr(C)]
 pub struct Reading {

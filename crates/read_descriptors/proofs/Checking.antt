@@ -13,7 +13,8 @@ use borrow.Author.Tests.{lt-leb, leb-true, leb-false, eqb-true, eqb-false, eq-eq
 use Rattle.format.specs.Bytes.{bytes, PERCENT, isIn, isEmpty, same, beginsWith, if_then_else_}
 use Rattle.format.specs.Limits.{maxAxes, maxSize}
 use Rattle.format.specs.Fields.{dimension, type, encoding, endian, sizes, lineSkip, byteSkip, dataFile}
-use Rattle.format.specs.Descriptors.{trimEnd, fromDescriptor, descriptor, isName, mayDescribe, sizesFine, sizesSaid, valueOfNumber, within, words, numbersIn}
+use Rattle.format.specs.Words.{trimEnd, valueOfNumber, within, words, numbersIn}
+use Rattle.format.specs.Descriptors.{fromDescriptor, descriptor, isName, mayDescribe, sizesFine, sizesSaid}
 use Rattle.format.specs.Calls.{padded}
 use Rattle.format.proofs.Bytes.{and-left, and-right}
 use Rattle.format.proofs.Descriptors.{drop-to-descriptor, take-trimmed}

@@ -18,7 +18,8 @@ use Rattle.format.specs.Bytes.{isAny, isSome, rowFrom, orDefault, if_then_else_
 use Rattle.format.specs.Limits.{maxAxes, maxExtent}
 use Rattle.format.specs.Refusals.{badDescriptor, missingField, extentTooLarge, refusal, fine}
 use Rattle.format.specs.Fields.{namesOf, fieldTable, fieldAt, fieldCount, fieldNamed, Given, given, descriptorOf, isGiven, dimension, type, encoding, endian, sizes, lineSkip, byteSkip, dataFile}
-use Rattle.format.specs.Descriptors.{forward, byteSkipSaid, bytesForward, isFromEnd, byteSkipOf, raw, endIsRaw, meaning, number, valueOfNumber, within, words, isDetached, mayDescribe, numberSaid, numberOf, dimensionOf, sizesSaid, sizesOf, endianNeeded, hasNeeded, extent, extentOf}
+use Rattle.format.specs.Words.{number, valueOfNumber, within, words}
+use Rattle.format.specs.Descriptors.{forward, byteSkipSaid, bytesForward, isFromEnd, byteSkipOf, raw, endIsRaw, meaning, isDetached, mayDescribe, numberSaid, numberOf, dimensionOf, sizesSaid, sizesOf, endianNeeded, hasNeeded, extent, extentOf}
 use Rattle.format.specs.Header.{Item, field, fieldOf, Entry, wrong, right, judge, refused, withField, afterItem, versionOf, headerLength}
 use Rattle.format.specs.Rules.{FieldLine, Keeps}
 use Rattle.format.specs.Calls.{readAnswer, padded, readingAt, readingOf}

@@ -14,7 +14,7 @@ use lib.Seq.{take-all, drop-drop, drop-at, sets, sets-eq}
 use borrow.Author.Tests.{leb-true, leb-false, eqb-true, eq-eqb, ne-eqb, le-leb, lt-leb}
 use Rattle.format.specs.Bytes.{if_then_else_, spaceOrTab, isDigit, orDefault, SPACE, TAB}
 use Rattle.format.specs.Limits.{maxSize}
-use Rattle.format.specs.Descriptors.{digitsFrom, number, joinFirst, parts, notEmpty, words, within, numbersIn, valueOfNumber}
+use Rattle.format.specs.Words.{digitsFrom, number, joinFirst, parts, notEmpty, words, within, numbersIn, valueOfNumber}
 use Rattle.read_text.specs.Numbers.{pastSize, numberAnswer, sizeAnswer, firstWord, noSizes, sizesAnswer}
 use Rattle.read_text.specs.declared.numbers.Number.the-variants.{Value, Wrong}
 use Rattle.read_text.specs.declared.numbers.Sizes.{Sizes}

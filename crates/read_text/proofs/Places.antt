@@ -14,7 +14,7 @@ use borrow.Author.Tests.{eq-eqb, ne-eqb, eqb-true}
 use Rattle.format.specs.Bytes.{LF, CR, TAB, SPACE, COLON, EQUALS, spaceOrTab, every, same, beginsWith, if_then_else_}
 use Rattle.format.specs.Lines.{lf, crlf, eof, line, size, extend, lines}
 use Rattle.format.specs.Pairs.{Marked, unmarked, fieldMark, pairMark, moreBefore, firstMark, mark, LineKind, emptyLine, commentLine, otherLine, kindOf}
-use Rattle.format.specs.Descriptors.{trimFront, trimByte, trimEnd}
+use Rattle.format.specs.Words.{trimFront, trimByte, trimEnd}
 use Rattle.format.proofs.Lines.{NoLF, no-lf-nil, no-lf-cons, no-lf-head, no-lf-tail, lines-eof}
 use Rattle.format.proofs.Marks.{Parts, mark-parts, mark-of-kind}
 use Rattle.read_text.specs.declared.lines.Kind.{Kind}

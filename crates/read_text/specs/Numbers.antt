@@ -7,7 +7,8 @@ use lib.Dec.{leb}
 use lib.ListN.{replicate}
 use Rattle.format.specs.Bytes.{if_then_else_, spaceOrTab}
 use Rattle.format.specs.Limits.{maxAxes, maxSize}
-use Rattle.format.specs.Descriptors.{sizesFine, valueOfNumber}
+use Rattle.format.specs.Words.{valueOfNumber}
+use Rattle.format.specs.Descriptors.{sizesFine}
 use Rattle.read_text.specs.declared.numbers.Number.{Number}
 use Rattle.read_text.specs.declared.numbers.Number.the-variants.{Value, Wrong}
 use Rattle.read_text.specs.declared.numbers.Sizes.{Sizes}

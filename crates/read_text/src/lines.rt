@@ -3,7 +3,7 @@ ghost use mathlib.Core.Path.{_≡_};
 ghost use Prim.Native.Nat.{_≤_, _-_};
 ghost use lib.ListN.{length};
 ghost use Rattle.format.specs.Pairs.{mark, kindOf};
-ghost use Rattle.format.specs.Descriptors.{trimFront, trimEnd};
+ghost use Rattle.format.specs.Words.{trimFront, trimEnd};
 ghost use Rattle.read_text.specs.Places.{withoutCR, markPlace, kindPlace};
 
 // How long the bytes before an LF are without one CR at their end.

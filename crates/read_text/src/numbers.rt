@@ -2,7 +2,7 @@
 ghost use mathlib.Core.Path.{_≡_};
 ghost use Prim.Native.Nat.{_*_, _+_, _≤_, min};
 ghost use lib.ListN.{length};
-ghost use Rattle.format.specs.Descriptors.{number, words};
+ghost use Rattle.format.specs.Words.{number, words};
 ghost use Rattle.read_text.specs.Numbers.{pastSize, numberAnswer, sizeAnswer, firstWord, sizesAnswer};
 
 // A number up to `MAX_SIZE`, the limit of sizes and skips, or that the text is none.

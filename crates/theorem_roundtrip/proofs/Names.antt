@@ -13,7 +13,8 @@ use borrow.Author.Tests.{eqb-true, eqb-false, leb-true}
 use Rattle.format.specs.Bytes.{bytes, every, same, alike, isAny, rowFrom, rowOf}
 use Rattle.format.specs.Limits.{maxVersion}
 use Rattle.format.specs.Pairs.{plain}
-use Rattle.format.specs.Descriptors.{trimFront, trimEnd, types, typeAt, typeName, typeNames, encodings, endians, sampleBytes}
+use Rattle.format.specs.Words.{trimFront, trimEnd}
+use Rattle.format.specs.Descriptors.{types, typeAt, typeName, typeNames, encodings, endians, sampleBytes}
 use Rattle.format.specs.Header.{magicVersion}
 use Rattle.format.specs.Writer.{decimalFrom, decimal, nameAt}
 use Rattle.format.proofs.Bytes.{and-left, and-right, same-true}

@@ -12,7 +12,8 @@ use borrow.Author.Tests.{leb-true, le-leb, ne-eqb}
 use Rattle.format.specs.Bytes.{spaceOrTab, isDigit, every, isIn, SPACE}
 use Rattle.format.specs.Limits.{maxSize}
 use Rattle.format.specs.Pairs.{plain}
-use Rattle.format.specs.Descriptors.{trimFront, trimByte, trimEnd, valueOfNumber, parts, notEmpty, words, numbersIn, product}
+use Rattle.format.specs.Words.{trimFront, trimByte, trimEnd, valueOfNumber, parts, notEmpty, words, numbersIn}
+use Rattle.format.specs.Descriptors.{product}
 use Rattle.format.specs.Writer.{decimal, spaced}
 use Rattle.format.proofs.Bytes.{and-left, and-right, every-append, every-weaker}
 use Rattle.format.proofs.Writer.{decimal-digits, decimal-not-empty, digits-few, number-of-decimal}

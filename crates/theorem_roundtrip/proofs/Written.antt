@@ -17,7 +17,8 @@ use Rattle.format.specs.Limits.{maxLines, maxAxes}
 use Rattle.format.specs.Lines.{Line, line, lf, lines, unlines}
 use Rattle.format.specs.Pairs.{plain, mark}
 use Rattle.format.specs.Fields.{Given, given, descriptorOf, isGiven, inOrder, fieldAt, fieldSince, isUnderstood, dimension, type, encoding, endian, sizes, lineSkip, byteSkip, dataFile}
-use Rattle.format.specs.Descriptors.{forward, endIsRaw, descriptor, numberIn, valueOfNumber, words, sizesFine, mayDescribe, hasNeeded, types, typeAt, typeName, typeNames, encodings, endians, endianNeeded, noEndian, dimensionOf, typeOf, encodingOf, endianOf, sizesOf, lineSkipOf, byteSkipOf, isDetached, sampleBytes, namesFollow}
+use Rattle.format.specs.Words.{numberIn, valueOfNumber, words}
+use Rattle.format.specs.Descriptors.{forward, endIsRaw, descriptor, sizesFine, mayDescribe, hasNeeded, types, typeAt, typeName, typeNames, encodings, endians, endianNeeded, noEndian, dimensionOf, typeOf, encodingOf, endianOf, sizesOf, lineSkipOf, byteSkipOf, isDetached, sampleBytes, namesFollow}
 use Rattle.format.specs.Header.{field, closing, magic, Entry, entry, linesOf, right, onField, judge, accepted, header, headerLength}
 use Rattle.format.specs.Writer.{decimal, spaced, nameAt, fieldLine, headerLines, fileBytes, dataBytes}
 use Rattle.format.proofs.Lines.{Shape, lf-line, no-lf-of, ends-of, shape-of-lines, lines-of-parts}

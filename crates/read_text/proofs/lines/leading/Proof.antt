@@ -7,7 +7,7 @@ use mathlib.Core.Logic.{⊎-elim}
 use Prim.Native.Nat.{_≤_, _-_}
 use native.Mathlib.Omega.{arith}
 use lib.ListN.{length, drop, getD, length-drop}
-use Rattle.format.specs.Descriptors.{trimFront}
+use Rattle.format.specs.Words.{trimFront}
 use Rattle.read_text.proofs.Places.{trim-front-next, trim-front-stop, trim-front-end, is-space, is-tab, is-other}
 use Rattle.read_text.proofs.lines.leading.Statement.{statement}
 use Rattle.read_text.proofs.lines.leading.Tie as tie

@@ -8,7 +8,7 @@ use Prim.Native.Nat.{_≤_, _-_}
 use native.Mathlib.Omega.{arith}
 use lib.ListN.{length, take, getD, length-take}
 use lib.Seq.{take-length}
-use Rattle.format.specs.Descriptors.{trimEnd}
+use Rattle.format.specs.Words.{trimEnd}
 use Rattle.read_text.proofs.Places.{trim-end-next, trim-end-stop, trim-end-none, is-space, is-tab, is-other}
 use Rattle.read_text.proofs.lines.without_trailing.Statement.{statement}
 use Rattle.read_text.proofs.lines.without_trailing.Tie as tie

@@ -6,7 +6,7 @@ use mathlib.Core.Path.{_≡_, sym, ap, _∙_}
 use lib.ListN.{length, drop}
 use borrow.Author.Needs.{needs}
 use borrow.Author.Tests.{le-leb, lt-leb}
-use Rattle.format.specs.Descriptors.{digitsFrom, number}
+use Rattle.format.specs.Words.{digitsFrom, number}
 use Rattle.format.specs.Limits.{maxSize}
 use Rattle.read_text.specs.Numbers.{pastSize, numberAnswer}
 use Rattle.read_text.proofs.NumberLaws.{number-empty, number-digits, digits-low, digits-high, digits-next, digits-end}

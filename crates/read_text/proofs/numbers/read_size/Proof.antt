@@ -1,7 +1,7 @@
 -- `read_text::numbers::read_size` meets its contract. Assumes nothing.
 use mathlib.Core.Path.{sym, _∙_}
 use borrow.Author.Needs.{needs}
-use Rattle.format.specs.Descriptors.{number}
+use Rattle.format.specs.Words.{number}
 use Rattle.read_text.proofs.NumberLaws.{value-size, wrong-size}
 use Rattle.read_text.proofs.numbers.read_size.Statement.{statement}
 use Rattle.read_text.proofs.numbers.read_size.Tie as tie

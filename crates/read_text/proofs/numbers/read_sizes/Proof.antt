@@ -9,7 +9,7 @@ use lib.Dec.{eqb}
 use borrow.Author.Needs.{needs}
 use borrow.Author.Tests.{eq-eqb, ne-eqb}
 use Rattle.format.specs.Bytes.{if_then_else_}
-use Rattle.format.specs.Descriptors.{words}
+use Rattle.format.specs.Words.{words}
 use Rattle.read_text.specs.Numbers.{noSizes, sizesAnswer}
 use Rattle.read_text.proofs.NumberLaws.{words-end, words-blank, words-next, sizesFrom, sizes-start, sizes-many, sizes-bad, sizes-full, sizes-next, sizes-end}
 use Rattle.read_text.proofs.numbers.read_sizes.Statement.{statement}
