@@ -3,8 +3,10 @@
 --
 -- How to read the definitions. A line `f : A → B → C` says that f takes an A and a B and gives a C; the lines `f x y = ..` below it say what,
 -- each for inputs of the shape on its left. `[]` is the empty list, `b ∷ s` a list with b before s, `s ++ t` two lists joined.
--- An `Option` is `none` or `some` value. `λ x. ..` is a function of x. `p .0` and `p .1` are the parts of a pair, `r .name` a part of a record.
--- Numbers are whole and unbounded; `a - b` is 0 where b is larger. `eqb`, `ltb` and `leb` test for equal, less, and less or equal.
+-- An `Option` is `none` or `some` value. `λ x. ..` is a function of x, `map f s` is the list of what f gives for each entry of s. `(a, b)` is a pair, of the type
+-- `A × B`, `p .0` and `p .1` are its parts; `r .name` is a part of a record, `record { name = a; .. }` one with these parts. `data` lists the cases that a value may be.
+-- Numbers are whole and unbounded; `a - b` is 0 where b is larger. Of the signed ones `pos n` is n and `negsuc n` is -(n + 1).
+-- `eqb`, `ltb` and `leb` test for equal, less, and less or equal; `not`, `&&` and `||` join tests.
 -- `abbrev` and `unfoldable` say how proofs see a definition and change nothing of what it means.
 use Prim.Native.Nat.{ℕ, _+_}
 use Prim.Native.Char.{code}

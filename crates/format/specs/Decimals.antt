@@ -1,6 +1,7 @@
 -- Exact decimals (document 02, W2): what the text of a component says.
--- A component is what strtod of C takes as a decimal: a sign or none; digits with or without a point, at least one digit; an exponent with a digit or more,
--- or none. Or one of the words nan, inf, infinity after a sign or none, in any case. Hex is none, and nothing may stand beside it.
+-- A component is what strtod of C takes as a decimal: a sign or none; digits with or without a point, at least one digit; an exponent or none, which is `e` in
+-- either case, a sign or none, and a digit or more. Or one of the words nan, inf, infinity after a sign or none, in any case. Hex is not taken, nor brackets after nan;
+-- what is too large or too small for a double is. The text is the component alone: blanks beside it are dropped before (`componentIn`, Vectors).
 -- Numbers here are whole and unbounded: the tests for eighteen digits and for the power are exact for a text of any length.
 use Prim.Native.Nat.{ℕ, _+_, _-_}
 use mathlib.Core.Bool.{Bool, true, false, _&&_, _||_}
@@ -35,7 +36,7 @@ noDirection = 4
 abbrev pub num : ℤ → ℤ → Decimal
 num n p = record { number = n; power = p; kind = numeric }
 
--- what is no number
+-- what is no number: its number and power are 0
 abbrev pub marked : ℕ → Decimal
 marked k = record { number = pos 0; power = pos 0; kind = k }
 
@@ -106,14 +107,14 @@ abbrev pub exponentOf : List ℕ → Option (Bool × ℕ)
 exponentOf [] = some (false, 0)
 exponentOf (b ∷ s) = if isE b then signedSize (isMinus s) (number (afterSign s)) else none
 
--- an exponent less the digits after the point
-abbrev pub less : Bool × ℕ → ℕ → Bool × ℕ
-less (true, n) f = (true, n + f)
-less (false, n) f = if ltb n f then (true, f - n) else (false, n - f)
+-- the power: the exponent minus the number of digits after the point, which is so folded into it
+abbrev pub pointFolded : Bool × ℕ → ℕ → Bool × ℕ
+pointFolded (true, n) f = (true, n + f)
+pointFolded (false, n) f = if ltb n f then (true, f - n) else (false, n - f)
 
 -- ---- the value
 
--- the digits ds with a sign, times ten to a power: at least one digit, at most eighteen, and the power in its range
+-- the digits ds with a sign, times ten to a power: at least one digit, at most eighteen, leading zeros not counted, and the power in its range
 abbrev pub valued : Bool → List ℕ → Bool × ℕ → Option Decimal
 valued minus ds p =
     if isEmpty ds then none
@@ -122,9 +123,8 @@ valued minus ds p =
 
 abbrev pub withExponent : Bool → List ℕ → ℕ → Option (Bool × ℕ) → Option Decimal
 withExponent minus ds f none = none
-withExponent minus ds f (some e) = valued minus ds (less e f)
+withExponent minus ds f (some e) = valued minus ds (pointFolded e f)
 
--- the point is folded into the power
 unfoldable pub numeralValue : Bool → Numeral → Option Decimal
 numeralValue minus (numeral w f rest) = withExponent minus (w ++ f) (length f) (exponentOf rest)
 

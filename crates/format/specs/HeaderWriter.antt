@@ -1,4 +1,4 @@
--- The text of a header with its orientation (document 02, W2, the header writer).
+-- The text of a header with its orientation (document 02, W2, the header writer). What is refused is not said here.
 use Prim.Native.Nat.{ℕ}
 use Prim.Native.String.{String}
 use mathlib.Core.List.{List, [], _∷_, _++_, map}
@@ -44,7 +44,7 @@ directionText (along ds) = vectorText ds
 
 -- ---- the lines
 
--- what is given of the orientation, and goes in: a space by its number, a space's dimension, an origin, a direction for each axis, the columns of a measurement frame
+-- what the header writer is given: a space by its number, a space's dimension, an origin, a direction for each axis, the columns of a measurement frame. Each may be missing
 pub data Orientation : Type 0 where
   orientation : Option ℕ → Option ℕ → Option (List Decimal) → Option (List Direction) → Option (List (List Decimal)) → Orientation
 

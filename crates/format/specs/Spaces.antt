@@ -1,5 +1,5 @@
 -- The spaces that a header may name, and their dimensions (source 000, section 4; document 02, W2).
--- A space is a number from 0: its row in the table. Names ignore case.
+-- A space is a number from 0: its row in the table. Names and abbreviations ignore case (document 01, "Understood fields").
 use Prim.Native.Nat.{ℕ}
 use Prim.Native.String.{String}
 use mathlib.Core.List.{List, [], _∷_, map}
@@ -31,7 +31,7 @@ spaces =
 abbrev pub spaceCount : ℕ
 spaceCount = length spaces
 
--- the largest dimension that a space may have
+-- the largest dimension that a space may have, as the field space dimension says it
 abbrev pub maxSpace : ℕ
 maxSpace = 8
 
@@ -49,6 +49,6 @@ spaceAt i = getD spaces i (spaceRow [] 0)
 abbrev pub spaceSize : ℕ → ℕ
 spaceSize i = spaceAxes (spaceAt i)
 
--- the space of a name
+-- the number of the space with this name or abbreviation
 abbrev pub spaceNamed : List ℕ → Option ℕ
 spaceNamed w = rowOf w (map spaceNames spaces)

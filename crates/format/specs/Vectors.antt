@@ -1,5 +1,5 @@
 -- Vectors (source 000, section 4; document 02, W2): round brackets with commas, and `none` for an axis without a direction.
--- Blanks part them outside of brackets; between brackets they may stand beside a component.
+-- Blanks part them outside of brackets; between brackets they may stand beside a component. They are spaces and tabs: a line with another blank is refused before (5).
 use Prim.Native.Nat.{ℕ}
 use mathlib.Core.Bool.{Bool, true, false, not, _&&_}
 use mathlib.Core.List.{List, [], _∷_}
@@ -59,7 +59,7 @@ module _ {A : Type 0} where
   allSaid f [] = some []
   allSaid f (w ∷ ws) = consSaid (f w) (allSaid f ws)
 
-  -- the same where there are n texts
+  -- the same where there are n texts, and none where there are not
   unfoldable pub saidBy : ℕ → (List ℕ → Option A) → List (List ℕ) → Option (List A)
   saidBy n f ws = if eqb (length ws) n then allSaid f ws else none
 
@@ -89,7 +89,7 @@ directionSaid n w = if alike w (bytes "none") then some without else alongSaid (
 
 -- ---- descriptors, in a space of n dimensions
 
--- k vectors: one for an origin, n for a measurement frame
+-- k vectors: one for an origin, n for a measurement frame, whose column i is vector i
 abbrev pub vectorsSaid : ℕ → ℕ → List ℕ → Option (List (List Decimal))
 vectorsSaid k n t = saidBy k (vectorSaid n) (vectorWords t)
 

@@ -73,7 +73,7 @@ spaced [] = []
 spaced (n ∷ []) = decimal n
 spaced (n ∷ m ∷ ns) = decimal n ++ SPACE ∷ spaced (m ∷ ns)
 
--- the first listed name of an encoding or an endian
+-- the first name of a row of names
 abbrev pub firstName : List String → List ℕ
 firstName [] = []
 firstName (n ∷ ns) = bytes n
