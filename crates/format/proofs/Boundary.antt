@@ -1,4 +1,4 @@
--- Laws of numbers and samples in lent bytes: how many, each one, the ones after it; those put in are those taken out, and bytes taken out and
+-- Laws of numbers, samples and decimals in lent bytes: how many, each one, the ones after it; those put in are those taken out, and bytes taken out and
 -- put in again are as they were.
 -- Assumes nothing.
 use Prim.Native.Nat.{ℕ, zero, suc, _+_, _*_, _-_, _^_, _/_, _≤_, _<_}
@@ -10,12 +10,13 @@ use mathlib.Core.Bool.{true}
 use mathlib.Core.List.{List, [], _∷_, _++_, append-nil, append-assoc, map, flatMap}
 use lib.IntN.{ℤ}
 use lib.ListN.{length, take, drop, getD, length-append, length-drop, length-map, take-append-drop}
-use lib.Seq.{drop-append-add, drop-drop, drop-cons, drop-length, take-add, take-at, drop-at, length-take-le}
+use lib.Seq.{drop-append-add, drop-drop, drop-cons, drop-length, take-all, take-add, take-at, drop-at, length-take-le}
+use Rattle.format.specs.declared.Decimal.{Decimal}
 use Rattle.format.specs.Bytes.{over}
 use Rattle.format.specs.Descriptors.{signed, little}
 use Rattle.format.specs.Samples.{inType, fromBytes, toBytes, sampleValue, valueBytes}
 use Rattle.format.specs.Writer.{allInType}
-use Rattle.format.specs.Boundary.{wordBytes, groups, wholeGroups, numbersOf, samplesLent, numberBytes, wordsOfSamples, lentNumbers, lentSamples}
+use Rattle.format.specs.Boundary.{wordBytes, groups, wholeGroups, numbersOf, samplesLent, numberBytes, wordsOfSamples, lentNumbers, lentSamples, decimalBytes, decimalOf, decimalsBytes, decimalsLent}
 use Rattle.format.specs.Laws.{Each, AllBelow}
 use Rattle.format.proofs.Bytes.{and-left, and-right}
 use Rattle.format.proofs.Samples.{AllBytes, from-bytes-below, to-bytes-bytes, from-to-bytes, to-from-bytes, length-to-bytes, value-of-bytes, bytes-of-value, length-value-bytes}
@@ -244,12 +245,12 @@ groups-below w (suc n) s h p =
     let r : w * n ≤ length (drop w s) = omega (arith, length-drop w s) in
     (rw l at (from-bytes-below (take w s) (bytes-take w s p)), groups-below w n (drop w s) r (bytes-drop w s p))
 
+bytes-back : (w : ℕ) (g : List ℕ) → AllBytes g → length g ≡ w → toBytes w (fromBytes g) ≡ g
+bytes-back w g q l = ap (λ (j : ℕ). toBytes j (fromBytes g)) (sym l) ∙ to-from-bytes g q
+
 module _ (w : ℕ) (s : List ℕ) where
   pub length-numbers : length (numbersOf w s) ≡ length s / w
   length-numbers = length-lent _ w s
-
-  bytes-back : (g : List ℕ) → AllBytes g → length g ≡ w → toBytes w (fromBytes g) ≡ g
-  bytes-back g q l = ap (λ (j : ℕ). toBytes j (fromBytes g)) (sym l) ∙ to-from-bytes g q
 
   pub number-at : (k : ℕ) → k < length s / w → getD (numbersOf w s) k 0 ≡ fromBytes (take w (drop (w * k) s))
   number-at k h = lent-at fromBytes w s k h 0
@@ -260,13 +261,13 @@ module _ (w : ℕ) (s : List ℕ) where
 
     -- the bytes of the first k numbers
     pub first-numbers : (k : ℕ) → k ≤ length s / w → numberBytes w (take k (numbersOf w s)) ≡ take (w * k) s
-    first-numbers k h = number-bytes-flat w (take k (numbersOf w s)) ∙ flat-first fromBytes w (toBytes w) bytes-back s p k h
+    first-numbers k h = number-bytes-flat w (take k (numbersOf w s)) ∙ flat-first fromBytes w (toBytes w) (bytes-back w) s p k h
 
     -- lent bytes that hold other numbers at their front
     pub numbers-over : (ns : List ℕ) → length ns ≤ length s / w → lentNumbers w (over ns (numbersOf w s)) s ≡ over (numberBytes w ns) s
     numbers-over ns h =
         ap (λ (u : List ℕ). over u s) (number-bytes-flat w (over ns (numbersOf w s)))
-        ∙ over-lent fromBytes w (toBytes w) bytes-back s p (length-to-bytes w) ns h
+        ∙ over-lent fromBytes w (toBytes w) (bytes-back w) s p (length-to-bytes w) ns h
         ∙ ap (λ (u : List ℕ). over u s) (sym (number-bytes-flat w ns))
 
     -- the numbers put back
@@ -287,6 +288,9 @@ module _ (w : ℕ) (ns s : List ℕ) where
       ∙ lent-all fromBytes w (toBytes w) (length-to-bytes w) (λ n. n < 256 ^ w) (from-to-bytes w) ns s h p
 
 -- ---- samples
+
+sample-back : (w : ℕ) (g : List ℕ) → AllBytes g → length g ≡ w → valueBytes w little (sampleValue signed little g) ≡ g
+sample-back w g q l = ap (λ (j : ℕ). valueBytes j little (sampleValue signed little g)) (sym l) ∙ bytes-of-value signed little g q
 
 pub words-flat : (zs : List ℤ) → wordsOfSamples zs ≡ flatMap (valueBytes 8 little) zs
 unfolding wordsOfSamples flatMap
@@ -311,25 +315,95 @@ module _ (s : List ℕ) where
   pub length-samples : length (samplesLent s) ≡ length s / 8
   length-samples = length-lent _ 8 s
 
-  sample-back : (g : List ℕ) → AllBytes g → length g ≡ 8 → valueBytes 8 little (sampleValue signed little g) ≡ g
-  sample-back g q l = ap (λ (j : ℕ). valueBytes j little (sampleValue signed little g)) (sym l) ∙ bytes-of-value signed little g q
-
   pub sample-at : (k : ℕ) (z : ℤ) → k < length s / 8 → getD (samplesLent s) k z ≡ sampleValue signed little (take 8 (drop (8 * k) s))
   sample-at k z h = lent-at (sampleValue signed little) 8 s k h z
 
   module _ (p : AllBytes s) where
     -- the bytes of all samples
     pub words-of-lent : wordsOfSamples (samplesLent s) ≡ take (8 * (length s / 8)) s
-    words-of-lent = words-flat (samplesLent s) ∙ flat-groups (sampleValue signed little) 8 (valueBytes 8 little) sample-back (length s / 8) s (mul-div-le (length s) 8) p
+    words-of-lent = words-flat (samplesLent s) ∙ flat-groups (sampleValue signed little) 8 (valueBytes 8 little) (sample-back 8) (length s / 8) s (mul-div-le (length s) 8) p
 
     -- lent bytes that hold other samples at their front
     pub samples-over : (zs : List ℤ) → length zs ≤ length s / 8 → lentSamples (over zs (samplesLent s)) s ≡ over (wordsOfSamples zs) s
     samples-over zs h =
         ap (λ (u : List ℕ). over u s) (words-flat (over zs (samplesLent s)))
-        ∙ over-lent (sampleValue signed little) 8 (valueBytes 8 little) sample-back s p (length-value-bytes 8 little) zs h
+        ∙ over-lent (sampleValue signed little) 8 (valueBytes 8 little) (sample-back 8) s p (length-value-bytes 8 little) zs h
         ∙ ap (λ (u : List ℕ). over u s) (sym (words-flat zs))
 
     -- the samples put back
     pub lent-of-samples : lentSamples (samplesLent s) s ≡ s
     unfolding wordsOfSamples
     lent-of-samples = samples-over [] (omega arith)
+
+-- ---- decimals
+
+-- its number fits 64 bits, its power 32 bits, and its kind 32 bits without a sign
+abbrev pub FitsBytes : Decimal → Type 0
+FitsBytes d = (inType signed 8 (d .number) ≡ true) × (inType signed 4 (d .power) ≡ true) × (d .kind < 256 ^ 4)
+
+pub length-decimal : (d : Decimal) → length (decimalBytes d) ≡ 16
+unfolding decimalBytes
+length-decimal d =
+    let a = valueBytes 8 little (d .number) in
+    let b = valueBytes 4 little (d .power) in
+    let c = toBytes 4 (d .kind) in
+    omega (arith, length-append a (b ++ c), length-append b c, length-value-bytes 8 little (d .number), length-value-bytes 4 little (d .power), length-to-bytes 4 (d .kind))
+
+-- the decimal of the bytes of a decimal is that decimal
+pub decimal-of-bytes : (d : Decimal) → FitsBytes d → decimalOf (decimalBytes d) ≡ d
+unfolding decimalBytes decimalOf
+decimal-of-bytes d f =
+    let a = valueBytes 8 little (d .number) in
+    let b = valueBytes 4 little (d .power) in
+    let c = toBytes 4 (d .kind) in
+    let l : length a ≡ 8 = length-value-bytes 8 little (d .number) in
+    let m : length b ≡ 4 = length-value-bytes 4 little (d .power) in
+    let n : length c ≡ 4 = length-to-bytes 4 (d .kind) in
+    let r : drop 12 (a ++ (b ++ c)) ≡ c = sym (drop-drop 4 8 (a ++ (b ++ c))) ∙ ap (drop 4) (drop-at a (b ++ c) 8 l) ∙ drop-at b c 4 m in
+    rw (
+      take-at a (b ++ c) 8 l,
+      drop-at a (b ++ c) 8 l,
+      take-at b c 4 m,
+      r,
+      take-all 4 c (omega arith),
+      value-of-bytes signed 8 little (d .number) (omega arith) (f .0),
+      value-of-bytes signed 4 little (d .power) (omega arith) (f .1),
+      from-to-bytes 4 (d .kind) (f .2),
+    )
+
+-- the bytes of the decimal of 16 bytes are those bytes
+pub bytes-of-decimal : (s : List ℕ) → AllBytes s → length s ≡ 16 → decimalBytes (decimalOf s) ≡ s
+unfolding decimalBytes decimalOf
+bytes-of-decimal s p e =
+    let part : (k n : ℕ) → k + n ≤ 16 → length (take n (drop k s)) ≡ n = λ k n h. length-take-le n (drop k s) (omega (arith, length-drop k s)) in
+    let bytes : (k n : ℕ) → AllBytes (take n (drop k s)) = λ k n. bytes-take n (drop k s) (bytes-drop k s p) in
+    rw (
+      sample-back 8 (take 8 s) (bytes 0 8) (part 0 8 (omega arith)),
+      sample-back 4 (take 4 (drop 8 s)) (bytes 8 4) (part 8 4 (omega arith)),
+      bytes-back 4 (take 4 (drop 12 s)) (bytes 12 4) (part 12 4 (omega arith)),
+    )
+    (
+    ap (λ (t : List ℕ). take 8 s ++ (take 4 (drop 8 s) ++ take 4 t)) (sym (drop-drop 4 8 s))
+    ∙ ap (λ (t : List ℕ). take 8 s ++ t) (sym (take-add 4 4 (drop 8 s)))
+    ∙ sym (take-add 8 8 s)
+    ∙ take-all 16 s (omega arith)
+    )
+
+pub decimals-flat : (ds : List Decimal) → decimalsBytes ds ≡ flatMap decimalBytes ds
+unfolding decimalsBytes flatMap
+decimals-flat [] = refl
+decimals-flat (d ∷ ds) = ap (λ (r : List ℕ). decimalBytes d ++ r) (decimals-flat ds)
+
+pub length-decimals : (ds : List Decimal) → length (decimalsBytes ds) ≡ 16 * length ds
+length-decimals ds = ap length (decimals-flat ds) ∙ flat-length decimalBytes 16 length-decimal ds
+
+-- the decimals of the bytes of decimals, and the bytes of the decimals of lent bytes
+pub decimals-of-bytes : (ds : List Decimal) → Each FitsBytes ds → decimalsLent (decimalsBytes ds) ≡ ds
+decimals-of-bytes ds f =
+    let u = decimalsBytes ds in
+    let w : over u u ≡ u = ap (λ (r : List ℕ). u ++ r) (drop-length u) ∙ append-nil u in
+    ap decimalsLent (sym w ∙ ap (λ (r : List ℕ). over r u) (decimals-flat ds))
+    ∙ lent-all decimalOf 16 decimalBytes length-decimal FitsBytes decimal-of-bytes ds u (omega (arith, length-decimals ds)) f
+
+pub bytes-of-decimals : (s : List ℕ) → AllBytes s → decimalsBytes (decimalsLent s) ≡ take (16 * (length s / 16)) s
+bytes-of-decimals s p = decimals-flat (decimalsLent s) ∙ flat-groups decimalOf 16 decimalBytes bytes-of-decimal (length s / 16) s (mul-div-le (length s) 16) p

@@ -18,13 +18,13 @@ use Rattle.format.specs.Writer.{decimalFrom, spaced, hexText, rawData, t
 use Rattle.format.specs.Settings.{keyFine, valueFine, pairText, replaced, newLines, refilled, tableFine, store, setRead, setKey}
 use Rattle.format.specs.Calls.{noReading, readingOf, withTable, keyPlace, fieldPlace}
 use Rattle.format.specs.Listing.{shownRefusal, shownKeys, shownReading, listing}
-use Rattle.format.specs.Boundary.{groups, numberBytes, wordsOfSamples}
+use Rattle.format.specs.Boundary.{groups, numberBytes, wordsOfSamples, decimalBytes, decimalOf, decimalsBytes}
 use Rattle.format.specs.Trials.{texts, StarredTrials}
 use Rattle.format.specs.EntryTrials.{entries}
 use Rattle.format.specs.FurtherTrials.{FurtherTrials}
 
 trials : StarredTrials × FurtherTrials
-unfolding every same alike beginsWith isIn isAny rowFrom lines unlines starts mark escape unescapeFrom fieldAt descriptorOf inOrder trimFront trimEnd descriptor digitsFrom number parts notEmpty numbersIn typeAt mayDescribe hasNeeded endIsRaw product magicVersion onPair onField judge complete walk header valueOf skipLine skipLines skipBytes lastBytes placeOf inType fromBytes sampleValue rawSamples skipBlanks token afterToken tokenValue tokens samplesOf inside sampleNumber keyFine valueFine pairText replaced newLines refilled tableFine store setRead setKey noReading readingOf withTable texts keyPlace fieldPlace decimalFrom spaced shownRefusal shownKeys shownReading listing hexText rawData textData dataBytes headerLines fileBytes allInType writable writeRefusal groups numberBytes wordsOfSamples entries toBytes valueBytes digitsOf afterDigits numeralValue component spaceAt partsOutside vectorWords closed commaParts allSaid saidBy vectorSaid directionSaid componentText joined vectorText orientationLines orientedBytes
+unfolding every same alike beginsWith isIn isAny rowFrom lines unlines starts mark escape unescapeFrom fieldAt descriptorOf inOrder trimFront trimEnd descriptor digitsFrom number parts notEmpty numbersIn typeAt mayDescribe hasNeeded endIsRaw product magicVersion onPair onField judge complete walk header valueOf skipLine skipLines skipBytes lastBytes placeOf inType fromBytes sampleValue rawSamples skipBlanks token afterToken tokenValue tokens samplesOf inside sampleNumber keyFine valueFine pairText replaced newLines refilled tableFine store setRead setKey noReading readingOf withTable texts keyPlace fieldPlace decimalFrom spaced shownRefusal shownKeys shownReading listing hexText rawData textData dataBytes headerLines fileBytes allInType writable writeRefusal groups numberBytes wordsOfSamples entries toBytes valueBytes digitsOf afterDigits numeralValue component spaceAt partsOutside vectorWords closed commaParts allSaid saidBy vectorSaid directionSaid componentText joined vectorText orientationLines orientedBytes decimalBytes decimalOf decimalsBytes
 trials = (
   (refl, (refl, (refl, (refl, (refl, (refl, (refl, (refl, (refl, (refl, (refl, (refl, (refl, (refl, (refl, (refl, (refl, (refl, (refl, (refl, (refl, (refl, (refl, (refl, (refl, tt))))))))))))))))))))))))),
   record {
@@ -32,7 +32,7 @@ trials = (
     found = (refl, (refl, (refl, (refl, (refl, (refl, (refl, (refl, (refl, (refl, (refl, (refl, (refl, (refl, (refl, (refl, tt))))))))))))))));
     listed = (refl, (refl, (refl, (refl, (refl, (refl, (refl, tt)))))));
     written = (refl, (refl, (refl, (refl, (refl, (refl, (refl, (refl, (refl, tt)))))))));
-    crossing = (refl, (refl, (refl, (refl, (refl, (refl, (refl, (refl, tt))))))));
+    crossing = (refl, (refl, (refl, (refl, (refl, (refl, (refl, (refl, (refl, (refl, tt))))))))));
     skipped = (refl, (refl, (refl, (refl, (refl, (refl, (refl, (refl, (refl, (refl, (refl, (refl, (refl, (refl, (refl, (refl, (refl, (refl, (refl, (refl, (refl, (refl, (refl, (refl, (refl, (refl, (refl, (refl, (refl, (refl, (refl, (refl, (refl, (refl, (refl, (refl, tt))))))))))))))))))))))))))))))))))));
     oriented = record {
       in-components = (refl, (refl, (refl, (refl, (refl, (refl, (refl, (refl, (refl, (refl, (refl, (refl, (refl, (refl, (refl, (refl, (refl, (refl, (refl, (refl, (refl, (refl, (refl, (refl, (refl, (refl, (refl, (refl, (refl, (refl, (refl, (refl, (refl, (refl, (refl, (refl, (refl, (refl, (refl, (refl, (refl, (refl, (refl, (refl, (refl, (refl, (refl, (refl, (refl, tt)))))))))))))))))))))))))))))))))))))))))))))))));

@@ -1,14 +1,18 @@
 -- What the entry points answer on lent bytes, byte by byte, so that widths and the order of bytes are seen: S and the trials of document 01,
--- called as from C. `EntryTrials` is the statement; proofs/ computes it.
+-- called as from C; and decimals in lent bytes. `EntryTrials` is the statement; proofs/ computes it.
 use Prim.Native.Nat.{ℕ}
 use mathlib.Core.List.{List, [], _∷_, _++_}
+use lib.IntN.{pos, negsuc}
 use lib.ListN.{replicate}
 use Rattle.format.specs.declared.ReadAnswer.{ReadAnswer}
 use Rattle.format.specs.declared.CountAnswer.{CountAnswer}
 use Rattle.format.specs.declared.NumberAnswer.{NumberAnswer}
 use Rattle.format.specs.declared.WriteAnswer.{WriteAnswer}
 use Rattle.format.specs.declared.SetAnswer.{SetAnswer}
+use Rattle.format.specs.declared.Decimal.{Decimal}
 use Rattle.format.specs.Bytes.{bytes}
+use Rattle.format.specs.Decimals.{num, marked, minusInf}
+use Rattle.format.specs.Boundary.{decimalsBytes, decimalsLent}
 use Rattle.format.specs.Refusals.{refusal, fine}
 use Rattle.format.specs.Calls.{noReading}
 use Rattle.format.specs.EntryPoints.{readEntry, samplesEntry, sampleNumberEntry, writeEntry, setKeyEntry}
@@ -65,6 +69,9 @@ entryTrials =
         entries (0 ∷ 9 ∷ 16 ∷ 24 ∷ 37 ∷ 50 ∷ 61 ∷ 75 ∷ 90 ∷ 105 ∷ 120 ∷ []) ++ replicate 6 7,
       ),
     )
+    -- the bytes of -2 times ten to the power 3 and of -inf; 258 times ten to the power -400, and 15 bytes more
+    ∷ trial (List ℕ) (decimalsBytes (num (negsuc 1) (pos 3) ∷ marked minusInf ∷ [])) ((254 ∷ replicate 7 255) ++ (entry 3 ++ (entry 0 ++ (word 0 0 ++ (entry 0 ++ entry 3)))))
+    ∷ trial (List Decimal) (decimalsLent (word 2 1 ++ ((112 ∷ 254 ∷ 255 ∷ 255 ∷ []) ++ (entry 0 ++ replicate 15 7)))) (num (pos 258) (negsuc 399) ∷ [])
     ∷ []
 
 abbrev pub EntryTrials : Type 0

@@ -3,15 +3,16 @@
 use Prim.Native.Nat.{ℕ, zero, suc, _+_, _-_, _*_, _^_, _/_, _%_, _≤_, _<_}
 use native.Mathlib.Nat.{not-suc-le-zero, le-of-suc-le-suc, mul-zero, mul-suc, pow-zero, div-one, one-mul, add-comm, mod-lt}
 use native.Mathlib.Omega.{arith}
-use mathlib.Core.Path.{_≡_, refl, sym, ap, _∙_}
+use mathlib.Core.Path.{_≡_, refl, ap, _∙_}
 use mathlib.Core.Bool.{Bool, true, false}
 use mathlib.Core.List.{List, [], _∷_, map}
 use lib.Arith.{digits-div, digits-mod}
 use lib.Dec.{eqb}
-use lib.ListN.{length, take, drop, getD, List·getD-eq-default, List·getD-map}
+use lib.ListN.{length, take, drop, getD, List·getD-eq-default}
 use lib.Pow.{pow-pos, shr-shr}
 use lib.Seq.{getD-take, getD-drop}
 use Rattle.format.specs.Fields.{FieldRow, fieldTable, fieldCount, fieldAt, noField, fieldSince, sinceOf}
+use Rattle.format.specs.Spaces.{spaces, spaceRow, spaceCount, spaceAxes, spaceAt, spaceSize}
 use Rattle.format_values.specs.Packed.{packed, bit, fieldSet}
 
 module _ {A : Type 0} (view : A → ℕ) (w : ℕ) where
@@ -26,6 +27,16 @@ module _ {A : Type 0} (view : A → ℕ) (w : ℕ) where
       let above = packed w (map view rows) in
       rw (mul-suc w i, add-comm (w * i) w, ← shr-shr (above * 2 ^ w + view r % 2 ^ w) w (w * i), digits-div above (mod-lt (view r) (pow-pos w)))
       (digit-at rows i d (le-of-suc-le-suc l))
+
+  -- where each row's number is below 2 ^ w, its digit is that number
+  pub digit-is : (rows : List A) (i : ℕ) (d : A) → map (λ r. view r % 2 ^ w) rows ≡ map view rows → i < length rows
+      → packed w (map view rows) / 2 ^ (w * i) % 2 ^ w ≡ view (getD rows i d)
+  digit-is rows i d e l = digit-at rows i d l ∙ go rows i e l
+    where
+      go : (rows : List A) (i : ℕ) → map (λ r. view r % 2 ^ w) rows ≡ map view rows → i < length rows → view (getD rows i d) % 2 ^ w ≡ view (getD rows i d)
+      go [] i e l = absurd (not-suc-le-zero l)
+      go (r ∷ rows) zero e l = ap (λ (ns : List ℕ). getD ns 0 0) e
+      go (r ∷ rows) (suc i) e l = go rows i (ap (λ (ns : List ℕ). drop 1 ns) e) (le-of-suc-le-suc l)
 
 -- ---- the table of fields
 
@@ -44,17 +55,24 @@ in-set p {set} {f} e l = rw (e, rw (one-mul f) at (digit-at (λ r. bit (p r)) 1 
     of-bit false = refl
 
 -- the first version of a field is its digit: of one of the first 16 fields, and of another
-since-digit : (f : ℕ) → fieldSince f % 16 ≡ fieldSince f
-unfolding fieldAt
-since-digit f = sym (List·getD-map (λ r. sinceOf r % 16) fieldTable f noField) ∙ List·getD-map sinceOf fieldTable f noField
-
 pub since-first : (f : ℕ) → f < 16 → packed 4 (map sinceOf (take 16 fieldTable)) / 2 ^ (4 * f) % 16 ≡ fieldSince f
 unfolding fieldAt
-since-first f l = digit-at sinceOf 4 (take 16 fieldTable) f noField l ∙ (ap (λ r. sinceOf r % 16) (getD-take 16 fieldTable f noField l) ∙ since-digit f)
+since-first f l = digit-is sinceOf 4 (take 16 fieldTable) f noField refl l ∙ ap sinceOf (getD-take 16 fieldTable f noField l)
 
 pub since-later : (f : ℕ) → 16 ≤ f → f < fieldCount → packed 4 (map sinceOf (drop 16 fieldTable)) / 2 ^ (4 * (f - 16)) % 16 ≡ fieldSince f
 unfolding fieldAt
 since-later f h l =
     let e : 16 + (f - 16) ≡ f = omega arith in
-    digit-at sinceOf 4 (drop 16 fieldTable) (f - 16) noField (omega arith)
-    ∙ (ap (λ r. sinceOf r % 16) (getD-drop 16 fieldTable (f - 16) noField ∙ ap (λ (g : ℕ). getD fieldTable g noField) e) ∙ since-digit f)
+    digit-is sinceOf 4 (drop 16 fieldTable) (f - 16) noField refl (omega arith)
+    ∙ ap sinceOf (getD-drop 16 fieldTable (f - 16) noField ∙ ap (λ (g : ℕ). getD fieldTable g noField) e)
+
+-- ---- the table of spaces
+
+-- the dimension of a space is its digit in a number that holds those of all; past the list there is none
+pub space-digit : (i : ℕ) → i < spaceCount → {sizes r : ℕ} → r ≡ sizes / 2 ^ (4 * i) % 16 → sizes ≡ packed 4 (map spaceAxes spaces) → r ≡ spaceSize i
+unfolding spaceAt
+space-digit i l q e = q ∙ ap (λ (n : ℕ). n / 2 ^ (4 * i) % 16) e ∙ digit-is spaceAxes 4 spaces i (spaceRow [] 0) refl l
+
+pub space-past : (i : ℕ) → spaceCount ≤ i → spaceSize i ≡ 0
+unfolding spaceAt
+space-past i h = ap spaceAxes (List·getD-eq-default spaces (spaceRow [] 0) h)

@@ -22,7 +22,7 @@ const AFTER_SPACE: u64 = 0b00_0000_0011_1100_0000_0000_0000_0000;
 const UNDERSTOOD: u64 = 0b00_0000_0000_0000_0000_0000_1111_1111;
 
 // The digit of the row k.
-fn digit(digits: u64, k: usize) -> u32
+pub fn digit(digits: u64, k: usize) -> u32
     requires { ⌜ k < 16 ⌝ }
     ensures { λ r. ⌜ r ≡ digits / 2 ^ (4 * k) % 16 ⌝ }
 {

@@ -2,4 +2,5 @@
 pub mod fields;
 pub mod products;
 pub mod refusals;
+pub mod spaces;
 pub mod types;

@@ -1,6 +1,6 @@
--- Laws of two's complement in 8 bytes.
+-- Laws of two's complement: from bits to a value in any width, from a value to bits in 8 bytes.
 -- Assumes nothing.
-use Prim.Native.Nat.{ℕ, zero, suc, _+_, _-_, _^_, _%_, _≤_, _<_}
+use Prim.Native.Nat.{ℕ, zero, suc, _+_, _-_, _^_, _/_, _%_, _≤_, _<_}
 use native.Mathlib.Nat.{zero-add}
 use native.Mathlib.Omega.{arith}
 use mathlib.Core.Path.{_≡_, ap, refl, _∙_}
@@ -9,8 +9,8 @@ use lib.Bits.{bitAnd, and-mask, mask-lt}
 use lib.IntN.{ℤ, pos, negsuc, _-ℤ_}
 use lib.Signed.{mag, ltZ}
 use borrow.Author.Tests.{lt-ltb, le-ltb, ltb-true}
-use mir.Syntax.{w64}
-use mir.Val.{SFits, toZ, ofZ}
+use mir.Syntax.{Width, w64}
+use mir.Val.{SFits, hbits, toZ, ofZ}
 use mir.Facts.{toZ-pos, toZ-ofZ}
 use Rattle.format.specs.Samples.{toSigned, fromSigned}
 
@@ -20,21 +20,22 @@ minus-one-less : (k : ℕ) → negsuc 0 -ℤ pos k ≡ negsuc k
 minus-one-less zero = refl
 minus-one-less (suc j) = ap (λ (n : ℕ). negsuc (suc n)) (zero-add j)
 
-module _ (k : ℕ) (h : k < 2 ^ 63) where
-  below-zero : negsuc 0 -ℤ toZ w64 k ≡ negsuc k
-  below-zero = rw (toZ-pos w64 h) (minus-one-less k)
+module _ (w : Width) (k : ℕ) (h : k < 2 ^ hbits w) where
+  below-zero : negsuc 0 -ℤ toZ w k ≡ negsuc k
+  below-zero = rw (toZ-pos w h) (minus-one-less k)
 
-  pub below-zero-fits : SFits w64 (negsuc 0 -ℤ toZ w64 k)
+  pub below-zero-fits : SFits w (negsuc 0 -ℤ toZ w k)
   below-zero-fits = rw below-zero (record { sfits = h })
 
-  pub below-zero-kept : toZ w64 (ofZ w64 (negsuc 0 -ℤ toZ w64 k)) ≡ negsuc k
+  pub below-zero-kept : toZ w (ofZ w (negsuc 0 -ℤ toZ w k)) ≡ negsuc k
   below-zero-kept = toZ-ofZ below-zero-fits ∙ below-zero
 
-pub signed-low : (x : ℕ) → x < 9223372036854775808 → toSigned 8 x ≡ pos x
-signed-low x l = rw (lt-ltb x 9223372036854775808 l)
+module _ (w x : ℕ) where
+  pub signed-low : x < 256 ^ w / 2 → toSigned w x ≡ pos x
+  signed-low l = rw (lt-ltb x (256 ^ w / 2) l)
 
-pub signed-high : (x : ℕ) → 9223372036854775808 ≤ x → toSigned 8 x ≡ negsuc (18446744073709551615 - x)
-signed-high x l = rw (le-ltb x 9223372036854775808 l)
+  pub signed-high : 256 ^ w / 2 ≤ x → toSigned w x ≡ negsuc (256 ^ w - 1 - x)
+  signed-high l = rw (le-ltb x (256 ^ w / 2) l)
 
 -- ---- from a value to bits
 

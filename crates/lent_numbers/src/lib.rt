@@ -49,7 +49,7 @@ fn store2(d: &mut [u8], at: usize, x: u64)
     d[at + 1] = (x / 256 % 256) as u8;
 }
 
-fn store4(d: &mut [u8], at: usize, x: u64)
+pub fn store4(d: &mut [u8], at: usize, x: u64)
     requires { ⌜ at + 4 ≤ length (now d) ⌝ }
     ensures { λ _. ⌜ now (d .exit) ≡ sets (now (d .entry)) at (toBytes 4 x) ⌝ }
 {
@@ -57,7 +57,7 @@ fn store4(d: &mut [u8], at: usize, x: u64)
     store2(d, at + 2, x / 65536);
 }
 
-fn store8(d: &mut [u8], at: usize, x: u64)
+pub fn store8(d: &mut [u8], at: usize, x: u64)
     requires { ⌜ at + 8 ≤ length (now d) ⌝ }
     ensures { λ _. ⌜ now (d .exit) ≡ sets (now (d .entry)) at (toBytes 8 x) ⌝ }
 {

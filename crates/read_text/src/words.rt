@@ -5,9 +5,10 @@ ghost use lib.Dec.{eqb};
 ghost use Rattle.format.specs.Bytes.{small, alike};
 ghost use Rattle.format.specs.Fields.{fieldNamed};
 ghost use Rattle.format.specs.Descriptors.{typeNamed, encodingNamed, endianNamed};
+ghost use Rattle.format.specs.Spaces.{spaceNamed};
 ghost use Rattle.read_text.specs.Rows.{Name, packed, rowAmong, rowAnswer};
 
-// A table holds for each name its length, the number of its row, and its bytes in small letters.
+// A table holds for each name its length, the number of its row, and its bytes as the definitions spell them.
 // A function that names a table builds it on the stack at each call: small tables, by the lengths of the names, cost the least.
 
 // The names of the fields in both spellings, of up to 6 bytes, 7 to 8, 9 to 10, and more.
@@ -35,6 +36,19 @@ const TYPES_12: [u8; 86] =
 
 const TYPES_LONG: [u8; 168] =
     *b"\x0d\x01unsigned char\x10\x02signed short int\x0e\x03unsigned short\x12\x03unsigned short int\x0d\x06long long int\x10\x06signed long long\x14\x06signed long long int\x12\x07unsigned long long\x16\x07unsigned long long int";
+
+// The names of the spaces, of up to 4 bytes, 5 to 20, 21 to 23, and more.
+const SPACES_4: [u8; 33] =
+    *b"\x03\x00RAS\x03\x01LAS\x03\x02LPS\x04\x03RAST\x04\x04LAST\x04\x05LPST";
+
+const SPACES_20: [u8; 107] =
+    *b"\x0b\x06scanner-xyz\x10\x07scanner-xyz-time\x0f\x083D-right-handed\x0e\x093D-left-handed\x14\x0a3D-right-handed-time\x13\x0b3D-left-handed-time";
+
+const SPACES_23: [u8; 74] =
+    *b"\x17\x00right-anterior-superior\x16\x01left-anterior-superior\x17\x02left-posterior-superior";
+
+const SPACES_LONG: [u8; 89] =
+    *b"\x1c\x03right-anterior-superior-time\x1b\x04left-anterior-superior-time\x1c\x05left-posterior-superior-time";
 
 // The names of the encodings.
 const ENCODINGS: [u8; 28] = *b"\x03\x00raw\x03\x01txt\x04\x01text\x05\x01ascii\x03\x02hex";
@@ -126,6 +140,18 @@ pub fn type_named(s: &[u8]) -> Row
         6..=8 => row_among(&TYPES_8, s),
         9..=12 => row_among(&TYPES_12, s),
         _ => row_among(&TYPES_LONG, s),
+    }
+}
+
+// The space of a name.
+pub fn space_named(s: &[u8]) -> Row
+    ensures { λ r. ⌜ r ≡ rowAnswer (spaceNamed (now (s .entry))) ⌝ }
+{
+    match s.len() {
+        0..=4 => row_among(&SPACES_4, s),
+        5..=20 => row_among(&SPACES_20, s),
+        21..=23 => row_among(&SPACES_23, s),
+        _ => row_among(&SPACES_LONG, s),
     }
 }
 

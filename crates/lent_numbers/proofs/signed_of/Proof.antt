@@ -20,13 +20,13 @@ cast-result-2 : tie.Need-cast-result-2
 cast-result-2 c = search needs
 
 sub-result-2 : tie.Need-sub-result-2
-sub-result-2 c = below-zero-fits (18446744073709551615 - c .before .args .x) (omega arith)
+sub-result-2 c = below-zero-fits w64 (18446744073709551615 - c .before .args .x) (omega arith)
 
 returns : tie.Need-returns
-returns c = toZ-pos w64 (omega arith) ∙ sym (signed-low _ (c .if1 .taken))
+returns c = toZ-pos w64 (omega arith) ∙ sym (signed-low 8 _ (c .if1 .taken))
 
 returns-2 : tie.Need-returns-2
-returns-2 c = below-zero-kept (18446744073709551615 - c .before .args .x) (omega arith) ∙ sym (signed-high _ (c .if1 .left))
+returns-2 c = below-zero-kept w64 (18446744073709551615 - c .before .args .x) (omega arith) ∙ sym (signed-high 8 _ (c .if1 .left))
 
 pub signed-of-spec : {M : Type 1} → statement M
 signed-of-spec =
