@@ -1,0 +1,4 @@
+pub mod Signs
+pub mod DigitLaws
+pub mod PartLaws
+pub mod ValueLaws
