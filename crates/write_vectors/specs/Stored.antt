@@ -1,0 +1,79 @@
+-- Internal to the library. What arrays of decimals stand for, and what the functions store, in the words of their contracts.
+use Prim.Native.Nat.{ℕ, _+_, _*_}
+use mathlib.Core.Bool.{Bool, false}
+use mathlib.Core.List.{List, [], _∷_}
+use lib.Dec.{eqb}
+use lib.ListN.{take}
+use Rattle.format.specs.declared.Decimal.{Decimal}
+use Rattle.format.specs.Bytes.{if_then_else_, bytes, MINUS}
+use Rattle.format.specs.Decimals.{nan, inf, minusInf, noDirection}
+use Rattle.format.specs.Vectors.{Direction, without, along}
+use Rattle.format.specs.Writer.{decimal}
+
+-- ---- arrays
+
+-- it stands for an axis without a direction
+abbrev pub isNone : Decimal → Bool
+isNone d = eqb (d .kind) noDirection
+
+-- the decimals before the first that is none
+unfoldable pub untilNone : List Decimal → List Decimal
+untilNone [] = []
+untilNone (d ∷ ds) = if isNone d then [] else d ∷ untilNone ds
+
+-- a vector in a space of n dimensions
+abbrev pub vectorOf : ℕ → List Decimal → List Decimal
+vectorOf n v = untilNone (take n v)
+
+-- whether the first one is none
+abbrev pub startsNone : List Decimal → Bool
+startsNone [] = false
+startsNone (d ∷ ds) = isNone d
+
+-- the direction of an axis. Whether there is one is said by the first of v, not of the first n: so no n has to be told apart. Where n is 1 or more, both are the same
+abbrev pub directionOf : ℕ → List Decimal → Direction
+directionOf n v = if startsNone v then without else along (vectorOf n v)
+
+-- ---- parts of texts
+
+-- a number of a size, with a minus or without
+abbrev pub sizedText : Bool → ℕ → List ℕ
+sizedText minus n = if minus then MINUS ∷ decimal n else decimal n
+
+-- a component that is no number
+abbrev pub markText : ℕ → List ℕ
+markText k =
+    if eqb k nan then bytes "nan"
+    else if eqb k inf then bytes "inf"
+    else if eqb k minusInf then bytes "-inf"
+    else bytes "none"
+
+-- what stands before entry i of texts with a byte between each two
+abbrev pub gapText : ℕ → ℕ → List ℕ
+gapText b i = if eqb i 0 then [] else b ∷ []
+
+-- ---- the most bytes that the texts take
+
+-- 20 for the number, `e`, 11 for the power
+abbrev pub componentRoom : ℕ
+componentRoom = 32
+
+-- 8 components and 7 commas
+abbrev pub componentsRoom : ℕ
+componentsRoom = 8 * componentRoom + 7
+
+-- the same in brackets
+abbrev pub vectorRoom : ℕ
+vectorRoom = 2 + componentsRoom
+
+-- 16 vectors and 15 spaces
+abbrev pub directionsRoom : ℕ
+directionsRoom = 16 * vectorRoom + 15
+
+-- 8 vectors and 7 spaces
+abbrev pub frameRoom : ℕ
+frameRoom = 8 * vectorRoom + 7
+
+-- the longest name of a space
+abbrev pub spaceRoom : ℕ
+spaceRoom = 28
