@@ -1,0 +1,4 @@
+pub mod WordLaws
+pub mod Said
+pub mod VectorLaws
+pub mod ListLaws
