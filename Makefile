@@ -64,6 +64,10 @@ $(BUILD)/random: tests/random.c tests/generate.c tests/model.c $(TESTS)
 	@mkdir -p $(BUILD)
 	$(CC) $(STRICT) $(SANITIZE) -Iinclude tests/random.c tests/generate.c tests/model.c $(ARCHIVE) -o $@
 
+$(BUILD)/strtod: tests/strtod.c tests/generate.c tests/model.c $(TESTS)
+	@mkdir -p $(BUILD)
+	$(CC) $(STRICT) $(SANITIZE) -Iinclude $(filter %.c %.a,$^) -lm -o $@
+
 $(BUILD)/tokens: tests/tokens.c $(TESTS)
 	@mkdir -p $(BUILD)
 	$(CC) $(STRICT) $(CFLAGS) -pthread -Iinclude tests/tokens.c $(ARCHIVE) -o $@
@@ -80,6 +84,7 @@ $(BUILD)/inputs: $(wildcard tests/frames/*.c) tests/bytes.c tests/json.c tests/m
 # their answers are the model's, so that it has to agree with the vectors first
 inputs: $(BUILD)/vectors_model $(BUILD)/inputs
 	$(BUILD)/vectors_model tests/vectors
+	$(BUILD)/vectors_model tests/vectors/w1 before-w2
 	$(BUILD)/vectors_model tests/vectors/base before-w1
 	$(BUILD)/inputs tests/vectors tests/frames crates
 
@@ -87,16 +92,19 @@ $(BUILD)/%: examples/%.c examples/files.h include/craneholt.h $(ARCHIVE)
 	@mkdir -p $(BUILD)
 	$(CC) $(STRICT) $(CFLAGS) -Iinclude $< $(ARCHIVE) -o $@
 
-check: $(BUILD)/vectors $(BUILD)/vectors_model $(BUILD)/inputs $(BUILD)/listing $(LISTING) $(BUILD)/peers $(BUILD)/empty $(BUILD)/random $(BUILD)/tokens $(BUILD)/correct $(BUILD)/merge
+check: $(BUILD)/vectors $(BUILD)/vectors_model $(BUILD)/inputs $(BUILD)/listing $(LISTING) $(BUILD)/peers $(BUILD)/empty $(BUILD)/random $(BUILD)/strtod $(BUILD)/tokens $(BUILD)/correct $(BUILD)/merge $(BUILD)/poses
 	$(BUILD)/vectors tests/vectors
+	$(BUILD)/vectors tests/vectors/w1 before-w2
 	$(BUILD)/vectors tests/vectors/base before-w1
 	$(BUILD)/vectors_model tests/vectors
+	$(BUILD)/vectors_model tests/vectors/w1 before-w2
 	$(BUILD)/vectors_model tests/vectors/base before-w1
 	sh tests/frames/compare.sh $(BUILD)
 	$(BUILD)/listing $(LISTING) $(BUILD)
 	$(BUILD)/peers tests/peers
 	$(BUILD)/empty
 	$(BUILD)/random
+	$(BUILD)/strtod
 	$(BUILD)/tokens
 	CC="$(CC)" CXX="$(CXX)" sh tests/install.sh
 	sh tests/examples.sh $(BUILD)
@@ -128,7 +136,7 @@ uninstall:
 
 TEEM = $(shell printf '\043include <teem/nrrd.h>\n' | $(CC) -E -x c - > /dev/null 2>&1 && echo $(BUILD)/teem)
 
-$(BUILD)/bench: bench/bench.c bench/peers.c bench/peers.h bench/timing.h tests/model.c tests/model.h include/craneholt.h $(ARCHIVE)
+$(BUILD)/bench: bench/bench.c bench/peers.c bench/peers.h bench/timing.h tests/model.c tests/model.h tests/calls.h include/craneholt.h $(ARCHIVE)
 	@mkdir -p $(BUILD)
 	$(CC) $(STRICT) -O3 -Iinclude bench/bench.c bench/peers.c tests/model.c $(ARCHIVE) -o $@
 

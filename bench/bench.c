@@ -2,6 +2,7 @@
  * microseconds and the ratio ours / peer: below 1 ours is faster. Both results of decoding and of writing are compared first.
  * `make bench` builds and runs it; `make bench ONLY=hex` has the tables with that word in their names only. */
 #define _POSIX_C_SOURCE 200809L
+#include "../tests/calls.h"
 #include "../tests/model.h"
 #include "craneholt.h"
 #include "peers.h"
@@ -210,21 +211,53 @@ static size_t peer_header(void *on)
     return model_read_header(b->file, b->length).reading.lines;
 }
 
-/* Headers with so many lines of each kind: what is needed, keys, orientation. */
+enum { DECIMALS = CRANEHOLT_MAX_AXES * CRANEHOLT_MAX_SPACE };
+
+/* The vectors of the header decoded: how many components they have. */
+static size_t vectors(const struct calls *calls, const bench *b)
+{
+    craneholt_decimal list[DECIMALS];
+    return calls->origin(b->file, b->length, list, sizeof list).count
+           + calls->directions(b->file, b->length, list, sizeof list).count
+           + calls->frame(b->file, b->length, list, sizeof list).count;
+}
+
+static size_t our_vectors(void *on)
+{
+    static const struct calls ours = CALLS(craneholt);
+    return vectors(&ours, (bench *)on);
+}
+
+static size_t peer_vectors(void *on)
+{
+    static const struct calls model = CALLS(model);
+    return vectors(&model, (bench *)on);
+}
+
+/* Headers with so many lines of each kind: what is needed, keys, orientation. The last has all fields of the orientation that can stand
+ * together, with numbers as long as a double's. */
 static void headers(bench *b)
 {
-    static const char needed[] = "NRRD0004\ntype: unsigned short\ndimension: 2\nsizes: 640 480\nencoding: raw\nendian: little\n";
+    static const char needed[] = "type: unsigned short\ndimension: 2\nsizes: 640 480\nencoding: raw\nendian: little\n";
     static const char keys[] = "# sweep\nutc offset:=36\nutc offset:=37\nhead:=left\n";
     static const char space[] = "space: right-anterior-superior\nspace directions: (1,0,0) (0,1,0)\nspace origin: (0,0,0)\n"
                                 "kinds: domain domain\nunits: \"mm\" \"mm\"\ncenters: cell cell\n";
+    static const char pose[] = "space: left-posterior-superior\nspace origin: (-112.34567890123457,98.765432109876543,-0.00123)\n"
+                               "space directions: (0.99984769515639127,-0.017452406437283512,0) (0.0174524064,0.99984769,1e-05)\n"
+                               "measurement frame: (1,0,0) (0,0.70710678118654757,-0.70710678118654757) (0,0.70710678,0.70710678)\n";
     static const struct {
-        const char *name, *more[2];
-    } rows[] = {{"7 lines", {"", ""}}, {"11 lines, 3 keys", {keys, ""}}, {"17 lines, orientation", {keys, space}}};
+        const char *name, *magic, *more[2];
+        job *ours, *peer;
+    } rows[] = {{"7 lines", "NRRD0004", {"", ""}, our_header, peer_header},
+                {"11 lines, 3 keys", "NRRD0004", {keys, ""}, our_header, peer_header},
+                {"17 lines, orientation", "NRRD0004", {keys, space}, our_header, peer_header},
+                {"11 lines, all orientation", "NRRD0005", {pose, ""}, our_header, peer_header},
+                {"its vectors decoded, 3 calls", "NRRD0005", {pose, ""}, our_vectors, peer_vectors}};
     heading("headers", "C");
     for (size_t i = 0; i < sizeof rows / sizeof rows[0]; i++) {
-        b->length = (size_t)sprintf((char *)b->file, "%s%s%s\n", needed, rows[i].more[0], rows[i].more[1]);
-        must_hold(our_header(b) == peer_header(b), rows[i].name);
-        compare(rows[i].name, our_header, peer_header, b, 1);
+        b->length = (size_t)sprintf((char *)b->file, "%s\n%s%s%s\n", rows[i].magic, needed, rows[i].more[0], rows[i].more[1]);
+        must_hold(rows[i].ours(b) == rows[i].peer(b), rows[i].name);
+        compare(rows[i].name, rows[i].ours, rows[i].peer, b, 1);
     }
 }
 

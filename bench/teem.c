@@ -1,4 +1,4 @@
-/* Reading beside libteem, the format's first library: headers of three kinds, and raw data. libteem reads from memory by
+/* Reading beside libteem, the format's first library: headers of four kinds, and raw data. libteem reads from memory by
  * fmemopen. `make bench` runs it if libteem is installed. */
 #define _POSIX_C_SOURCE 200809L
 #include <teem/nrrd.h>
@@ -22,6 +22,17 @@ static size_t our_header(void *on)
 {
     volume *v = (volume *)on;
     return craneholt_read(v->file, v->length, table, sizeof table).reading.lines;
+}
+
+/* the header, and the vectors of its orientation, which libteem decodes with the header: one reading each */
+static size_t our_vectors(void *on)
+{
+    volume *v = (volume *)on;
+    craneholt_decimal list[CRANEHOLT_MAX_AXES * CRANEHOLT_MAX_SPACE];
+    size_t decoded = craneholt_origin(v->file, v->length, list, sizeof list).count;
+    decoded += craneholt_directions(v->file, v->length, list, sizeof list).count;
+    decoded += craneholt_frame(v->file, v->length, list, sizeof list).count;
+    return our_header(on) * decoded;
 }
 
 static Nrrd *teem_read(volume *v, int header_only)
@@ -95,6 +106,19 @@ static void make_header(volume *v, int lines, int value)
     v->length = (size_t)(to + 8 - (char *)v->file);
 }
 
+/* A header with all fields of the orientation that can stand together. */
+static void make_pose(volume *v)
+{
+    static const char header[] =
+        "NRRD0005\ntype: uint16\ndimension: 2\nspace: left-posterior-superior\nsizes: 2 2\n"
+        "space directions: (0.99984769515639127,-0.017452406437283512,0) (0.0174524064,0.99984769,1e-05)\n"
+        "endian: little\nencoding: raw\nspace origin: (-112.34567890123457,98.765432109876543,-0.00123)\n"
+        "measurement frame: (1,0,0) (0,0.70710678118654757,-0.70710678118654757) (0,0.70710678,0.70710678)\n\n";
+    v->length = sizeof header - 1 + 8;
+    memcpy(v->file, header, sizeof header - 1);
+    memset(v->file + sizeof header - 1, 1, 8);
+}
+
 static void make_volume(volume *v)
 {
     char *to = (char *)v->file;
@@ -117,6 +141,9 @@ int main(void)
     compare("1,000 lines", our_header, teem_header, &v, 1);
     make_header(&v, 900, 54);
     compare("900 lines, 60 KB", our_header, teem_header, &v, 1);
+    make_pose(&v);
+    compare("11 lines, all orientation", our_header, teem_header, &v, 1);
+    compare("the same, vectors decoded", our_vectors, teem_header, &v, 1);
 
     heading("4 MB of raw uint16 beside libteem", "libteem");
     make_volume(&v);

@@ -1,20 +1,21 @@
 /* craneholt.h: NRRD files from C. Every call below is proved to answer as the rules say, on every input.
  *
  * It reads headers of versions 1 to 5, with their data in the same file (attached) or in a second one (detached), finds the
- * data and decodes integer samples (raw, text, hex). It writes attached files. It corrects the value of a key in place.
+ * data and decodes integer samples (raw, text, hex). It tells how the array lies in space, in exact decimals. It writes
+ * attached files, and headers that say how an array lies in space. It corrects the value of a key in place.
  *
  * How the calls work
  * - A call takes bytes and numbers and answers numbers, by value. It allocates nothing, keeps nothing, opens no file, and
- *   uses a few kilobytes of stack whatever the input. Calls on separate buffers may run in separate threads.
+ *   uses a few kilobytes of stack whatever the input, craneholt_write_header about 20. Calls on separate buffers may run in separate threads.
  * - There is no wrong input: whatever is lent, the call ends and answers. A pointer may be NULL if its length is 0. What
  *   has to be true is that the lengths are those of the memory lent, and that memory that a call writes overlaps nothing
  *   else lent to it.
  * - Every answer starts with a refusal. Number 0: nothing is refused. Otherwise the number says why, the line where (0 if no
  *   line is meant), and NOTHING that was lent has changed; the other numbers of the answer are 0 (a refused
  *   setting answers the length and the count that it was lent).
- * - Lengths are in bytes. In a table an entry is 4 bytes; samples, sizes and coordinates are 8 bytes each; the low byte
- *   first. On the machines that the archive is made for these are arrays of uint32_t, int64_t and uint64_t: lend `list,
- *   sizeof list`. A rest too short for an entry or a number is not used and not changed.
+ * - Lengths are in bytes. In a table an entry is 4 bytes; samples, sizes and coordinates are 8 bytes each, a decimal is 16;
+ *   the low byte first. On the machines that the archive is made for these are arrays of uint32_t, int64_t, uint64_t and
+ *   craneholt_decimal: lend `list, sizeof list`. A rest too short for an entry or a number is not used and not changed.
  *
  * A file is lent whole: the header and what follows it. A detached header's data is in a second file, which the calls for
  * data take as well; for an attached header lend NULL, 0 there (it is not looked at).
@@ -34,7 +35,7 @@
 extern "C" {
 #endif
 
-#define CRANEHOLT_VERSION "1.1"
+#define CRANEHOLT_VERSION "1.2"
 
 /* ---- Limits ---- */
 
@@ -42,10 +43,12 @@ extern "C" {
 #define CRANEHOLT_MAX_HEADER 65535       /* bytes of a header, its closing line included */
 #define CRANEHOLT_MAX_LINES  1024        /* lines of a header: a table of so many entries is always enough */
 #define CRANEHOLT_MAX_AXES   16
+#define CRANEHOLT_MAX_SPACE  8           /* the largest dimension of a space */
 #define CRANEHOLT_MAX_LISTED 65536       /* bytes of a file that craneholt_listing takes */
 #define CRANEHOLT_MAX_LISTING 70111      /* bytes of a listing: so much room is always enough */
 #define CRANEHOLT_HEADER_ROOM 512        /* bytes for a written file, with CRANEHOLT_SAMPLE_ROOM for each sample: */
 #define CRANEHOLT_SAMPLE_ROOM 22         /* so much room is always enough */
+#define CRANEHOLT_ORIENTED_ROOM 8192     /* bytes for what craneholt_write_header writes: so much room is always enough */
 
 /* ---- Refusals ---- */
 
@@ -59,7 +62,8 @@ enum craneholt_refusal_number {
     CRANEHOLT_NO_MARK          = 6,  /* a line has neither ": " nor ":=", or its key is empty */
     CRANEHOLT_UNKNOWN_FIELD    = 7,  /* no field has this name */
     CRANEHOLT_NOT_IN_VERSION   = 8,  /* this version has no such field, or no key pairs */
-    CRANEHOLT_REPEATED_FIELD   = 9,  /* the field was given before, in either spelling */
+    CRANEHOLT_REPEATED_FIELD   = 9,  /* the field was given before, in either spelling; or it is space after space
+                                        dimension, or space dimension after space */
     CRANEHOLT_OUT_OF_ORDER     = 10, /* a per-axis field before dimension, or space units, space origin, space
                                         directions or measurement frame before space and space dimension */
     CRANEHOLT_BAD_DESCRIPTOR   = 11, /* the field may not say this; with line 0: a byte skip of -1 with text or hex;
@@ -82,8 +86,8 @@ enum craneholt_refusal_number {
     CRANEHOLT_WRONG_COUNT      = 27  /* writer: there are not as many samples as the sizes ask for */
 };
 
-/* The line is that of the header (from 1) for the numbers 2 to 12 of a reading, else 0. It is 0 also for the 11 of a byte skip
- * of -1 with text or hex. */
+/* The line is that of the header (from 1) for the numbers 2 to 12 of a reading, or of the reading that craneholt_write_header
+ * makes of its text, else 0. It is 0 also for the 11 of a byte skip of -1 with text or hex. */
 typedef struct craneholt_refusal {
     uint32_t number;
     uint32_t line;
@@ -102,6 +106,15 @@ enum { CRANEHOLT_RAW, CRANEHOLT_TEXT, CRANEHOLT_HEX };
 
 enum { CRANEHOLT_LITTLE, CRANEHOLT_BIG, CRANEHOLT_NO_ENDIAN };
 
+/* The spaces that have a name. Their dimension is 4 with time, else 3. */
+enum {
+    CRANEHOLT_RIGHT_ANTERIOR_SUPERIOR, CRANEHOLT_LEFT_ANTERIOR_SUPERIOR, CRANEHOLT_LEFT_POSTERIOR_SUPERIOR,
+    CRANEHOLT_RIGHT_ANTERIOR_SUPERIOR_TIME, CRANEHOLT_LEFT_ANTERIOR_SUPERIOR_TIME, CRANEHOLT_LEFT_POSTERIOR_SUPERIOR_TIME,
+    CRANEHOLT_SCANNER_XYZ, CRANEHOLT_SCANNER_XYZ_TIME,
+    CRANEHOLT_3D_RIGHT_HANDED, CRANEHOLT_3D_LEFT_HANDED, CRANEHOLT_3D_RIGHT_HANDED_TIME, CRANEHOLT_3D_LEFT_HANDED_TIME,
+    CRANEHOLT_NO_SPACE
+};
+
 typedef struct craneholt_reading {
     uint32_t version;    /* 1 to 5 */
     uint32_t form;       /* CRANEHOLT_ATTACHED or CRANEHOLT_DETACHED */
@@ -116,6 +129,12 @@ typedef struct craneholt_reading {
     uint64_t length;     /* bytes of the header, its closing empty line included */
     uint32_t lines;      /* lines of the header, its closing empty line included */
     uint8_t fromend;     /* 1: the byte skip is -1, so that the data is the last bytes of its file; else 0 */
+    uint8_t origin;      /* 1: space origin is given: craneholt_origin; else 0 */
+    uint8_t directions;  /* 1: space directions is given: craneholt_directions; else 0 */
+    uint8_t frame;       /* 1: measurement frame is given: craneholt_frame; else 0 */
+    uint32_t space;      /* CRANEHOLT_RIGHT_ANTERIOR_SUPERIOR to CRANEHOLT_3D_LEFT_HANDED_TIME, or CRANEHOLT_NO_SPACE where
+                            the field space is not given */
+    uint32_t spacedimension; /* 1 to 8, by the space's name or by space dimension; 0 where neither is given */
 } craneholt_reading;
 
 typedef struct craneholt_read_answer {
@@ -153,8 +172,8 @@ typedef struct craneholt_find_answer {
 } craneholt_find_answer;
 
 /* The descriptor of a field, without spaces and tabs at its end; in the understood fields, which are dimension, type, encoding,
- * endian, sizes, line skip, byte skip and data file, also without those at its start. A number past the last field is answered
- * as not found. Refuses 1 to 15. */
+ * endian, sizes, line skip, byte skip, data file, space, space dimension, space origin, space directions and measurement frame,
+ * also without those at its start. A number past the last field is answered as not found. Refuses 1 to 15. */
 craneholt_find_answer craneholt_find_field(const uint8_t *file, size_t file_length, uint32_t field);
 
 /* The text of a key's value as it stands in the file: in the last line with the key, LF as "\n" and backslash as "\\".
@@ -191,7 +210,7 @@ craneholt_data_answer craneholt_data(const uint8_t *file, size_t file_length,
 
 typedef struct craneholt_count_answer {
     craneholt_refusal refusal;
-    uint64_t count; /* of samples: the product of the sizes */
+    uint64_t count; /* of samples: the product of the sizes; of decimals */
 } craneholt_count_answer;
 
 /* All samples, axis 0 fastest, to the front of `list`; what is past them stays. Refuses as craneholt_data, with 19 before 16,
@@ -214,6 +233,46 @@ typedef struct craneholt_number_answer {
 craneholt_number_answer craneholt_sample_number(const uint8_t *file, size_t file_length,
                                                 const void *coords, size_t coords_length);
 
+/* ---- Orientation ----
+ *
+ * A header says how its array lies in space by a space or a space dimension, which have to come before the others, and by
+ * vectors: `space origin: (0.0,1.0,0.3)`, `space directions: none (1,0,0) (0,1,0) (0,0,3)`, `measurement frame:` with as many
+ * vectors as the space has dimensions. A vector is in round brackets, its components parted by commas, with spaces and tabs
+ * beside them as one likes; at least one blank stands between two vectors. A component is a decimal as strtod takes it, or nan,
+ * inf or infinity with a sign or none, in any case; no hex, and no brackets after nan. */
+
+enum { CRANEHOLT_NUMBER = 0, CRANEHOLT_NAN = 1, CRANEHOLT_INF = 2, CRANEHOLT_MINUS_INF = 3, CRANEHOLT_NONE = 4 };
+
+/* A component of a vector, exactly as the header has it. Of the kind CRANEHOLT_NUMBER it is `number` times ten to the `power`:
+ * the number has the digits that are written, zeros in front not counted and at most 18; the point is folded into the power,
+ * which is then from -400 to 400. So `-1.50` is -150 and -2, `1e3` is 1 and 3, `0.0` is 0 and -1; minus zero is zero. With the other
+ * kinds, for `nan`, `inf` and `-inf`, number and power are 0. A component that has more digits or another power is refused, so
+ * nothing is rounded. The nearest double is what strtod makes of this text, which is the same in every locale:
+ *
+ *     char text[32];
+ *     snprintf(text, sizeof text, "%llde%d", (long long)d.number, (int)d.power);
+ *     double x = strtod(text, NULL);
+ */
+typedef struct craneholt_decimal {
+    int64_t number;
+    int32_t power;
+    uint32_t kind; /* CRANEHOLT_NUMBER to CRANEHOLT_MINUS_INF; CRANEHOLT_NONE only where it is named below */
+} craneholt_decimal;
+
+/* Space origin: its components, `reading.spacedimension` decimals, to the front of `list`; what is past them stays. The count
+ * is 0 where the field is not given. Refuses 1 to 15, 22. CRANEHOLT_MAX_SPACE decimals are always enough. */
+craneholt_count_answer craneholt_origin(const uint8_t *file, size_t file_length, void *list, size_t list_length);
+
+/* Space directions in the same way: for each axis, axis 0 first, `reading.spacedimension` decimals. Of an axis that has no
+ * direction, `none` in the header, the first decimal is of the kind CRANEHOLT_NONE, and all else of them is 0.
+ * CRANEHOLT_MAX_AXES times CRANEHOLT_MAX_SPACE decimals are always enough. */
+craneholt_count_answer craneholt_directions(const uint8_t *file, size_t file_length, void *list, size_t list_length);
+
+/* Measurement frame in the same way: a square matrix, column after column, each of `reading.spacedimension` decimals. What
+ * stands in row j of column i is list[i * reading.spacedimension + j]. CRANEHOLT_MAX_SPACE times CRANEHOLT_MAX_SPACE decimals
+ * are always enough. */
+craneholt_count_answer craneholt_frame(const uint8_t *file, size_t file_length, void *list, size_t list_length);
+
 /* ---- Writing ---- */
 
 typedef struct craneholt_write_answer {
@@ -230,6 +289,48 @@ craneholt_write_answer craneholt_write(uint64_t version, const void *sizes, size
                                        uint64_t sampletype, uint64_t encoding, uint64_t endian,
                                        const void *samples, size_t samples_length,
                                        uint8_t *out, size_t out_length);
+
+/* What craneholt_write_header is given of the orientation: lend `&o, sizeof o`. The three counts have to be in their bounds; all
+ * else of a field that is not given, and decimals past the counts, may be anything, but for the first decimal of a direction: of
+ * the kind CRANEHOLT_NONE it says that the axis has none, whatever the count of components. Vectors are CRANEHOLT_MAX_SPACE
+ * decimals apart here, and `reading.spacedimension` apart in the lists of the calls above: copy them one by one,
+ *
+ *     for (uint32_t i = 0; i < reading.dimension; i++)
+ *         memcpy(o.directions[i], list + i * reading.spacedimension, reading.spacedimension * sizeof *list);
+ */
+enum {
+    CRANEHOLT_GIVES_SPACE = 1, CRANEHOLT_GIVES_SPACE_DIMENSION = 2, CRANEHOLT_GIVES_ORIGIN = 4,
+    CRANEHOLT_GIVES_DIRECTIONS = 8, CRANEHOLT_GIVES_FRAME = 16
+};
+
+typedef struct craneholt_orientation {
+    uint64_t space;          /* CRANEHOLT_RIGHT_ANTERIOR_SUPERIOR to CRANEHOLT_3D_LEFT_HANDED_TIME */
+    uint64_t spacedimension;
+    uint32_t given;          /* which are: the sum of CRANEHOLT_GIVES_SPACE to CRANEHOLT_GIVES_FRAME */
+    uint32_t components;     /* of each vector, at most 8; a vector ends earlier at a decimal of the kind CRANEHOLT_NONE */
+    uint32_t axes;           /* how many directions, at most 16 */
+    uint32_t columns;        /* how many columns of the frame, at most 8 */
+    craneholt_decimal origin[CRANEHOLT_MAX_SPACE];
+    craneholt_decimal directions[CRANEHOLT_MAX_AXES][CRANEHOLT_MAX_SPACE]; /* CRANEHOLT_NONE as an axis' first: it has none */
+    craneholt_decimal frame[CRANEHOLT_MAX_SPACE][CRANEHOLT_MAX_SPACE];     /* columns first */
+} craneholt_orientation;
+
+/* The header that craneholt_write writes, with a line for each field given in the craneholt_orientation before its empty line,
+ * to the front of `out`; the bytes past it stay. Lend NULL, 0 as orientation to give none. Float and double can be written too.
+ * Refuses, in this order:
+ * - 11 with line 0 as craneholt_write; also for a space given by a number past the last, for more components, axes or columns
+ *   than there can be, for any other bit in `given`, and for an orientation of another length than 0 and its own;
+ * - 8 with line 0 for a field that is not in the version;
+ * - what craneholt_read_header refuses of the text, with the line there: 9 for both space and space dimension, 10 for vectors
+ *   without either, 11 for a number of 19 digits, a power above 400 or below -400, a wrong number of vectors or components, a
+ *   space dimension that is not 1 to 8, a component of an unknown kind, a size above 4294967295; 15;
+ * - 22. CRANEHOLT_ORIENTED_ROOM bytes are always enough.
+ * What is written is read back by the calls above as it was given: all of it up to a CRANEHOLT_NONE, with number and power 0
+ * beside nan and the infinities, and the endian where it is needed. */
+craneholt_write_answer craneholt_write_header(uint64_t version, const void *sizes, size_t sizes_length,
+                                              uint64_t sampletype, uint64_t encoding, uint64_t endian,
+                                              const void *orientation, size_t orientation_length,
+                                              uint8_t *out, size_t out_length);
 
 /* ---- Setting a key ---- */
 
@@ -277,7 +378,7 @@ static inline const char *craneholt_sentence(uint32_t number)
     case CRANEHOLT_NO_MARK:          return "the line has neither ': ' nor ':=', or its key is empty";
     case CRANEHOLT_UNKNOWN_FIELD:    return "no field has this name";
     case CRANEHOLT_NOT_IN_VERSION:   return "this version of the format has no such field, or no key pairs";
-    case CRANEHOLT_REPEATED_FIELD:   return "the field was given before";
+    case CRANEHOLT_REPEATED_FIELD:   return "the field was given before, or space and space dimension are both given";
     case CRANEHOLT_OUT_OF_ORDER:     return "the field comes before the one that it needs (dimension; space or space dimension)";
     case CRANEHOLT_BAD_DESCRIPTOR:   return "the field cannot have this value, or a byte skip of -1 stands with text or hex";
     case CRANEHOLT_BAD_BACKSLASH:    return "a backslash is followed neither by 'n' nor by a backslash";

@@ -16,6 +16,11 @@ struct calls {
     craneholt_number_answer (*sample_number)(const uint8_t *, size_t, const void *, size_t);
     craneholt_write_answer (*write)(uint64_t, const void *, size_t, uint64_t, uint64_t, uint64_t,
                                     const void *, size_t, uint8_t *, size_t);
+    craneholt_count_answer (*origin)(const uint8_t *, size_t, void *, size_t);
+    craneholt_count_answer (*directions)(const uint8_t *, size_t, void *, size_t);
+    craneholt_count_answer (*frame)(const uint8_t *, size_t, void *, size_t);
+    craneholt_write_answer (*write_header)(uint64_t, const void *, size_t, uint64_t, uint64_t, uint64_t,
+                                           const void *, size_t, uint8_t *, size_t);
     craneholt_set_answer (*set_key)(uint8_t *, size_t, size_t, void *, size_t, size_t,
                                     const uint8_t *, size_t, const uint8_t *, size_t);
     craneholt_write_answer (*listing)(const uint8_t *, size_t, uint8_t *, size_t);
@@ -26,7 +31,45 @@ struct calls {
     {                                                                                       \
         prefix##_read_header, prefix##_read, prefix##_find_field, prefix##_find_key,        \
         prefix##_copy_value, prefix##_data, prefix##_check_samples, prefix##_samples,       \
-        prefix##_sample_number, prefix##_write, prefix##_set_key, prefix##_listing          \
+        prefix##_sample_number, prefix##_write, prefix##_origin, prefix##_directions,       \
+        prefix##_frame, prefix##_write_header, prefix##_set_key, prefix##_listing           \
     }
+
+/* The structs as the archive has them: their sizes, and where members lie. What does not hold does not compile. */
+#define STRUCT_IS(type, bytes) typedef char type##_is_##bytes##_bytes[sizeof(type) == (bytes) ? 1 : -1]
+#define MEMBER_IS(type, member, place) \
+    typedef char type##_##member##_is_at_##place[offsetof(type, member) == (place) ? 1 : -1]
+
+STRUCT_IS(craneholt_refusal, 8);
+STRUCT_IS(craneholt_reading, 200);
+MEMBER_IS(craneholt_reading, sizes, 24);
+MEMBER_IS(craneholt_reading, lineskip, 152);
+MEMBER_IS(craneholt_reading, lines, 184);
+MEMBER_IS(craneholt_reading, fromend, 188);
+MEMBER_IS(craneholt_reading, origin, 189);
+MEMBER_IS(craneholt_reading, directions, 190);
+MEMBER_IS(craneholt_reading, frame, 191);
+MEMBER_IS(craneholt_reading, space, 192);
+MEMBER_IS(craneholt_reading, spacedimension, 196);
+STRUCT_IS(craneholt_read_answer, 208);
+STRUCT_IS(craneholt_find_answer, 32);
+STRUCT_IS(craneholt_value_answer, 24);
+STRUCT_IS(craneholt_data_answer, 32);
+STRUCT_IS(craneholt_count_answer, 16);
+STRUCT_IS(craneholt_number_answer, 16);
+STRUCT_IS(craneholt_write_answer, 16);
+STRUCT_IS(craneholt_set_answer, 24);
+STRUCT_IS(craneholt_decimal, 16);
+MEMBER_IS(craneholt_decimal, power, 8);
+MEMBER_IS(craneholt_decimal, kind, 12);
+STRUCT_IS(craneholt_orientation, 3232);
+MEMBER_IS(craneholt_orientation, spacedimension, 8);
+MEMBER_IS(craneholt_orientation, given, 16);
+MEMBER_IS(craneholt_orientation, components, 20);
+MEMBER_IS(craneholt_orientation, axes, 24);
+MEMBER_IS(craneholt_orientation, columns, 28);
+MEMBER_IS(craneholt_orientation, origin, 32);
+MEMBER_IS(craneholt_orientation, directions, 160);
+MEMBER_IS(craneholt_orientation, frame, 2208);
 
 #endif

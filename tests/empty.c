@@ -28,6 +28,12 @@ int main(void)
     expect("sample_number", craneholt_sample_number(NULL, 0, NULL, 0).refusal, CRANEHOLT_NO_MAGIC, 1);
     expect("write", craneholt_write(4, NULL, 0, CRANEHOLT_INT8, CRANEHOLT_RAW, CRANEHOLT_LITTLE, NULL, 0, NULL, 0).refusal,
            CRANEHOLT_BAD_DESCRIPTOR, 0);
+    expect("origin", craneholt_origin(NULL, 0, NULL, 0).refusal, CRANEHOLT_NO_MAGIC, 1);
+    expect("directions", craneholt_directions(NULL, 0, NULL, 0).refusal, CRANEHOLT_NO_MAGIC, 1);
+    expect("frame", craneholt_frame(NULL, 0, NULL, 0).refusal, CRANEHOLT_NO_MAGIC, 1);
+    expect("write_header",
+           craneholt_write_header(4, NULL, 0, CRANEHOLT_FLOAT, CRANEHOLT_RAW, CRANEHOLT_LITTLE, NULL, 0, NULL, 0).refusal,
+           CRANEHOLT_BAD_DESCRIPTOR, 0);
     expect("set_key", craneholt_set_key(NULL, 0, 0, NULL, 0, 0, NULL, 0, NULL, 0).refusal, CRANEHOLT_NO_MAGIC, 1);
     expect("set_key past the buffer", craneholt_set_key(NULL, 0, SIZE_MAX, NULL, 0, SIZE_MAX, NULL, 0, NULL, 0).refusal,
            CRANEHOLT_LENT_TOO_SHORT, 0);

@@ -59,4 +59,15 @@ chmod 640 sweep.nrrd
 "$build/correct" sweep.nrrd 37 > /dev/null
 expect "mode kept" "-rw-r-----" "$(ls -l sweep.nrrd | cut -c1-10)"
 
+# section 4's own example
+expect "poses" \
+'origin: 0 1 0.29999999999999999
+axis 0: none
+axis 1: 1 0 0
+axis 2: 0 1 0
+axis 3: 0 0 3
+last sample: 1 2 3.2999999999999998' \
+    "$("$build/poses" poses.nrrd)"
+expect "no pose" "sweep.nrrd: has no space origin, or no space directions" "$("$build/poses" sweep.nrrd 2>&1 || true)"
+
 echo "examples: $passed passed, 0 failed"

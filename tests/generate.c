@@ -6,7 +6,10 @@
 #include <string.h>
 
 enum { RAW, TEXT, HEX };
-enum { DIMENSION, TYPE, ENCODING, ENDIAN, SIZES, LINE_SKIP, BYTE_SKIP, DATA_FILE, SPACE = 16, SPACE_DIMENSION };
+enum {
+    DIMENSION, TYPE, ENCODING, ENDIAN, SIZES, LINE_SKIP, BYTE_SKIP, DATA_FILE,
+    SPACE = 16, SPACE_DIMENSION, SPACE_UNITS, SPACE_ORIGIN, SPACE_DIRECTIONS, MEASUREMENT_FRAME
+};
 
 #define COUNT(list) (sizeof(list) / sizeof(list)[0])
 
@@ -82,12 +85,17 @@ static void put_any(struct bytes *b, const char *alphabet, size_t length)
         put_byte(b, (uint8_t)alphabet[random_below(size)]);
 }
 
-/* A word in small letters, capitals, or both. */
+static int is_letter(char c)
+{
+    return (c >= 'a' && c <= 'z') || (c >= 'A' && c <= 'Z');
+}
+
+/* A word as it is, with small letters and capitals exchanged, or with some of them. */
 static void put_word(struct bytes *b, const char *word)
 {
-    unsigned capitals = random_chance(70) ? 0 : random_chance(50) ? 100 : 50;
+    unsigned exchanged = random_chance(70) ? 0 : random_chance(50) ? 100 : 50;
     for (; *word != '\0'; word++)
-        put_byte(b, (uint8_t)(*word >= 'a' && *word <= 'z' && random_chance(capitals) ? *word - 32 : *word));
+        put_byte(b, (uint8_t)(is_letter(*word) && random_chance(exchanged) ? *word ^ 32 : *word));
 }
 
 static void put_zeros(struct bytes *b)
@@ -157,6 +165,127 @@ static void put_escaped(struct bytes *b, const struct bytes *text)
     }
 }
 
+/* ---- components and vectors */
+
+static void put_sign(struct bytes *b)
+{
+    if (random_chance(35))
+        put_byte(b, random_chance(70) ? '-' : '+');
+}
+
+/* Zeros, then so many digits of which the first is not 0, with a point at any place or without one; how many digits
+ * follow the point. */
+static size_t put_digits(struct bytes *b, size_t zeros, size_t counted)
+{
+    size_t digits = zeros + counted, point = random_chance(40) ? digits + 1 : random_below(digits + 1);
+    for (size_t i = 0; i <= digits; i++) {
+        if (i == point)
+            put_byte(b, '.');
+        if (i < zeros)
+            put_byte(b, '0');
+        else if (i < digits)
+            put_byte(b, (uint8_t)('0' + (i == zeros ? 1 + random_below(9) : random_below(10))));
+    }
+    return point < digits ? digits - point : 0;
+}
+
+/* A power, near nothing or near the limits. */
+static int64_t make_power(void)
+{
+    if (random_chance(60))
+        return (int64_t)random_below(9) - 4;
+    if (random_chance(60))
+        return (int64_t)random_below(801) - 400;
+    return random_chance(50) ? 400 - (int64_t)random_below(2) : (int64_t)random_below(2) - 400;
+}
+
+/* Nothing, or an exponent. */
+static void put_exponent(struct bytes *b, int64_t exponent)
+{
+    if (exponent == 0 && random_chance(80))
+        return;
+    put_byte(b, random_chance(80) ? 'e' : 'E');
+    if (exponent < 0 || random_chance(20))
+        put_byte(b, exponent < 0 ? '-' : '+');
+    put_zeros(b);
+    put_decimal(b, (uint64_t)(exponent < 0 ? -exponent : exponent));
+}
+
+/* Eighteen digits at most, and a power that is in range once the point is folded in; a fault passes one of the limits by
+ * a little. */
+static void put_numeral(struct bytes *b, int fault)
+{
+    size_t zeros = random_chance(15) ? random_below(25) : 0, counted = random_below(random_chance(80) ? 7 : 19);
+    int64_t power = make_power(), past = 401 + (int64_t)random_below(3);
+    if (fault && random_chance(50))
+        counted = 19 + random_below(3);
+    else if (fault)
+        power = random_chance(50) ? past : -past;
+    if (zeros + counted == 0)
+        zeros = 1;
+    put_exponent(b, power + (int64_t)put_digits(b, zeros, counted));
+}
+
+void put_component(struct bytes *b, unsigned faults)
+{
+    static const char *const words[] = {"nan", "inf", "infinity"};
+    static const char *const zeros[] = {"0", "0.00", ".0", "0.", "000", "0e400", "0e-400", "0.0e-399", "00.e-1"};
+    static const char *const bad[] = {"", ".", "e5", "1e", "1e+", "1.2.3", "0x1", "0x", "--1", "+", "infinit", "xnan",
+                                      "none", "1e5.", "1e1e1", "0e401", "0.0e-400", "1e99999999999999999999",
+                                      "1e-4294967296", "1000000000000000000", "1.000000000000000000", "1f", "nano",
+                                      "i", "1e 5", "1:2"};
+    int fault = random_chance(faults);
+    if (fault && random_chance(60)) {
+        put_text(b, bad[random_below(COUNT(bad))]);
+        return;
+    }
+    put_sign(b);
+    if (!fault && random_chance(8))
+        put_word(b, words[random_below(COUNT(words))]);
+    else if (!fault && random_chance(15))
+        put_text(b, zeros[random_below(COUNT(zeros))]);
+    else
+        put_numeral(b, fault);
+}
+
+static void put_blanks(struct bytes *b, unsigned percent)
+{
+    if (random_chance(percent))
+        put_any(b, " \t", 1 + random_below(3));
+}
+
+/* With faults in a hundred: another number of components, a missing or another bracket. */
+static void put_vector(struct bytes *b, size_t components, unsigned faults)
+{
+    size_t count = random_chance(faults) ? random_below(components + 3) : components;
+    if (!random_chance(faults / 4))
+        put_byte(b, random_chance(faults / 4) ? '[' : '(');
+    for (size_t i = 0; i < count; i++) {
+        if (i > 0)
+            put_byte(b, random_chance(faults / 8) ? ' ' : ',');
+        put_blanks(b, 8);
+        put_component(b, faults);
+        put_blanks(b, 8);
+    }
+    if (!random_chance(faults / 4))
+        put_byte(b, ')');
+}
+
+/* Vectors, or by nones in a hundred none; with faults also another number of them, or no blank between two. */
+static void put_vectors(struct bytes *b, size_t count, size_t components, unsigned nones, unsigned faults)
+{
+    if (random_chance(faults))
+        count = random_below(count + 3);
+    for (size_t i = 0; i < count; i++) {
+        if (i > 0 && !random_chance(faults / 2))
+            put_any(b, " \t", random_chance(80) ? 1 : 3);
+        if (random_chance(nones))
+            put_word(b, "none");
+        else
+            put_vector(b, components, faults);
+    }
+}
+
 /* ---- samples */
 
 uint64_t make_sample(uint64_t type)
@@ -195,12 +324,6 @@ static void put_ending(struct maker *m)
     put_byte(&m->v->file, '\n');
 }
 
-static void put_blanks(struct bytes *b, unsigned percent)
-{
-    if (random_chance(percent))
-        put_any(b, " \t", 1 + random_below(3));
-}
-
 /* Lines that are refused in most headers, by 5 to 12. */
 static const char *const bad_lines[] = {
     "foo: bar", "dimension:2", ":=x", ": x", "a\\q:=b", "key:=\\", "k\\:=v", "k:=\\N", "type : int8",
@@ -216,7 +339,10 @@ static const char *const bad_lines[] = {
     "data file: LIST\t2", "data file: list", "data file: LISTs", "data file: a%d.raw 1 2 1",
     "data file: %", "data file: ", "datafile:  \t", "kinds: x", "measurement frame: (1)", "thicknesses: 1",
     "sample units: m", "space: left", "space directions: (1)", "space origin: 0", "space units: \"m\"",
-    "units: x", "space: left\nspace directions: (1)", "a:=b: c", "a: b:=c", "NRRD0004", " ", "\t", " # no comment",
+    "units: x", "space: left\nspace directions: (1)", "space: RAS\nspace dimension: 3", "space: RAS\nspace origin: (1,2)",
+    "space dimension: 3\nspace: LPS", "space dimension: 0", "space dimension: 9", "space dimension: 3 3", "space: 3D",
+    "space dimension: 2\nspace origin: (1,2) (1,2)", "space: ", "space dimension:  ", "a:=b: c", "a: b:=c", "NRRD0004",
+    " ", "\t", " # no comment",
 };
 
 static void put_bad_line(struct maker *m)
@@ -280,6 +406,31 @@ static void put_from_end(struct bytes *b)
     put_text(b, random_chance(95) ? "-1" : bad[random_below(COUNT(bad))]);
 }
 
+/* The space by name, or its dimension, which is the dimension of the vectors after it. */
+static void put_space(struct volume *v, int field)
+{
+    const struct model_space *space = &model_spaces[random_below(MODEL_SPACES)];
+    if (field == SPACE) {
+        v->space = space->dimension;
+        put_word(&v->file, space->names[1] != NULL && random_chance(50) ? space->names[1] : space->names[0]);
+        return;
+    }
+    v->space = random_chance(80) ? 1 + random_below(4) : random_below(random_chance(90) ? 9 : 11);
+    put_zeros(&v->file);
+    put_decimal(&v->file, v->space);
+}
+
+/* Nine in ten are right. */
+static void put_orientation(struct volume *v, int field)
+{
+    unsigned faults = random_chance(90) ? 0 : 10;
+    size_t components = v->space > 0 ? v->space : 3;
+    if (field == SPACE_DIRECTIONS)
+        put_vectors(&v->file, v->dimension, components, 25, faults);
+    else
+        put_vectors(&v->file, field == SPACE_ORIGIN ? 1 : components, components, faults, faults);
+}
+
 static void put_descriptor(struct volume *v, int field)
 {
     static const char *const files[] = {"a.raw", "data file.raw", "LISTS", "list", "x: y", "a:=b", "#"};
@@ -309,6 +460,15 @@ static void put_descriptor(struct volume *v, int field)
         }
         put_zeros(&v->file);
         put_decimal(&v->file, number);
+        return;
+    case SPACE:
+    case SPACE_DIMENSION:
+        put_space(v, field);
+        return;
+    case SPACE_ORIGIN:
+    case SPACE_DIRECTIONS:
+    case MEASUREMENT_FRAME:
+        put_orientation(v, field);
         return;
     default:
         put_any(&v->file, "0123456789.,()\"abc :=\\%#\t", random_below(14));
@@ -357,6 +517,10 @@ static void choose_fields(struct maker *m)
     m->wanted[LINE_SKIP] = v->line_skip > 0 || random_chance(5);
     m->wanted[BYTE_SKIP] = v->byte_skip > 0 || v->from_end || random_chance(5);
     m->wanted[DATA_FILE] = v->detached;
+    m->wanted[SPACE] = v->oriented && random_chance(50);
+    m->wanted[SPACE_DIMENSION] = v->oriented && (!m->wanted[SPACE] || random_chance(3));
+    for (int field = SPACE_ORIGIN; field <= MEASUREMENT_FRAME; field++)
+        m->wanted[field] = v->oriented && random_chance(70);
     if (random_chance(3)) /* a needed field missing */
         m->wanted[random_below(SIZES + 1)] = 0;
 }
@@ -598,7 +762,9 @@ static void choose_sizes(struct volume *v)
 static void choose_volume(struct volume *v)
 {
     v->file.length = v->second.length = 0;
-    v->version = random_chance(10) ? 1 : 2 + (uint32_t)random_below(4);
+    v->version = random_chance(70) ? 4 + (uint32_t)random_below(2) : 1 + (uint32_t)random_below(3);
+    v->oriented = v->version >= 4 && random_chance(78);
+    v->space = 0;
     v->type = (uint32_t)random_below(random_chance(90) ? 8 : MODEL_TYPES);
     v->from_end = random_chance(12);
     v->encoding = v->from_end && random_chance(70) ? RAW : (uint32_t)random_below(MODEL_ENCODINGS);

@@ -33,6 +33,8 @@ struct volume {
     uint64_t sizes[16], count; /* count: the wanted samples, when few */
     uint64_t line_skip, byte_skip;
     int from_end; /* the byte skip is -1, and byte_skip 0 */
+    int oriented;  /* some of the five fields of the orientation are given */
+    size_t space;  /* the dimension of the space given last, 0 before */
     struct bytes file, second;
     size_t header; /* the length of the header before damage */
 };
@@ -48,6 +50,10 @@ void make_large_volume(struct volume *v);
  * of the values get near a length, if one is given. */
 void make_key(struct bytes *key);
 void make_value(struct bytes *value, size_t near);
+
+/* A component of a vector: one that is taken, near a limit now and then, or, by faults in a hundred, one that is not.
+ * Without comma and bracket. */
+void put_component(struct bytes *b, unsigned faults);
 
 /* A sample of the type, as two's complement. */
 uint64_t make_sample(uint64_t type);

@@ -108,6 +108,9 @@ static struct json *read_value(const char **at)
     } else if (take(at, '{')) {
         value->kind = JSON_OBJECT;
         read_items(at, value, '}');
+    } else if (strncmp(*at, "null", 4) == 0) {
+        value->kind = JSON_NULL;
+        *at += 4;
     } else {
         value->number = read_number(at);
     }

@@ -1,4 +1,4 @@
-/* A reader of the JSON that the vectors use: objects, lists, strings, whole numbers. */
+/* A reader of the JSON that the vectors use: objects, lists, strings, whole numbers, null. */
 #ifndef JSON_H
 #define JSON_H
 
@@ -6,7 +6,7 @@
 
 struct json {
     char *name;                /* of a member of an object */
-    enum { JSON_NUMBER, JSON_STRING, JSON_LIST, JSON_OBJECT } kind;
+    enum { JSON_NUMBER, JSON_STRING, JSON_LIST, JSON_OBJECT, JSON_NULL } kind;
     uint64_t number;           /* a negative one as two's complement */
     char *text;                /* of a string; a zero byte follows */
     size_t length;             /* of the text, or the number of items */

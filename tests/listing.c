@@ -18,7 +18,7 @@
 static const struct set {
     const char *folder;
     int files, calls;
-} sets[] = {{"tests/vectors", 150, 107}, {"tests/vectors/base", 320, 49}};
+} sets[] = {{"tests/vectors", 150, 78}, {"tests/vectors/w1", 141, 103}, {"tests/vectors/base", 304, 44}};
 
 static const char *program, *work = "build";
 static int passed, failed;
@@ -74,11 +74,11 @@ static int run_file(const char *vectors, int number)
     return there;
 }
 
-/* One past the last too, so that a vector more shows as well. */
+/* Every number of three digits, so that a vector more shows as well; a set that was made earlier has gaps. */
 static int run_files(const struct set *set)
 {
     int files = 0;
-    for (int number = 0; number <= set->files; number++)
+    for (int number = 0; number < 1000; number++)
         files += run_file(set->folder, number);
     return files;
 }

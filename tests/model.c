@@ -1,10 +1,10 @@
 /*
  * A second implementation of every call of craneholt.h, written from the
- * rules of document 01 and of request W1 of document 02 alone, to compare the
- * library with. It is plain and slow on purpose and allocates memory where
- * that is the simplest way. The parts below stand in the order of document
- * 01's sections and cite them; points that the documents leave open are taken
- * as docs/DECISIONS.md says.
+ * rules of document 01 and of requests W1 and W2 of document 02 alone, to
+ * compare the library with. It is plain and slow on purpose and allocates
+ * memory where that is the simplest way. The parts below stand in the order of
+ * document 01's sections and cite them; points that the documents leave open
+ * are taken as docs/DECISIONS.md says.
  */
 #include "model.h"
 
@@ -13,6 +13,9 @@
 
 enum {
     AXES = 16,             /* the largest dimension */
+    SPACE_AXES = 8,        /* the largest dimension of a space (W2) */
+    DIGITS = 18,           /* the most digits of a decimal (W2) */
+    POWER = 400,           /* its largest power, and with a minus its least */
     HEADER_LIMIT = 65535,  /* refusal 3 */
     LINE_LIMIT = 1024,     /* refusal 4 */
     LISTING_LIMIT = 65536  /* bytes of a file that is listed ("Trials") */
@@ -82,7 +85,7 @@ static uint8_t lower(uint8_t byte)
 static int is_word(const uint8_t *text, size_t length, const char *word)
 {
     size_t i = 0;
-    while (i < length && lower(text[i]) == (uint8_t)word[i])
+    while (i < length && lower(text[i]) == lower((uint8_t)word[i]))
         i++;
     return i == length && word[i] == '\0';
 }
@@ -131,11 +134,148 @@ static int read_numbers(const uint8_t *text, size_t length, size_t count,
     return found == count;
 }
 
+/* ---- W2: decimals and vectors */
+
+/* A numeral as it is read: digits without leading zeros, and how many follow the point. */
+struct numeral {
+    int64_t number;
+    size_t digits, counted, after_point; /* all digits; those that count; those after the point */
+};
+
+/* The digits at a place of a text; the next place. More than DIGITS of them are counted but not kept. */
+static size_t take_digits(const uint8_t *text, size_t length, size_t at, struct numeral *n)
+{
+    for (; at < length && is_digit(text[at]); at++) {
+        n->digits++;
+        n->counted += n->counted > 0 || text[at] != '0';
+        if (n->counted <= DIGITS)
+            n->number = 10 * n->number + (text[at] - '0');
+    }
+    return at;
+}
+
+static size_t after_sign(const uint8_t *text, size_t length, size_t at)
+{
+    return at < length && (text[at] == '-' || text[at] == '+') ? at + 1 : at;
+}
+
+/* What follows the digits and the point: nothing, or `e`, a sign or none, and digits. False if it is anything else. */
+static int read_exponent(const uint8_t *text, size_t length, int64_t *exponent)
+{
+    enum { LARGE = 1000000 }; /* out of range, also less the digits after a point: no header has so many */
+    size_t start = after_sign(text, length, 1);
+    uint64_t size;
+    *exponent = 0;
+    if (length == 0)
+        return 1;
+    if (lower(text[0]) != 'e' || start >= length)
+        return 0;
+    for (size_t i = start; i < length; i++)
+        if (!is_digit(text[i]))
+            return 0;
+    size = value_of_digits(text + start, length - start);
+    *exponent = size < LARGE ? (int64_t)size : LARGE;
+    if (text[1] == '-')
+        *exponent = -*exponent;
+    return 1;
+}
+
+/* The digits as a whole number, the point folded into the power; false for nineteen digits or a power out of range. */
+static int read_numeral(const uint8_t *text, size_t length, int negative, craneholt_decimal *decimal)
+{
+    struct numeral n = {0, 0, 0, 0};
+    size_t at = take_digits(text, length, 0, &n);
+    int64_t exponent, power;
+    if (at < length && text[at] == '.') {
+        size_t before = n.digits;
+        at = take_digits(text, length, at + 1, &n);
+        n.after_point = n.digits - before;
+    }
+    if (n.digits == 0 || !read_exponent(text + at, length - at, &exponent))
+        return 0;
+    power = exponent - (int64_t)n.after_point;
+    if (n.counted > DIGITS || power < -POWER || power > POWER)
+        return 0;
+    decimal->number = negative ? -n.number : n.number;
+    decimal->power = (int32_t)power;
+    return 1;
+}
+
+/* A component: a decimal that strtod takes, not hex, or a mark. */
+static int read_component(const uint8_t *text, size_t length, craneholt_decimal *decimal)
+{
+    size_t sign = after_sign(text, length, 0);
+    int negative = sign == 1 && text[0] == '-';
+    const uint8_t *rest = text + sign;
+    *decimal = (craneholt_decimal){0, 0, CRANEHOLT_NUMBER};
+    length -= sign;
+    if (is_word(rest, length, "nan"))
+        decimal->kind = CRANEHOLT_NAN;
+    else if (is_word(rest, length, "inf") || is_word(rest, length, "infinity"))
+        decimal->kind = negative ? CRANEHOLT_MINUS_INF : CRANEHOLT_INF;
+    else
+        return read_numeral(rest, length, negative, decimal);
+    return 1;
+}
+
+/* The components between the brackets of a vector, blanks allowed beside each. */
+static int read_components(const uint8_t *text, size_t length, size_t count, craneholt_decimal *decimals)
+{
+    size_t at = 0, found = 0;
+    for (;;) {
+        size_t start = at, end;
+        while (at < length && text[at] != ',')
+            at++;
+        end = at;
+        while (start < end && is_space_or_tab(text[start]))
+            start++;
+        while (start < end && is_space_or_tab(text[end - 1]))
+            end--;
+        if (found == count || !read_component(text + start, end - start, &decimals[found++]))
+            return 0;
+        if (at == length)
+            return found == count;
+        at++;
+    }
+}
+
+/* A vector, or, in space directions, `none` for an axis without one. */
+static int read_vector(const uint8_t *text, size_t length, size_t components, int may_be_none,
+                       craneholt_decimal *decimals)
+{
+    if (may_be_none && is_word(text, length, "none")) {
+        memset(decimals, 0, components * sizeof *decimals);
+        decimals[0].kind = CRANEHOLT_NONE;
+        return 1;
+    }
+    return length >= 2 && text[0] == '(' && text[length - 1] == ')'
+           && read_components(text + 1, length - 2, components, decimals);
+}
+
+/* True if the text is exactly count vectors, parted by blanks; those between brackets do not part. */
+static int read_vectors(const uint8_t *text, size_t length, size_t count, size_t components, int may_be_none,
+                        craneholt_decimal *decimals)
+{
+    size_t at = 0, found = 0;
+    while (at < length) {
+        size_t start = at;
+        int inside = 0;
+        for (; at < length && (inside || !is_space_or_tab(text[at])); at++)
+            inside = text[at] == '(' || (inside && text[at] != ')');
+        if (found == count
+            || !read_vector(text + start, at - start, components, may_be_none, decimals + components * found++))
+            return 0;
+        while (at < length && is_space_or_tab(text[at]))
+            at++;
+    }
+    return found == count;
+}
+
 /* ---- Lines and headers: the fields */
 
 enum field {
     DIMENSION, TYPE, ENCODING, ENDIAN, SIZES, LINE_SKIP, BYTE_SKIP, DATA_FILE,
-    SPACE = 16, SPACE_DIMENSION = 17
+    SPACE = 16, SPACE_DIMENSION, SPACE_UNITS, SPACE_ORIGIN, SPACE_DIRECTIONS, MEASUREMENT_FRAME
 };
 
 /* "Understood fields", "Carried fields", "Versions", "Order" */
@@ -156,12 +296,12 @@ const struct model_field model_fields[MODEL_FIELDS] = {
     {"old max", "oldmax", 1, 0},
     {"number", NULL, 1, 0},
     {"sample units", "sampleunits", 4, 0},
-    {"space", NULL, 4, 0},
-    {"space dimension", NULL, 4, 0},
+    {"space", NULL, 4, MODEL_UNDERSTOOD},
+    {"space dimension", NULL, 4, MODEL_UNDERSTOOD},
     {"space units", NULL, 4, MODEL_IN_SPACE},
-    {"space origin", NULL, 4, MODEL_IN_SPACE},
-    {"space directions", NULL, 4, MODEL_PER_AXIS | MODEL_IN_SPACE},
-    {"measurement frame", NULL, 5, MODEL_IN_SPACE},
+    {"space origin", NULL, 4, MODEL_IN_SPACE | MODEL_UNDERSTOOD},
+    {"space directions", NULL, 4, MODEL_PER_AXIS | MODEL_IN_SPACE | MODEL_UNDERSTOOD},
+    {"measurement frame", NULL, 5, MODEL_IN_SPACE | MODEL_UNDERSTOOD},
     {"spacings", NULL, 1, MODEL_PER_AXIS},
     {"thicknesses", NULL, 4, MODEL_PER_AXIS},
     {"axis mins", "axismins", 1, MODEL_PER_AXIS},
@@ -197,6 +337,22 @@ enum { LITTLE, BIG, NOT_GIVEN };
 
 const char *const model_encodings[MODEL_ENCODINGS][3] = {{"raw"}, {"txt", "text", "ascii"}, {"hex"}};
 static const char *const endians[] = {"little", "big"};
+
+/* section 4 of source document 000 */
+const struct model_space model_spaces[MODEL_SPACES] = {
+    {{"right-anterior-superior", "RAS"}, 3},
+    {{"left-anterior-superior", "LAS"}, 3},
+    {{"left-posterior-superior", "LPS"}, 3},
+    {{"right-anterior-superior-time", "RAST"}, 4},
+    {{"left-anterior-superior-time", "LAST"}, 4},
+    {{"left-posterior-superior-time", "LPST"}, 4},
+    {{"scanner-xyz"}, 3},
+    {{"scanner-xyz-time"}, 4},
+    {{"3D-right-handed"}, 3},
+    {{"3D-left-handed"}, 3},
+    {{"3D-right-handed-time"}, 4},
+    {{"3D-left-handed-time"}, 4},
+};
 
 /* Whether endian is needed ("Needed"). */
 static int needs_endian(uint64_t type, uint64_t encoding)
@@ -261,6 +417,7 @@ struct header {
     size_t descriptor[MODEL_FIELDS], descriptor_length[MODEL_FIELDS];
     struct pair pairs[LINE_LIMIT];
     size_t pair_count;
+    craneholt_decimal origin[SPACE_AXES], directions[AXES * SPACE_AXES], frame[SPACE_AXES * SPACE_AXES];
 };
 
 /* The version that the first line tells, or 0. */
@@ -342,6 +499,18 @@ static int understand_endian(const uint8_t *text, size_t length, uint32_t *endia
     return 0;
 }
 
+static int understand_space(const uint8_t *text, size_t length, craneholt_reading *r)
+{
+    for (uint32_t s = 0; s < MODEL_SPACES; s++)
+        for (size_t i = 0; i < 2 && model_spaces[s].names[i] != NULL; i++)
+            if (is_word(text, length, model_spaces[s].names[i])) {
+                r->space = s;
+                r->spacedimension = model_spaces[s].dimension;
+                return 1;
+            }
+    return 0;
+}
+
 /* Data file: no list, no pattern, not empty. */
 static int is_file_name(const uint8_t *text, size_t length)
 {
@@ -353,8 +522,9 @@ static int is_file_name(const uint8_t *text, size_t length)
 }
 
 /* refusal 11: takes the meaning of an understood field from its trimmed descriptor */
-static int understand(craneholt_reading *r, int field, const uint8_t *text, size_t length)
+static int understand(struct header *h, int field, const uint8_t *text, size_t length)
 {
+    craneholt_reading *r = &h->reading;
     uint64_t number;
     switch (field) {
     case DIMENSION:
@@ -375,9 +545,29 @@ static int understand(craneholt_reading *r, int field, const uint8_t *text, size
     case BYTE_SKIP:
         r->fromend = length == 2 && text[0] == '-' && text[1] == '1'; /* W1 */
         return r->fromend || read_numbers(text, length, 1, 0, LIMIT32, &r->byteskip);
+    case SPACE:
+        return understand_space(text, length, r);
+    case SPACE_DIMENSION:
+        if (!read_numbers(text, length, 1, 1, SPACE_AXES, &number))
+            return 0;
+        r->spacedimension = (uint32_t)number;
+        return 1;
+    case SPACE_ORIGIN:
+        return r->origin = read_vectors(text, length, 1, r->spacedimension, 0, h->origin);
+    case SPACE_DIRECTIONS:
+        return r->directions = read_vectors(text, length, r->dimension, r->spacedimension, 1, h->directions);
+    case MEASUREMENT_FRAME:
+        return r->frame = read_vectors(text, length, r->spacedimension, r->spacedimension, 0, h->frame);
     default:
         return is_file_name(text, length);
     }
+}
+
+/* Given before; of space and space dimension only one may stand (W2). */
+static int is_second(const struct header *h, int field)
+{
+    return h->present[field] || (field == SPACE && h->present[SPACE_DIMENSION])
+           || (field == SPACE_DIMENSION && h->present[SPACE]);
 }
 
 /* A field line: refusals 7 to 11 in this order, or 0. */
@@ -389,7 +579,7 @@ static uint32_t read_field(struct header *h, const uint8_t *file, struct line li
         return 7;
     if (h->reading.version < model_fields[field].version)
         return 8;
-    if (h->present[field])
+    if (is_second(h, field))
         return 9;
     if (!in_order(h, field))
         return 10;
@@ -399,7 +589,7 @@ static uint32_t read_field(struct header *h, const uint8_t *file, struct line li
         end--;
     while (understood && start < end && is_space_or_tab(file[start]))
         start++;
-    if (understood && !understand(&h->reading, field, file + start, end - start))
+    if (understood && !understand(h, field, file + start, end - start))
         return 11;
     h->present[field] = 1;
     h->descriptor[field] = start;
@@ -499,6 +689,7 @@ static int read_header(struct header *h, const uint8_t *file, size_t length)
     memset(h->present, 0, sizeof h->present);
     h->pair_count = 0;
     h->reading.endian = NOT_GIVEN;
+    h->reading.space = MODEL_SPACES; /* not given */
     h->refusal = read_refusal(h, file, length);
     return h->refusal.number == 0;
 }
@@ -831,6 +1022,45 @@ craneholt_number_answer model_sample_number(const uint8_t *file, size_t file_len
     return (craneholt_number_answer){h.refusal, h.refusal.number == 0 ? number : 0};
 }
 
+/* ---- W2: the orientation */
+
+/* Stores decimals as callers have them; refusal 22 if the list is too short. */
+static craneholt_count_answer hand_decimals(craneholt_refusal refusal, const craneholt_decimal *decimals, size_t count,
+                                            void *list, size_t list_length)
+{
+    if (refusal.number == 0 && count > list_length / 16)
+        refusal.number = 22;
+    if (refusal.number != 0)
+        return (craneholt_count_answer){refusal, 0};
+    for (size_t i = 0; i < count; i++) {
+        store(list, 2 * i, 8, (uint64_t)decimals[i].number);
+        store(list, 4 * i + 2, 4, (uint32_t)decimals[i].power);
+        store(list, 4 * i + 3, 4, decimals[i].kind);
+    }
+    return (craneholt_count_answer){refusal, count};
+}
+
+craneholt_count_answer model_origin(const uint8_t *file, size_t file_length, void *list, size_t list_length)
+{
+    struct header h;
+    size_t count = read_header(&h, file, file_length) && h.reading.origin ? h.reading.spacedimension : 0;
+    return hand_decimals(h.refusal, h.origin, count, list, list_length);
+}
+
+craneholt_count_answer model_directions(const uint8_t *file, size_t file_length, void *list, size_t list_length)
+{
+    struct header h;
+    size_t count = read_header(&h, file, file_length) && h.reading.directions ? h.reading.spacedimension : 0;
+    return hand_decimals(h.refusal, h.directions, count * h.reading.dimension, list, list_length);
+}
+
+craneholt_count_answer model_frame(const uint8_t *file, size_t file_length, void *list, size_t list_length)
+{
+    struct header h;
+    size_t count = read_header(&h, file, file_length) && h.reading.frame ? h.reading.spacedimension : 0;
+    return hand_decimals(h.refusal, h.frame, count * count, list, list_length);
+}
+
 /* ---- Texts that are put together */
 
 struct text {
@@ -865,6 +1095,13 @@ static void put_number(struct text *text, uint64_t number)
     if (number >= 10)
         put_number(text, number / 10);
     put_byte(text, (uint8_t)('0' + number % 10));
+}
+
+static void put_signed(struct text *text, int64_t number)
+{
+    if (number < 0)
+        put_byte(text, '-');
+    put_number(text, number < 0 ? ~(uint64_t)number + 1 : (uint64_t)number);
 }
 
 /* A line of one word. */
@@ -947,8 +1184,8 @@ static uint32_t volume_refusal(const struct volume *v)
     return 0;
 }
 
-/* The written header. */
-static void put_header(struct text *text, const struct volume *v)
+/* The written header, but for its empty line. */
+static void put_fields(struct text *text, const struct volume *v)
 {
     uint64_t dimension = v->axes;
     put_word(text, "NRRD000");
@@ -960,7 +1197,6 @@ static void put_header(struct text *text, const struct volume *v)
     put_line(text, "encoding: ", model_encodings[v->encoding][0]);
     if (needs_endian(v->type, v->encoding))
         put_line(text, "endian: ", endians[v->endian]);
-    put_byte(text, '\n');
 }
 
 /* One sample: its bytes in raw, two digits each in hex, one line in text. */
@@ -969,9 +1205,7 @@ static void put_sample(struct text *text, const struct volume *v, uint64_t bits)
     static const char digits[] = "0123456789abcdef";
     size_t width = model_types[v->type].bytes;
     if (v->encoding == TEXT) {
-        if (as_signed(bits) < 0)
-            put_byte(text, '-');
-        put_number(text, as_signed(bits) < 0 ? ~bits + 1 : bits);
+        put_signed(text, as_signed(bits));
         put_byte(text, '\n');
         return;
     }
@@ -986,27 +1220,136 @@ static void put_sample(struct text *text, const struct volume *v, uint64_t bits)
     }
 }
 
+static void load_sizes(struct volume *v, const void *sizes, size_t sizes_length)
+{
+    v->axes = sizes_length / 8;
+    for (size_t i = 0; i < v->axes && i < AXES; i++)
+        v->sizes[i] = load(sizes, i, 8);
+}
+
 craneholt_write_answer model_write(uint64_t version, const void *sizes, size_t sizes_length,
                                    uint64_t sampletype, uint64_t encoding, uint64_t endian,
                                    const void *samples, size_t samples_length,
                                    uint8_t *out, size_t out_length)
 {
-    struct volume v = {version, sampletype, encoding, endian, sizes_length / 8, {0},
-                       samples, samples_length / 8};
+    struct volume v = {version, sampletype, encoding, endian, 0, {0}, samples, samples_length / 8};
     craneholt_write_answer refused = {{0, 0}, 0};
     struct text text;
-    for (size_t i = 0; i < v.axes && i < AXES; i++)
-        v.sizes[i] = load(sizes, i, 8);
+    load_sizes(&v, sizes, sizes_length);
     refused.refusal.number = volume_refusal(&v);
     if (refused.refusal.number != 0)
         return refused;
     text = new_text(1024 + v.sample_count * 21); /* a text sample has at most 21 bytes */
-    put_header(&text, &v);
+    put_fields(&text, &v);
+    put_byte(&text, '\n');
     for (size_t i = 0; i < v.sample_count; i++)
         put_sample(&text, &v, load(samples, i, 8));
     if (encoding == HEX)
         put_byte(&text, '\n'); /* the line ending of hex data */
     return hand_over(text, out, out_length);
+}
+
+/* ---- W2: the header writer */
+
+/* The lent orientation: nothing is given where nothing is lent; false where it is 11. */
+static int load_orientation(craneholt_orientation *o, const void *lent, size_t length)
+{
+    memset(o, 0, sizeof *o);
+    if (length == sizeof *o)
+        memcpy(o, lent, length);
+    else if (length != 0)
+        return 0;
+    return o->given < 32 && o->components <= SPACE_AXES && o->axes <= AXES && o->columns <= SPACE_AXES
+           && (!(o->given & CRANEHOLT_GIVES_SPACE) || o->space < MODEL_SPACES);
+}
+
+/* refusal 8 of the header writer: the measurement frame came later than the other four */
+static int is_in_version(const craneholt_orientation *o, uint64_t version)
+{
+    int field = o->given & CRANEHOLT_GIVES_FRAME ? MEASUREMENT_FRAME : SPACE;
+    return o->given == 0 || version >= model_fields[field].version;
+}
+
+static void put_component(struct text *text, const craneholt_decimal *decimal)
+{
+    static const char *const marks[] = {"nan", "inf", "-inf"};
+    if (decimal->kind == CRANEHOLT_NUMBER) {
+        put_signed(text, decimal->number);
+        put_byte(text, 'e');
+        put_signed(text, decimal->power);
+    } else {
+        put_word(text, decimal->kind <= CRANEHOLT_MINUS_INF ? marks[decimal->kind - 1] : "none"); /* no decimal */
+    }
+}
+
+/* A vector of so many components, or up to the first that is none. */
+static void put_vector(struct text *text, const craneholt_decimal *decimals, size_t count)
+{
+    put_byte(text, '(');
+    for (size_t i = 0; i < count && decimals[i].kind != CRANEHOLT_NONE; i++) {
+        if (i > 0)
+            put_byte(text, ',');
+        put_component(text, &decimals[i]);
+    }
+    put_byte(text, ')');
+}
+
+/* A line of vectors with one space between two of them. */
+static void put_vectors(struct text *text, const char *name, const craneholt_decimal (*vectors)[SPACE_AXES],
+                        size_t count, size_t components, int may_be_none)
+{
+    put_word(text, name);
+    for (size_t i = 0; i < count; i++) {
+        if (i > 0)
+            put_byte(text, ' ');
+        if (may_be_none && vectors[i][0].kind == CRANEHOLT_NONE)
+            put_word(text, "none");
+        else
+            put_vector(text, vectors[i], components);
+    }
+    put_byte(text, '\n');
+}
+
+static void put_orientation(struct text *text, const craneholt_orientation *o)
+{
+    if (o->given & CRANEHOLT_GIVES_SPACE)
+        put_line(text, "space: ", model_spaces[o->space].names[0]);
+    if (o->given & CRANEHOLT_GIVES_SPACE_DIMENSION)
+        put_numbers(text, "space dimension:", &o->spacedimension, 1);
+    if (o->given & CRANEHOLT_GIVES_ORIGIN)
+        put_vectors(text, "space origin: ", &o->origin, 1, o->components, 0);
+    if (o->given & CRANEHOLT_GIVES_DIRECTIONS)
+        put_vectors(text, "space directions: ", o->directions, o->axes, o->components, 1);
+    if (o->given & CRANEHOLT_GIVES_FRAME)
+        put_vectors(text, "measurement frame: ", o->frame, o->columns, o->components, 0);
+}
+
+craneholt_write_answer model_write_header(uint64_t version, const void *sizes, size_t sizes_length,
+                                          uint64_t sampletype, uint64_t encoding, uint64_t endian,
+                                          const void *orientation, size_t orientation_length,
+                                          uint8_t *out, size_t out_length)
+{
+    struct volume v = {version, sampletype, encoding, endian, 0, {0}, NULL, 0};
+    craneholt_orientation o;
+    craneholt_write_answer refused = {{0, 0}, 0};
+    struct header h;
+    struct text text;
+    load_sizes(&v, sizes, sizes_length);
+    if (!load_orientation(&o, orientation, orientation_length) || volume_is_bad(&v))
+        refused.refusal.number = 11;
+    else if (!is_in_version(&o, version))
+        refused.refusal.number = 8;
+    if (refused.refusal.number != 0)
+        return refused;
+    text = new_text(16384); /* a component has at most 32 bytes, and there are at most 200 */
+    put_fields(&text, &v);
+    put_orientation(&text, &o);
+    put_byte(&text, '\n');
+    if (read_header(&h, text.bytes, text.length))
+        return hand_over(text, out, out_length);
+    free(text.bytes);
+    refused.refusal = h.refusal;
+    return refused;
 }
 
 /* ---- Setting a key */

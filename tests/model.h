@@ -7,7 +7,8 @@
 enum {
     MODEL_FIELDS = 30,
     MODEL_TYPES = 10,
-    MODEL_ENCODINGS = 3
+    MODEL_ENCODINGS = 3,
+    MODEL_SPACES = 12
 };
 
 /* what a field comes after, and whether it is understood */
@@ -32,9 +33,16 @@ struct model_type {
     int64_t low, high;
 };
 
+/* the spaces by number: the full name, which is written, an abbreviation or NULL, and the dimension */
+struct model_space {
+    const char *names[2];
+    uint32_t dimension;
+};
+
 extern const struct model_field model_fields[MODEL_FIELDS];
 extern const struct model_type model_types[MODEL_TYPES];
 extern const char *const model_encodings[MODEL_ENCODINGS][3];
+extern const struct model_space model_spaces[MODEL_SPACES];
 
 craneholt_read_answer model_read_header(const uint8_t *file, size_t file_length);
 craneholt_read_answer model_read(const uint8_t *file, size_t file_length, void *table, size_t table_length);
@@ -57,6 +65,13 @@ craneholt_write_answer model_write(uint64_t version, const void *sizes, size_t s
                                    uint64_t sampletype, uint64_t encoding, uint64_t endian,
                                    const void *samples, size_t samples_length,
                                    uint8_t *out, size_t out_length);
+craneholt_count_answer model_origin(const uint8_t *file, size_t file_length, void *list, size_t list_length);
+craneholt_count_answer model_directions(const uint8_t *file, size_t file_length, void *list, size_t list_length);
+craneholt_count_answer model_frame(const uint8_t *file, size_t file_length, void *list, size_t list_length);
+craneholt_write_answer model_write_header(uint64_t version, const void *sizes, size_t sizes_length,
+                                          uint64_t sampletype, uint64_t encoding, uint64_t endian,
+                                          const void *orientation, size_t orientation_length,
+                                          uint8_t *out, size_t out_length);
 craneholt_set_answer model_set_key(uint8_t *buf, size_t buf_length, size_t used,
                                    void *table, size_t table_length, size_t count,
                                    const uint8_t *key, size_t key_length,

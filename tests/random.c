@@ -27,7 +27,7 @@ struct part {
 
 /* The arguments of a call; parts are places in the block of lent bytes. */
 static struct lent {
-    struct part file, second, key, value, out, table, list, coords, sizes, samples;
+    struct part file, second, key, value, out, table, list, coords, sizes, samples, orientation;
     uint32_t field;
     size_t room, used, count;
     uint64_t version, type, encoding, endian;
@@ -68,11 +68,14 @@ static void lend_nothing(void)
 
 /* ---- answers, as lists of numbers; the first two are the refusal */
 
-enum { LENGTH = 27, LINES = 28, FROM_END = 29 }; /* places of the last numbers in the answer of a reading */
+/* places in the answer of a reading */
+enum {
+    AXES = 4, LENGTH = 27, LINES, FROM_END, ORIGIN_GIVEN, DIRECTIONS_GIVEN, FRAME_GIVEN, SPACE, SPACE_AXES
+};
 
 struct answer {
     size_t count;
-    uint64_t numbers[32];
+    uint64_t numbers[SPACE_AXES + 1];
 };
 
 static struct answer of_refusal(craneholt_refusal refusal)
@@ -103,6 +106,11 @@ static struct answer of_reading(craneholt_read_answer a)
     add(&answer, r->length);
     add(&answer, r->lines);
     add(&answer, r->fromend);
+    add(&answer, r->origin);
+    add(&answer, r->directions);
+    add(&answer, r->frame);
+    add(&answer, r->space);
+    add(&answer, r->spacedimension);
     return answer;
 }
 
@@ -114,6 +122,12 @@ static struct answer of_numbers(craneholt_refusal refusal, uint64_t a, uint64_t 
     add(&answer, b);
     add(&answer, c);
     return answer;
+}
+
+/* An answer of a refusal and a count. */
+static struct answer of_count(craneholt_count_answer a)
+{
+    return of_numbers(a.refusal, a.count, 0, 0);
 }
 
 /* ---- the calls, each on what is lent at b */
@@ -156,14 +170,12 @@ static struct answer run_data(const struct calls *calls, uint8_t *b)
 
 static struct answer run_check_samples(const struct calls *calls, uint8_t *b)
 {
-    craneholt_count_answer a = calls->check_samples(PART(file), PART(second), lent.room);
-    return of_numbers(a.refusal, a.count, 0, 0);
+    return of_count(calls->check_samples(PART(file), PART(second), lent.room));
 }
 
 static struct answer run_samples(const struct calls *calls, uint8_t *b)
 {
-    craneholt_count_answer a = calls->samples(PART(file), PART(second), PART(list));
-    return of_numbers(a.refusal, a.count, 0, 0);
+    return of_count(calls->samples(PART(file), PART(second), PART(list)));
 }
 
 static struct answer run_sample_number(const struct calls *calls, uint8_t *b)
@@ -176,6 +188,28 @@ static struct answer run_write(const struct calls *calls, uint8_t *b)
 {
     craneholt_write_answer a = calls->write(lent.version, PART(sizes), lent.type, lent.encoding,
                                             lent.endian, PART(samples), PART(out));
+    return of_numbers(a.refusal, a.length, 0, 0);
+}
+
+static struct answer run_origin(const struct calls *calls, uint8_t *b)
+{
+    return of_count(calls->origin(PART(file), PART(list)));
+}
+
+static struct answer run_directions(const struct calls *calls, uint8_t *b)
+{
+    return of_count(calls->directions(PART(file), PART(list)));
+}
+
+static struct answer run_frame(const struct calls *calls, uint8_t *b)
+{
+    return of_count(calls->frame(PART(file), PART(list)));
+}
+
+static struct answer run_write_header(const struct calls *calls, uint8_t *b)
+{
+    craneholt_write_answer a = calls->write_header(lent.version, PART(sizes), lent.type, lent.encoding,
+                                                   lent.endian, PART(orientation), PART(out));
     return of_numbers(a.refusal, a.length, 0, 0);
 }
 
@@ -194,7 +228,7 @@ static struct answer run_listing(const struct calls *calls, uint8_t *b)
 
 enum call {
     READ_HEADER, READ, FIND_FIELD, FIND_KEY, COPY_VALUE, DATA, CHECK_SAMPLES, SAMPLES,
-    SAMPLE_NUMBER, WRITE, SET_KEY, LISTING, CALL_COUNT
+    SAMPLE_NUMBER, WRITE, ORIGIN, DIRECTIONS, FRAME, WRITE_HEADER, SET_KEY, LISTING, CALL_COUNT
 };
 
 enum { NUMBERS = 28 }; /* of refusal, and 0 for none */
@@ -208,6 +242,8 @@ static struct {
     {"copy_value", run_copy_value},       {"data", run_data},
     {"check_samples", run_check_samples}, {"samples", run_samples},
     {"sample_number", run_sample_number}, {"write", run_write},
+    {"origin", run_origin},               {"directions", run_directions},
+    {"frame", run_frame},                 {"write_header", run_write_header},
     {"set_key", run_set_key},             {"listing", run_listing},
 };
 
@@ -216,6 +252,12 @@ static unsigned long refusals[CALL_COUNT][NUMBERS][2];
 
 /* how often the data call gave each number for a header whose byte skip is -1, and that is right up to there */
 static unsigned long from_end[NUMBERS];
+
+/* headers that are accepted with a space, with each field of the orientation, with an axis that has no direction, and
+ * headers that are refused with 9 or 11 at a line of one of the five fields */
+static struct {
+    unsigned long spaces, origins, directions, frames, nones, second, bad;
+} oriented;
 
 /* ---- comparing */
 
@@ -340,6 +382,66 @@ static void check_keys(void)
     }
 }
 
+/* ---- the orientation */
+
+/* One of the calls for decimals, with a list that is about as long as they need. */
+static struct answer check_decimals(enum call call, uint64_t count)
+{
+    lent.list = lend_room(near_length(count, 16));
+    return check(call);
+}
+
+/* True if the line of this number, which is there, is one of the five fields'. */
+static int is_orientation_line(uint64_t number)
+{
+    static const char *const names[] = {"space: ", "space dimension: ", "space origin: ", "space directions: ",
+                                        "measurement frame: "};
+    const uint8_t *line = volume.file.at, *end = line + volume.file.length;
+    for (; number > 1; number--)
+        line = (const uint8_t *)memchr(line, '\n', (size_t)(end - line)) + 1;
+    for (size_t i = 0; i < 5; i++) {
+        size_t at = 0;
+        while (line + at < end && names[i][at] != '\0' && (line[at] | 32) == names[i][at])
+            at++;
+        if (names[i][at] == '\0')
+            return 1;
+    }
+    return 0;
+}
+
+static void count_orientation(const struct answer *header)
+{
+    uint64_t number = header->numbers[0], line = header->numbers[1];
+    oriented.spaces += header->numbers[SPACE_AXES] > 0;
+    oriented.origins += header->numbers[ORIGIN_GIVEN];
+    oriented.directions += header->numbers[DIRECTIONS_GIVEN];
+    oriented.frames += header->numbers[FRAME_GIVEN];
+    oriented.second += number == 9 && is_orientation_line(line);
+    oriented.bad += number == 11 && line > 0 && is_orientation_line(line);
+}
+
+/* True if one of the directions that were stored in the list is none. */
+static int has_none(uint64_t count)
+{
+    for (uint64_t i = 0; i < count; i++)
+        if (ours.at[lent.list.start + 16 * i + 12] == CRANEHOLT_NONE)
+            return 1;
+    return 0;
+}
+
+static void check_orientation(const struct answer *header)
+{
+    uint64_t n = header->numbers[SPACE_AXES];
+    struct answer directions;
+    count_orientation(header);
+    check_decimals(ORIGIN, n * header->numbers[ORIGIN_GIVEN]);
+    check_decimals(FRAME, n * n * header->numbers[FRAME_GIVEN]);
+    directions = check_decimals(DIRECTIONS, n * header->numbers[AXES] * header->numbers[DIRECTIONS_GIVEN]);
+    oriented.nones += (unsigned long)has_none(directions.numbers[2]);
+}
+
+/* ---- data */
+
 /* True if the byte skip is -1, which is refused with line 0 in text and hex. */
 static int is_from_end(const struct answer *header)
 {
@@ -392,6 +494,7 @@ static struct answer check_file(void)
     header = check(READ_HEADER);
     check_reading(&header);
     check_keys();
+    check_orientation(&header);
     check_data(&header);
     check_coordinates();
     check_listing(&header);
@@ -438,25 +541,206 @@ static void lend_samples(uint64_t product)
     lent.samples = lend(samples.at, samples.length);
 }
 
-static void check_write(void)
+/* Lends what both writers take but for samples, orientation and buffer; the product of the sizes. */
+static uint64_t lend_volume(unsigned floats)
 {
     uint64_t product;
-    struct answer answer;
     lend_nothing();
     lent.version = random_chance(97) ? 1 + random_below(5) : odd_number();
-    lent.type = random_chance(97) ? random_below(random_chance(95) ? 8 : 10) : odd_number();
+    lent.type = random_chance(97) ? random_below(random_chance(floats) ? 10 : 8) : odd_number();
     lent.encoding = random_chance(97) ? random_below(3) : odd_number();
     lent.endian = random_chance(97) ? random_below(2) : odd_number();
     lend_sizes(&product);
-    lend_samples(product);
-    lent.out = lend_room(512 + 21 * lent.samples.length / 8);
-    answer = check(WRITE);
+    return product;
+}
+
+/* Writes to the buffer that is lent and, if it is accepted, to one too short and to one of just the length written. */
+static int check_written(enum call call)
+{
+    struct answer answer = check(call);
     if (answer.numbers[0] != 0)
-        return;
-    lent.out.length = answer.numbers[2];
-    check(WRITE);
+        return 0;
     lent.out.length = random_below(answer.numbers[2]);
-    check(WRITE);
+    check(call);
+    lent.out.length = answer.numbers[2];
+    check(call);
+    return 1;
+}
+
+static void check_write(void)
+{
+    lend_samples(lend_volume(5));
+    lent.out = lend_room(512 + 21 * lent.samples.length / 8);
+    check_written(WRITE);
+}
+
+/* ---- the header writer */
+
+/* A decimal in range, near a limit or past one by faults in a hundred, or a mark; rarely of a kind that there is not. */
+static craneholt_decimal make_decimal(unsigned faults)
+{
+    static const int64_t numbers[] = {0, 1, -1, 999999999999999999, -999999999999999999};
+    static const int64_t bad_numbers[] = {1000000000000000000, -1000000000000000000, INT64_MAX, INT64_MIN};
+    static const int32_t powers[] = {0, 400, -400, 399, -399}, bad_powers[] = {401, -401, INT32_MAX, INT32_MIN};
+    craneholt_decimal d = {0, 0, CRANEHOLT_NUMBER};
+    d.number = (int64_t)(random_bits() >> 1) % 1000000000000000000 / (random_chance(50) ? 1000000000000 : 1);
+    if (random_chance(40))
+        d.number = -d.number;
+    d.power = random_chance(70) ? (int32_t)random_below(20) - 10 : (int32_t)random_below(801) - 400;
+    if (random_chance(15))
+        d.number = numbers[random_below(5)];
+    if (random_chance(15))
+        d.power = powers[random_below(5)];
+    if (random_chance(10))
+        d.kind = CRANEHOLT_NAN + (uint32_t)random_below(3);
+    if (random_chance(faults))
+        d.number = bad_numbers[random_below(4)];
+    if (random_chance(faults))
+        d.power = bad_powers[random_below(4)];
+    if (random_chance(faults))
+        d.kind = random_chance(50) ? CRANEHOLT_NONE : random_chance(50) ? 5 : (uint32_t)random_bits();
+    return d;
+}
+
+/* Counts that do not fit, kinds of fields that are not given, and numbers past the bounds. */
+static void damage_orientation(craneholt_orientation *o)
+{
+    static const uint32_t counts[] = {0, 1, 7, 8, 9, 15, 16, 17, 65536, 4294967295u};
+    uint32_t odd = counts[random_below(10)];
+    switch (random_below(7)) {
+    case 0:
+        o->components = odd;
+        return;
+    case 1:
+        o->axes = odd;
+        return;
+    case 2:
+        o->columns = odd;
+        return;
+    case 3:
+        o->space = 10 + random_below(4);
+        return;
+    case 4:
+        o->spacedimension = odd_number();
+        return;
+    case 5:
+        o->given = (uint32_t)random_below(64);
+        return;
+    default:
+        o->given |= (uint32_t)random_bits() << random_below(32);
+    }
+}
+
+static void make_vectors(craneholt_decimal *decimals, size_t count, unsigned nones, unsigned faults)
+{
+    for (size_t i = 0; i < count; i++) {
+        for (size_t j = 0; j < CRANEHOLT_MAX_SPACE; j++)
+            decimals[CRANEHOLT_MAX_SPACE * i + j] = make_decimal(faults);
+        if (random_chance(nones))
+            decimals[CRANEHOLT_MAX_SPACE * i].kind = CRANEHOLT_NONE;
+    }
+}
+
+/* Ends each vector by what follows its last component, not by the number of components. */
+static void end_vectors(craneholt_orientation *o)
+{
+    uint32_t end = o->components;
+    if (end == CRANEHOLT_MAX_SPACE)
+        return;
+    o->origin[end].kind = CRANEHOLT_NONE;
+    for (size_t i = 0; i < CRANEHOLT_MAX_AXES; i++)
+        o->directions[i][end].kind = CRANEHOLT_NONE;
+    for (size_t i = 0; i < CRANEHOLT_MAX_SPACE; i++)
+        o->frame[i][end].kind = CRANEHOLT_NONE;
+    o->components = CRANEHOLT_MAX_SPACE;
+}
+
+/* An orientation of an array with so many axes; most are right. What no count names is any bytes. */
+static void make_orientation(craneholt_orientation *o, size_t axes)
+{
+    unsigned faults = random_chance(85) ? 0 : 2;
+    uint8_t *bytes = (uint8_t *)o;
+    for (size_t i = 0; i < sizeof *o; i++)
+        bytes[i] = (uint8_t)random_bits();
+    o->space = random_below(MODEL_SPACES);
+    o->spacedimension = 1 + random_below(8);
+    o->given = random_chance(95) ? 1 + (uint32_t)random_below(2) : 3 * (uint32_t)random_below(2);
+    o->given += 4 * (uint32_t)random_below(8);
+    o->components = o->given & CRANEHOLT_GIVES_SPACE ? model_spaces[o->space].dimension : (uint32_t)o->spacedimension;
+    o->axes = (uint32_t)axes;
+    o->columns = o->components;
+    make_vectors(o->origin, 1, faults, faults);
+    make_vectors(o->directions[0], axes < CRANEHOLT_MAX_AXES ? axes : CRANEHOLT_MAX_AXES, 20, faults);
+    make_vectors(o->frame[0], CRANEHOLT_MAX_SPACE, faults, faults);
+    if (random_chance(30))
+        end_vectors(o);
+    if (random_chance(12))
+        damage_orientation(o);
+}
+
+/* The struct whole, or rarely a length that is not its own. */
+static void lend_orientation(const craneholt_orientation *o)
+{
+    static struct bytes bytes;
+    bytes.length = 0;
+    put_bytes(&bytes, o, sizeof *o);
+    put_random(&bytes, 16);
+    lent.orientation =
+        lend(bytes.at, random_chance(90) ? sizeof *o : random_chance(80) ? 0 : random_below(bytes.length));
+}
+
+/* What the call stores is what went in: vectors of so many components. A mark has no number and no power. */
+static void check_went_in(enum call call, uint32_t given, const craneholt_decimal *decimals, uint64_t count,
+                          uint64_t components)
+{
+    lent.list = lend_room(given ? 16 * count * components : 0);
+    check(call);
+    for (uint64_t i = 0; given && i < count * components; i++) {
+        craneholt_decimal in = decimals[CRANEHOLT_MAX_SPACE * (i / components) + i % components], out;
+        int none = decimals[CRANEHOLT_MAX_SPACE * (i / components)].kind == CRANEHOLT_NONE;
+        memcpy(&out, ours.at + lent.list.start + 16 * i, sizeof out);
+        if (none)
+            in.kind = i % components == 0 ? CRANEHOLT_NONE : CRANEHOLT_NUMBER;
+        if (none || in.kind != CRANEHOLT_NUMBER)
+            in.number = in.power = 0;
+        if (in.number != out.number || in.power != out.power || in.kind != out.kind)
+            fail(call, "what was written is not read back");
+    }
+}
+
+/* A reading of what was written gives back all that went in. */
+static void check_read_back(const craneholt_orientation *o, int is_lent)
+{
+    static struct bytes file;
+    uint32_t given = is_lent ? o->given : 0;
+    struct answer header;
+    uint64_t n;
+    file.length = 0;
+    put_bytes(&file, ours.at + lent.out.start, lent.out.length);
+    lend_nothing();
+    lent.file = lend(file.at, file.length);
+    header = check(READ_HEADER);
+    n = header.numbers[SPACE_AXES];
+    if (header.numbers[0] != 0
+        || header.numbers[SPACE] != (given & CRANEHOLT_GIVES_SPACE ? o->space : CRANEHOLT_NO_SPACE)
+        || (given & CRANEHOLT_GIVES_SPACE_DIMENSION && n != o->spacedimension))
+        fail(READ_HEADER, "what was written is not read back");
+    check_went_in(ORIGIN, given & CRANEHOLT_GIVES_ORIGIN, o->origin, 1, n);
+    check_went_in(DIRECTIONS, given & CRANEHOLT_GIVES_DIRECTIONS, o->directions[0], header.numbers[AXES], n);
+    check_went_in(FRAME, given & CRANEHOLT_GIVES_FRAME, o->frame[0], n, n);
+}
+
+static void check_write_header(void)
+{
+    craneholt_orientation o;
+    lend_volume(20);
+    if (random_chance(60))
+        lent.version = 5;
+    make_orientation(&o, lent.sizes.length / 8);
+    lend_orientation(&o);
+    lent.out = lend_room(random_chance(90) ? CRANEHOLT_ORIENTED_ROOM : random_below(400));
+    if (check_written(WRITE_HEADER))
+        check_read_back(&o, lent.orientation.length > 0);
 }
 
 /* ---- lists of settings */
@@ -623,6 +907,7 @@ static void check_input(void)
     header = check_file();
     check_list(&header, 5 + (int)random_below(large || input % 4 != 0 ? 1 : SETTINGS - 4));
     check_write();
+    check_write_header();
 }
 
 /* How often a number came from each call, with line 0 or with a line. */
@@ -661,6 +946,17 @@ static int print_from_end(uint64_t inputs)
     return 20 * sum >= inputs && found > 0 && from_end[11] > 0 && from_end[16] > 0 && from_end[18] > 0;
 }
 
+/* At least one of four headers has to be accepted with a space, each of its fields has to be among them, and each refusal. */
+static int print_oriented(uint64_t inputs)
+{
+    printf("orientation: %lu headers of %llu (%.1f %%); origin %lu, directions %lu (with none %lu), frame %lu; "
+           "refused 9 %lu, 11 %lu\n",
+           oriented.spaces, (unsigned long long)inputs, 100.0 * (double)oriented.spaces / (double)inputs,
+           oriented.origins, oriented.directions, oriented.nones, oriented.frames, oriented.second, oriented.bad);
+    return 4 * oriented.spaces >= inputs && oriented.origins > 0 && oriented.directions > 0 && oriented.nones > 0
+           && oriented.frames > 0 && oriented.second > 0 && oriented.bad > 0;
+}
+
 int main(int arguments, char **argument)
 {
     uint64_t first = arguments > 1 ? strtoull(argument[1], NULL, 10) : 0;
@@ -670,6 +966,10 @@ int main(int arguments, char **argument)
     print_refusals();
     if (!print_from_end(inputs) && inputs >= ENOUGH) {
         printf("too few headers have a byte skip of -1\n");
+        return 1;
+    }
+    if (!print_oriented(inputs) && inputs >= ENOUGH) {
+        printf("too few headers have an orientation\n");
         return 1;
     }
     printf("%llu inputs, no difference\n", (unsigned long long)inputs);

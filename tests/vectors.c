@@ -1,10 +1,11 @@
 /*
  * Runs the vectors of a folder: calls.jsonl, one call a line, and
  * listing/NNN.in with the text NNN.out. With USE_MODEL the model is run in
- * place of the library: it has to agree with the vectors as well. Every
- * reading has to tell its byte skip, but for vectors from before W1.
+ * place of the library: it has to agree with the vectors as well. A set from
+ * before a request says nothing of what came with it: the byte skip of each
+ * reading with W1, the orientation and the header writer with W2.
  *
- *     vectors [folder [before-w1]]
+ *     vectors [folder [before-w1 or before-w2]]
  */
 #include "bytes.h"
 #include "calls.h"
@@ -21,7 +22,9 @@ static const struct calls calls = CALLS(model);
 static const struct calls calls = CALLS(craneholt);
 #endif
 
-static int before_w1;
+enum { BASE, W1, W2 };
+
+static int last = W2; /* the last request that the vectors know */
 
 /* ---- bytes */
 
@@ -133,7 +136,9 @@ static int same_reading(const craneholt_reading *a, const craneholt_reading *b)
            && a->sampletype == b->sampletype && a->encoding == b->encoding && a->endian == b->endian
            && memcmp(a->sizes, b->sizes, sizeof a->sizes) == 0 && a->lineskip == b->lineskip
            && a->byteskip == b->byteskip && a->extent == b->extent && a->length == b->length
-           && a->lines == b->lines && a->fromend == b->fromend;
+           && a->lines == b->lines && a->fromend == b->fromend && a->origin == b->origin
+           && a->directions == b->directions && a->frame == b->frame && a->space == b->space
+           && a->spacedimension == b->spacedimension;
 }
 
 /* A byte skip is told as a number, or as the text "from the end". */
@@ -141,11 +146,117 @@ static int byte_skip_is_right(const struct json *v, const craneholt_reading *r)
 {
     const struct json *skip = json_member(v, "expect_byte_skip");
     if (skip == NULL)
-        return before_w1 && !r->fromend;
+        return last < W1 && !r->fromend;
     if (skip->kind == JSON_NUMBER)
         return r->byteskip == skip->number && r->fromend == 0;
     return strcmp(skip->text, "from the end") == 0 && r->byteskip == 0 && r->fromend == 1;
 }
+
+/* ---- orientation */
+
+/* A decimal is [number, power], or a word for what is no number. */
+static craneholt_decimal decimal_of(const struct json *v)
+{
+    static const char *const words[] = {"nan", "inf", "-inf", "none"};
+    craneholt_decimal decimal = {0, 0, CRANEHOLT_NUMBER};
+    if (v->kind == JSON_LIST) {
+        decimal.number = (int64_t)v->first->number;
+        decimal.power = (int32_t)v->first->next->number;
+        return decimal;
+    }
+    while (strcmp(v->text, words[decimal.kind++]) != 0)
+        continue;
+    return decimal;
+}
+
+/* The components of a vector to the front of a list of zeros; of an axis without direction the first is told so. */
+static void take_vector(const struct json *v, craneholt_decimal *to)
+{
+    if (v->kind == JSON_STRING)
+        *to = decimal_of(v);
+    else
+        for (const struct json *item = v->first; item != NULL; item = item->next)
+            *to++ = decimal_of(item);
+}
+
+typedef craneholt_count_answer decimals_call(const uint8_t *, size_t, void *, size_t);
+
+/* The decimals into a list that is long enough, exactly but for a rest, and one too short; none at all need no list. */
+static int decimals_are_right(decimals_call *call, struct bytes file, const craneholt_decimal *decimals, size_t count)
+{
+    struct bytes want = {(uint8_t *)decimals, count * sizeof *decimals}, nothing = {(uint8_t *)decimals, 0};
+    for (int more = count > 0 ? -1 : 0; more <= 1; more++) {
+        struct bytes list = filled((size_t)((int)count + more) * sizeof *decimals + (more == 0 ? 15 : 0));
+        craneholt_count_answer answer = call(file.at, file.length, list.at, list.length);
+        int right = answer.refusal.number == (more < 0 ? 22 : 0) && answer.refusal.line == 0
+                    && answer.count == (more < 0 ? 0 : count) && holds(list, more < 0 ? nothing : want);
+        free(list.at);
+        if (!right)
+            return 0;
+    }
+    return 1;
+}
+
+/* The vectors of a field, each of so many components; a field that is not given has none. */
+static int vectors_are_right(decimals_call *call, struct bytes file, const struct json *list, uint8_t given,
+                             size_t components)
+{
+    static craneholt_decimal decimals[CRANEHOLT_MAX_AXES * CRANEHOLT_MAX_SPACE];
+    size_t count = 0;
+    memset(decimals, 0, sizeof decimals);
+    for (const struct json *item = list == NULL ? NULL : list->first; item != NULL; item = item->next) {
+        take_vector(item, decimals + count);
+        count += components;
+    }
+    return given == (list != NULL) && decimals_are_right(call, file, decimals, count);
+}
+
+/* An origin is a vector alone. */
+static int origin_is_right(struct bytes file, const struct json *origin, const craneholt_reading *r)
+{
+    static craneholt_decimal decimals[CRANEHOLT_MAX_SPACE];
+    if (origin != NULL)
+        take_vector(origin, decimals);
+    return r->origin == (origin != NULL) && (origin == NULL || origin->length == r->spacedimension)
+           && decimals_are_right(calls.origin, file, decimals, origin == NULL ? 0 : origin->length);
+}
+
+static int space_is_right(const struct json *v, const craneholt_reading *r)
+{
+    const struct json *space = json_member(v, "expect_space"), *dimension = json_member(v, "expect_space_dimension");
+    if (space != NULL)
+        return dimension == NULL && r->space == space->number && r->space < MODEL_SPACES
+               && r->spacedimension == model_spaces[r->space].dimension;
+    return r->space == CRANEHOLT_NO_SPACE && r->spacedimension == (dimension == NULL ? 0 : dimension->number);
+}
+
+static int orientation_is_right(const struct json *v, struct bytes file, const craneholt_reading *r)
+{
+    if (last < W2)
+        return 1;
+    return space_is_right(v, r) && origin_is_right(file, json_member(v, "expect_space_origin"), r)
+           && vectors_are_right(calls.directions, file, json_member(v, "expect_space_directions"), r->directions,
+                                r->spacedimension)
+           && vectors_are_right(calls.frame, file, json_member(v, "expect_measurement_frame"), r->frame,
+                                r->spacedimension);
+}
+
+/* The calls for the orientation refuse what the reading refuses. */
+static int orientation_is_refused(const struct json *v, struct bytes file)
+{
+    decimals_call *const asked[] = {calls.origin, calls.directions, calls.frame};
+    for (size_t i = 0; i < 3; i++) {
+        struct bytes list = filled(64);
+        craneholt_count_answer answer = asked[i](file.at, file.length, list.at, list.length);
+        int right = same_refusal(v, answer.refusal) && answer.count == 0 && untouched(list, 0);
+        free(list.at);
+        if (!right)
+            return 0;
+    }
+    return 1;
+}
+
+/* ---- reading */
 
 /* What both reading calls must answer for a header that is accepted. */
 static int reading_is_right(const struct json *v, struct bytes file, const craneholt_reading *r)
@@ -156,7 +267,7 @@ static int reading_is_right(const struct json *v, struct bytes file, const crane
            && r->version == number_member(v, "expect_version")
            && r->form == (strcmp(form, "detached") == 0)
            && r->length == number_member(v, "expect_header_length") && byte_skip_is_right(v, r)
-           && fields_are_right(v, file) && keys_are_right(v, file);
+           && fields_are_right(v, file) && keys_are_right(v, file) && orientation_is_right(v, file, r);
 }
 
 /* What both reading calls must answer for a refused header. */
@@ -168,7 +279,8 @@ static int no_reading_is_right(const struct json *v, struct bytes file, const cr
         return 0;
     if (expected(v, 1)->number == 22)
         return without.refusal.number == 0;
-    return same_refusal(v, without.refusal) && same_reading(&without.reading, &blank);
+    return same_refusal(v, without.refusal) && same_reading(&without.reading, &blank)
+           && orientation_is_refused(v, file);
 }
 
 static int run_read(const struct json *v)
@@ -254,6 +366,73 @@ static int run_write(const struct json *v)
     return right;
 }
 
+/* The member, counted among those given; NULL if it is null. */
+static const struct json *given_member(const struct json *v, const char *name, uint32_t bit, craneholt_orientation *o)
+{
+    const struct json *item = json_member(v, name);
+    if (item->kind == JSON_NULL)
+        return NULL;
+    o->given += bit;
+    return item;
+}
+
+/* A vector that goes in: what ends it stands after its last component. */
+static void give_vector(const struct json *v, craneholt_decimal *to)
+{
+    take_vector(v, to);
+    if (v->kind == JSON_LIST && v->length < CRANEHOLT_MAX_SPACE)
+        to[v->length].kind = CRANEHOLT_NONE;
+}
+
+static uint32_t give_vectors(const struct json *list, craneholt_decimal (*to)[CRANEHOLT_MAX_SPACE])
+{
+    uint32_t count = 0;
+    for (const struct json *item = list->first; item != NULL; item = item->next)
+        give_vector(item, to[count++]);
+    return count;
+}
+
+/* Of the vectors none has more than 8 components. */
+static craneholt_orientation orientation_of(const struct json *v)
+{
+    craneholt_orientation o;
+    const struct json *item;
+    memset(&o, 0, sizeof o);
+    o.components = CRANEHOLT_MAX_SPACE;
+    if ((item = given_member(v, "space", CRANEHOLT_GIVES_SPACE, &o)) != NULL)
+        o.space = item->number;
+    if ((item = given_member(v, "space_dimension", CRANEHOLT_GIVES_SPACE_DIMENSION, &o)) != NULL)
+        o.spacedimension = item->number;
+    if ((item = given_member(v, "origin", CRANEHOLT_GIVES_ORIGIN, &o)) != NULL)
+        give_vector(item, o.origin);
+    if ((item = given_member(v, "directions", CRANEHOLT_GIVES_DIRECTIONS, &o)) != NULL)
+        o.axes = give_vectors(item, o.directions);
+    if ((item = given_member(v, "frame", CRANEHOLT_GIVES_FRAME, &o)) != NULL)
+        o.columns = give_vectors(item, o.frame);
+    return o;
+}
+
+/* An orientation of which nothing is given may be lent or not. */
+static int run_header(const struct json *v)
+{
+    struct bytes sizes = of_numbers(json_member(v, "sizes"), 8);
+    struct bytes want = is_accepted(v) ? of_text(expected(v, 1)) : filled(0);
+    craneholt_orientation o = orientation_of(v);
+    int right = 1;
+    for (int lent = o.given == 0 ? 0 : 1; lent <= 1; lent++) {
+        struct bytes out = filled(number_member(v, "room"));
+        craneholt_write_answer answer =
+            calls.write_header(number_member(v, "version"), sizes.at, sizes.length, number_member(v, "type"),
+                               number_member(v, "encoding"), number_member(v, "endian"),
+                               lent ? &o : NULL, lent ? sizeof o : 0, out.at, out.length);
+        right = right && same_refusal(v, answer.refusal) && answer.length == want.length && holds(out, want);
+        free(out.at);
+    }
+    free(sizes.at);
+    free(want.at);
+    return right;
+}
+
 static int run_set(const struct json *v)
 {
     struct bytes buffer = hex_member(v, "buffer"), want_buffer = hex_member(v, "expect_buffer");
@@ -307,24 +486,25 @@ static int run_listing(const struct json *v)
 
 /* ---- files and counts */
 
-/* Each operation of the vectors, and what runs one. */
+/* Each operation of the vectors, what runs one, and the request that it came with. */
 static struct operation {
     const char *name;
     int (*run)(const struct json *);
-    int passed, total;
+    int request, passed, total;
 } operations[] = {
-    {"read", run_read, 0, 0},
-    {"data", run_data, 0, 0},
-    {"samples", run_samples, 0, 0},
-    {"coords", run_coords, 0, 0},
-    {"write", run_write, 0, 0},
-    {"set", run_set, 0, 0},
-    {"listing", run_listing, 0, 0},
+    {"read", run_read, BASE, 0, 0},
+    {"data", run_data, BASE, 0, 0},
+    {"samples", run_samples, BASE, 0, 0},
+    {"coords", run_coords, BASE, 0, 0},
+    {"write", run_write, BASE, 0, 0},
+    {"set", run_set, BASE, 0, 0},
+    {"listing", run_listing, BASE, 0, 0},
+    {"header", run_header, W2, 0, 0},
 };
 
 enum { OPERATIONS = sizeof operations / sizeof operations[0] };
 
-static struct operation listing_files = {"listing files", NULL, 0, 0};
+static struct operation listing_files = {"listing files", NULL, BASE, 0, 0};
 
 /* The operation; ends the program if there is none of this name. */
 static struct operation *operation_named(const char *name)
@@ -364,26 +544,27 @@ static void run_calls(const char *folder)
     free(text.at);
 }
 
-/* The listing of one file; false if there is none of this number. */
-static int run_listing_file(const char *folder, int number)
+/* The listing of one file, if there is one of this number. */
+static void run_listing_file(const char *folder, int number)
 {
     char name[40];
     struct bytes in, out;
     snprintf(name, sizeof name, "listing/%03d.in", number);
     in = load(folder, name);
     if (in.at == NULL)
-        return 0;
+        return;
     snprintf(name, sizeof name, "listing/%03d.out", number);
     out = load(folder, name);
     count(&listing_files, out.at != NULL && listing_is_right(in, out), "file", number);
     free(in.at);
     free(out.at);
-    return 1;
 }
 
-/* Prints the counts; true if there is a vector of this kind, and all passed. */
+/* Prints the counts; true if there is a vector of this kind, and all passed. An operation that came later has none. */
 static int tell(const struct operation *operation)
 {
+    if (operation->request > last)
+        return operation->total == 0;
     printf("%s: %d of %d\n", operation->name, operation->passed, operation->total);
     /* a kind of vector of which there is none was not run */
     return operation->total > 0 && operation->passed == operation->total;
@@ -393,10 +574,11 @@ int main(int arguments, char **argument)
 {
     const char *folder = arguments > 1 ? argument[1] : "tests/vectors";
     int right;
-    before_w1 = arguments > 2 && strcmp(argument[2], "before-w1") == 0;
+    if (arguments > 2)
+        last = strcmp(argument[2], "before-w1") == 0 ? BASE : W1;
     run_calls(folder);
-    for (int number = 0; run_listing_file(folder, number); number++)
-        continue;
+    for (int number = 0; number < 1000; number++)
+        run_listing_file(folder, number);
     right = tell(&listing_files);
     for (int i = 0; i < OPERATIONS; i++)
         right = tell(&operations[i]) && right;

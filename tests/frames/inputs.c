@@ -97,6 +97,7 @@ static const struct operation {
     {"write", "write vectors", put_write_vector},
     {"set", "set vectors", put_set_vector},
     {"listing", "listing calls", put_listing_vector},
+    {"header", NULL, NULL},
 };
 
 enum { OPERATIONS = COUNT(operations), MOST_VECTORS = 100000 };

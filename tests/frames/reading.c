@@ -86,6 +86,11 @@ static void put_reading(struct text *c, const craneholt_reading *r)
     put_number(c, r->length);
     put_number(c, r->lines);
     put_number(c, r->fromend);
+    put_number(c, r->origin);
+    put_number(c, r->directions);
+    put_number(c, r->frame);
+    put_number(c, r->space);
+    put_number(c, r->spacedimension);
 }
 
 static void put_fields(struct text *c, struct bytes file)

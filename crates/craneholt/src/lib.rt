@@ -21,7 +21,8 @@ ghost use Rattle.format.specs.Boundary.{wordBytes};
 ghost use Rattle.format.specs.Header.{header};
 ghost use Rattle.format.specs.Calls.{readHeaderCall, findFieldCall, findKeyCall, copyValueCall, dataPlaceCall, checkSamplesCall};
 ghost use Rattle.format.specs.Found.{FindsField, FindsKey};
-ghost use Rattle.format.specs.EntryPoints.{readEntry, samplesEntry, sampleNumberEntry, writeEntry, setKeyEntry};
+ghost use Rattle.format.specs.Orientation.{originEntry, directionsEntry, frameEntry};
+ghost use Rattle.format.specs.EntryPoints.{readEntry, samplesEntry, sampleNumberEntry, writeEntry, writeHeaderEntry, setKeyEntry};
 ghost use Rattle.format.specs.Listing.{listingCall};
 ghost use Rattle.format.specs.Room.{Enough, tableRoom, samplesRoom, sizesRoom, writeRoom, valueRoom, Copied, setRoom};
 
@@ -121,6 +122,54 @@ pub extern "C" fn craneholt_write(
     ensures enough { λ r. ⌜ (writeRoom (length (now (samples .entry)) / wordBytes) ≤ length (now (out .entry)) → Enough (r .refusal)) ⌝ }
 {
     write_file::write_bytes(version, sizes, sampletype, encoding, endian, samples, out)
+}
+
+// The components of the origin, 16 bytes each, at the front of the list.
+#[no_mangle]
+pub extern "C" fn craneholt_origin(file: &[u8], list: &mut [u8]) -> CountAnswer
+    ensures { λ r. ⌜ _≡_ {A = CountAnswer × List ℕ} (r, now (list .exit)) (originEntry (now (file .entry)) (now (list .entry))) ⌝ }
+{
+    read_orientation::origin_to_bytes(file, list)
+}
+
+// The directions of all axes, axis 0 first, 16 bytes for each component, at the front of the list.
+#[no_mangle]
+pub extern "C" fn craneholt_directions(file: &[u8], list: &mut [u8]) -> CountAnswer
+    ensures { λ r. ⌜ _≡_ {A = CountAnswer × List ℕ} (r, now (list .exit)) (directionsEntry (now (file .entry)) (now (list .entry))) ⌝ }
+{
+    read_orientation::directions_to_bytes(file, list)
+}
+
+// The measurement frame, column after column, 16 bytes for each entry, at the front of the list.
+#[no_mangle]
+pub extern "C" fn craneholt_frame(file: &[u8], list: &mut [u8]) -> CountAnswer
+    ensures { λ r. ⌜ _≡_ {A = CountAnswer × List ℕ} (r, now (list .exit)) (frameEntry (now (file .entry)) (now (list .entry))) ⌝ }
+{
+    read_orientation::frame_to_bytes(file, list)
+}
+
+// Writes a header with what is given of its orientation, in 3,232 bytes or none, to the front of `out`.
+#[no_mangle]
+pub extern "C" fn craneholt_write_header(
+    version: u64,
+    sizes: &[u8],
+    sampletype: u64,
+    encoding: u64,
+    endian: u64,
+    orientation: &[u8],
+    out: &mut [u8],
+) -> WriteAnswer
+    ensures { λ r. ⌜ _≡_ {A = WriteAnswer × List ℕ} (r, now (out .exit)) (writeHeaderEntry version (now (sizes .entry)) sampletype encoding endian (now (orientation .entry)) (now (out .entry))) ⌝ }
+{
+    write_header::write_header_bytes(
+        version,
+        sizes,
+        sampletype,
+        encoding,
+        endian,
+        orientation,
+        out,
+    )
 }
 
 // Sets a key to a value in the file in the first `used` bytes of a buffer, whose line table has `count` entries, 4 bytes each.

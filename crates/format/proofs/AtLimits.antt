@@ -15,7 +15,7 @@ use Rattle.format.specs.Calls.{readAnswer}
 use Rattle.format.specs.Refusals.{atLine, fine}
 use Rattle.format.specs.Lines.{Line, line, lf, size, lines}
 use Rattle.format.specs.Pairs.{mark}
-use Rattle.format.specs.Fields.{Given, given, sizes, dimension, type, encoding, fieldAt, descriptorOf, inOrder}
+use Rattle.format.specs.Fields.{Given, given, sizes, dimension, type, encoding, fieldAt, descriptorOf, isRepeated, inOrder}
 use Rattle.format.specs.Words.{trimFront, trimEnd, digitsFrom, number, parts, notEmpty, numbersIn}
 use Rattle.format.specs.Descriptors.{descriptor, typeAt, mayDescribe, hasNeeded, endIsRaw, product}
 use Rattle.format.specs.Header.{magicVersion, onField, judge, entry, Outcome, refused, accepted, withEntry, complete, walk, fromFirst, header}
@@ -74,7 +74,7 @@ from-lines s ls p h =
     rw (le-ltb maxFile (length (headerWith s)) (simp length-append (omega arith))) (ap (λ (x : List Line). fromFirst (fiveLines x)) p)
 
 past-five : (ls : List Line) → answered (fromFirst (fiveLines ls)) ≡ walked 6 56 ls
-unfolding every same alike beginsWith isIn isAny rowFrom mark fieldAt descriptorOf inOrder trimFront trimEnd descriptor digitsFrom number parts notEmpty numbersIn typeAt mayDescribe magicVersion onField judge walk
+unfolding every same alike beginsWith isIn isAny rowFrom mark fieldAt descriptorOf isRepeated inOrder trimFront trimEnd descriptor digitsFrom number parts notEmpty numbersIn typeAt mayDescribe magicVersion onField judge walk
 past-five ls = go (walk 1 6 56 fields ls) refl
   where
     go : (o : Outcome) → walk 1 6 56 fields ls ≡ o → answered (fromFirst (fiveLines ls)) ≡ answered o

@@ -8,7 +8,7 @@ use Rattle.format.proofs.Places.{data-at-end}
 use Rattle.format.proofs.Found.{field-found, key-found}
 use Rattle.format.proofs.Rules.{accepted-keeps, keeps-accepted, refused-keeps-none, keeps-none-refused}
 use Rattle.format.proofs.Samples.{value-of-bytes, bytes-of-value}
-use Rattle.format.proofs.Boundary.{numbers-of-lent, lent-of-numbers, samples-of-lent, lent-of-samples, numbers-of-front}
+use Rattle.format.proofs.Boundary.{numbers-of-lent, lent-of-numbers, samples-of-lent, lent-of-samples, numbers-of-front, decimal-of-bytes, bytes-of-decimal}
 use Rattle.format.proofs.Writer.{number-of-decimal, value-of-decimal, hex-of-text, data-read-back}
 use Rattle.format.proofs.AtLimits.{at-limits}
 
@@ -43,6 +43,8 @@ laws =
       lent-of-numbers = lent-of-numbers;
       samples-of-lent = samples-of-lent;
       lent-of-samples = lent-of-samples;
+      decimal-of-bytes = decimal-of-bytes;
+      bytes-of-decimal = bytes-of-decimal;
       numbers-of-front = numbers-of-front;
       number-of-decimal = number-of-decimal;
       value-of-decimal = value-of-decimal;

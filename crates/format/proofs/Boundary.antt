@@ -17,7 +17,7 @@ use Rattle.format.specs.Descriptors.{signed, little}
 use Rattle.format.specs.Samples.{inType, fromBytes, toBytes, sampleValue, valueBytes}
 use Rattle.format.specs.Writer.{allInType}
 use Rattle.format.specs.Boundary.{wordBytes, groups, wholeGroups, numbersOf, samplesLent, numberBytes, wordsOfSamples, lentNumbers, lentSamples, decimalBytes, decimalOf, decimalsBytes, decimalsLent}
-use Rattle.format.specs.Laws.{Each, AllBelow}
+use Rattle.format.specs.Laws.{Each, AllBelow, FitsBytes}
 use Rattle.format.proofs.Bytes.{and-left, and-right}
 use Rattle.format.proofs.Samples.{AllBytes, from-bytes-below, to-bytes-bytes, from-to-bytes, to-from-bytes, length-to-bytes, value-of-bytes, bytes-of-value, length-value-bytes}
 
@@ -336,10 +336,6 @@ module _ (s : List ℕ) where
     lent-of-samples = samples-over [] (omega arith)
 
 -- ---- decimals
-
--- its number fits 64 bits, its power 32 bits, and its kind 32 bits without a sign
-abbrev pub FitsBytes : Decimal → Type 0
-FitsBytes d = (inType signed 8 (d .number) ≡ true) × (inType signed 4 (d .power) ≡ true) × (d .kind < 256 ^ 4)
 
 pub length-decimal : (d : Decimal) → length (decimalBytes d) ≡ 16
 unfolding decimalBytes

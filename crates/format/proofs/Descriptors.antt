@@ -1,17 +1,17 @@
 -- Laws of descriptors: the text is a part of what follows its field's mark, and a carried field may have any.
 -- Assumes nothing.
-use Prim.Native.Nat.{ℕ, suc, _≤_, _-_}
+use Prim.Native.Nat.{ℕ, suc, _≤_, _-_, min}
 use native.Mathlib.Omega.{arith}
 use mathlib.Core.Path.{_≡_, refl, sym, ap, _∙_}
 use mathlib.Core.Bool.{Bool, true, false, false≢true}
 use mathlib.Core.List.{List, [], _∷_}
 use lib.Dec.{eqb}
-use lib.ListN.{length, take, drop}
+use lib.ListN.{length, take, drop, length-take}
 use borrow.Author.Tests.{ne-eqb}
 use Rattle.format.specs.Bytes.{spaceOrTab, if_then_else_}
-use Rattle.format.specs.Fields.{isUnderstood, fieldAt, dimension, type, encoding, endian, sizes, lineSkip, byteSkip, dataFile}
+use Rattle.format.specs.Fields.{isUnderstood, fieldAt, dimension, type, encoding, endian, sizes, lineSkip, byteSkip, dataFile, space, spaceDimension, spaceOrigin, spaceDirections, measurementFrame}
 use Rattle.format.specs.Words.{trimFront, trimByte, trimEnd}
-use Rattle.format.specs.Descriptors.{fromDescriptor, mayDescribe}
+use Rattle.format.specs.Descriptors.{fromDescriptor, descriptor, mayDescribe}
 
 -- ---- where it starts
 
@@ -71,12 +71,20 @@ take-trimmed (b ∷ s) = go (trimEnd s) (take-trimmed s)
     go [] h = last (spaceOrTab b)
     go (c ∷ t) h = ap (λ (u : List ℕ). b ∷ u) h
 
+-- a descriptor is no longer than what follows its field's mark
+pub descriptor-le : (f : ℕ) (rest : List ℕ) → length (descriptor f rest) ≤ length rest
+unfolding descriptor
+descriptor-le f rest =
+    let s = fromDescriptor f rest in
+    let e : length (trimEnd s) ≡ min (length (trimEnd s)) (length s) = ap length (sym (take-trimmed s)) ∙ length-take (length (trimEnd s)) s in
+    omega (arith, from-le f rest)
+
 -- ---- carried fields
 
-pub carried-any : (n f : ℕ) (t : List ℕ) → isUnderstood f ≡ false → mayDescribe n f t ≡ true
+pub carried-any : (n m f : ℕ) (t : List ℕ) → isUnderstood f ≡ false → mayDescribe n m f t ≡ true
 unfolding fieldAt mayDescribe
-carried-any n f t h =
-    rw (no dimension refl, no type refl, no encoding refl, no endian refl, no sizes refl, no lineSkip refl, no byteSkip refl, no dataFile refl)
+carried-any n m f t h =
+    rw (no dimension refl, no type refl, no encoding refl, no endian refl, no sizes refl, no lineSkip refl, no byteSkip refl, no dataFile refl, no space refl, no spaceDimension refl, no spaceOrigin refl, no spaceDirections refl, no measurementFrame refl)
   where
     no : (g : ℕ) → isUnderstood g ≡ true → eqb f g ≡ false
     no g u = ne-eqb f g (λ (e : f ≡ g). false≢true (sym h ∙ (ap isUnderstood e ∙ u)))

@@ -10,11 +10,11 @@ use borrow.Author.Tests.{eqb-true, not-true, ltb-false, le-ltb}
 use Rattle.format.specs.Bytes.{every, isIn, isEmpty, PERCENT, if_then_else_}
 use Rattle.format.specs.Refusals.{badByte, notInVersion, repeatedField, outOfOrder, badDescriptor}
 use Rattle.format.specs.Pairs.{plain, Marked, unmarked, fieldMark, pairMark, mark, LineKind, emptyLine, commentLine, otherLine, kindOf, isOther, unescape}
-use Rattle.format.specs.Fields.{fieldNamed, pairsSince, fieldSince, Given, given, descriptorOf, isGiven, needsDimension, needsSpace, inOrder, dimension, space, spaceDimension, dataFile}
-use Rattle.format.specs.Descriptors.{descriptor, meaning, isList, mayDescribe, dimensionOf, namesFollow}
+use Rattle.format.specs.Fields.{fieldNamed, pairsSince, fieldSince, Given, given, descriptorOf, isGiven, otherField, isRepeated, needsDimension, needsSpace, inOrder, dimension, space, spaceDimension, dataFile}
+use Rattle.format.specs.Descriptors.{descriptor, meaning, isList, mayDescribe, dimensionOf, spaceSizeOf, namesFollow}
 use Rattle.format.specs.Header.{Item, magic, comment, field, pair, closing, pairOf, fieldOf, closes, Judged, wrong, right, unescaped, onPair, onField, onMark, onKind, judge, withField, afterItem}
 use Rattle.format.specs.Rules.{OtherLine, FieldLine, Keeps}
-use Rattle.format.proofs.Bytes.{and-left, and-right}
+use Rattle.format.proofs.Bytes.{and-left, and-right, neither, or-false}
 use Rattle.format.proofs.Marks.{first-of-field, first-of-pair, field-of-first, pair-of-first, other-kind, mark-of-kind, empty-kind, is-other, is-comment, other-line, comment-line}
 
 -- ---- an item by its views
@@ -64,8 +64,12 @@ module _ (version : ℕ) (gs : List Given) where
   unfolding judge
   judge-other t o = rw (other-kind t (is-other t o), o .all-plain)
 
-  on-field-is : (f : ℕ) (rest : List ℕ) → fieldSince f ≤ version → isGiven f gs ≡ false → inOrder f gs ≡ true
-      → mayDescribe (dimensionOf gs) f (descriptor f rest) ≡ true → onField version gs (some f) rest ≡ right (field f (descriptor f rest))
+  pub not-repeated : (f : ℕ) → isGiven f gs ≡ false → isGiven (otherField f) gs ≡ false → isRepeated f gs ≡ false
+  unfolding isRepeated
+  not-repeated f = neither (isGiven f gs) (isGiven (otherField f) gs)
+
+  on-field-is : (f : ℕ) (rest : List ℕ) → fieldSince f ≤ version → isRepeated f gs ≡ false → inOrder f gs ≡ true
+      → mayDescribe (dimensionOf gs) (spaceSizeOf gs) f (descriptor f rest) ≡ true → onField version gs (some f) rest ≡ right (field f (descriptor f rest))
   unfolding onField
   on-field-is f rest s n o d = rw (le-ltb version (fieldSince f) s, n, o, d)
 
@@ -81,7 +85,7 @@ module _ (version : ℕ) (gs : List Given) where
   keeps-judge t comment k = rw (is-comment t k)
   keeps-judge t (field f d) k =
       rw (judge-other t (k .other), field-of-first (k .marked), k .named, k .descriptor-is)
-      (on-field-is f (k .rest) (k .since) (k .new) (in-order f gs (k .after-dimension) (k .after-space)) (rw (k .descriptor-is) at (k .described)))
+      (on-field-is f (k .rest) (k .since) (not-repeated f (k .new) (k .other-new)) (in-order f gs (k .after-dimension) (k .after-space)) (rw (k .descriptor-is) at (k .described)))
   keeps-judge t (pair x v) k =
       rw (judge-other t (k .other), pair-of-first (k .marked)) (on-pair-is (k .key) (k .value) x v (k .key-filled) (k .since) (k .key-is) (k .value-is))
   keeps-judge t closing k = rw k
@@ -95,10 +99,10 @@ module _ (version : ℕ) (gs : List Given) where
 
   field-keeps : (t name rest : List ℕ) → OtherLine t → mark t ≡ fieldMark name rest
       → (o : Option ℕ) → fieldNamed name ≡ o → KeepsRight t (onField version gs o rest)
-  unfolding onField inOrder
+  unfolding onField inOrder isRepeated
   field-keeps t name rest other m none e = tt
   field-keeps t name rest other m (some f) e =
-      go (ltb version (fieldSince f)) refl (isGiven f gs) refl (inOrder f gs) refl (mayDescribe (dimensionOf gs) f (descriptor f rest)) refl
+      go (ltb version (fieldSince f)) refl (isRepeated f gs) refl (inOrder f gs) refl (mayDescribe (dimensionOf gs) (spaceSizeOf gs) f (descriptor f rest)) refl
     where
       axes : Bool
       axes = not (needsDimension f) || isGiven dimension gs
@@ -106,8 +110,8 @@ module _ (version : ℕ) (gs : List Given) where
       spaces : Bool
       spaces = not (needsSpace f) || (isGiven space gs || isGiven spaceDimension gs)
 
-      go : (a : Bool) → ltb version (fieldSince f) ≡ a → (b : Bool) → isGiven f gs ≡ b → (c : Bool) → inOrder f gs ≡ c
-          → (d : Bool) → mayDescribe (dimensionOf gs) f (descriptor f rest) ≡ d
+      go : (a : Bool) → ltb version (fieldSince f) ≡ a → (b : Bool) → isRepeated f gs ≡ b → (c : Bool) → inOrder f gs ≡ c
+          → (d : Bool) → mayDescribe (dimensionOf gs) (spaceSizeOf gs) f (descriptor f rest) ≡ d
           → KeepsRight t
           (if a then wrong notInVersion else if b then wrong repeatedField else if not c then wrong outOfOrder
           else if not d then wrong badDescriptor else right (field f (descriptor f rest)))
@@ -123,7 +127,8 @@ module _ (version : ℕ) (gs : List Given) where
             marked = first-of-field t m;
             named = e;
             since = ltb-false version (fieldSince f) ha;
-            new = hb;
+            new = or-false (isGiven f gs) (isGiven (otherField f) gs) hb .0;
+            other-new = or-false (isGiven f gs) (isGiven (otherField f) gs) hb .1;
             after-dimension = unless (needsDimension f) (isGiven dimension gs) (and-left axes spaces hc);
             after-space = unless (needsSpace f) (isGiven space gs || isGiven spaceDimension gs) (and-right axes spaces hc);
             descriptor-is = refl;
@@ -194,11 +199,11 @@ module _ (version : ℕ) (gs : List Given) where
   unfolding namesFollow descriptorOf mayDescribe
   field-no-names t f d w h = go (eqb dataFile f) refl
     where
-      named : mayDescribe (dimensionOf gs) dataFile d ≡ true → isList d ≡ false
+      named : mayDescribe (dimensionOf gs) (spaceSizeOf gs) dataFile d ≡ true → isList d ≡ false
       named e = not-true (isList d) (and-left (not (isList d)) (not (isIn PERCENT d)) (and-right (not (isEmpty d)) (not (isList d) && not (isIn PERCENT d)) e))
 
       go : (x : Bool) → eqb dataFile f ≡ x → meaning false isList (if x then some d else descriptorOf dataFile gs) ≡ false
-      go true e = named (subst (λ g. mayDescribe (dimensionOf gs) g d ≡ true) (sym (eqb-true dataFile f e)) (w .described))
+      go true e = named (subst (λ g. mayDescribe (dimensionOf gs) (spaceSizeOf gs) g d ≡ true) (sym (eqb-true dataFile f e)) (w .described))
       go false e = h
 
   pub no-names-after : (t : List ℕ) {i : Item} → judge version gs t ≡ right i → namesFollow gs ≡ false → namesFollow (afterItem i gs) ≡ false

@@ -13,8 +13,8 @@ use Rattle.format.specs.Limits.{maxFile, maxHeader, maxLines, maxExtent}
 use Rattle.format.specs.Refusals.{fileTooLong, headerTooLong, tooManyLines, badByte, notInVersion, repeatedField, outOfOrder, badDescriptor, noEnd, extentTooLarge, atLine, refusal}
 use Rattle.format.specs.Lines.{Line, size, text, lines}
 use Rattle.format.specs.Pairs.{plain, Marked, unmarked, fieldMark, pairMark, LineKind, emptyLine, commentLine, otherLine, kindOf, unescape}
-use Rattle.format.specs.Fields.{fieldNamed, pairsSince, fieldSince, Given, isGiven, inOrder}
-use Rattle.format.specs.Descriptors.{descriptor, mayDescribe, dimensionOf, hasNeeded, endIsRaw, extentOf, isDetached}
+use Rattle.format.specs.Fields.{fieldNamed, pairsSince, fieldSince, Given, isGiven, isRepeated, inOrder}
+use Rattle.format.specs.Descriptors.{descriptor, mayDescribe, dimensionOf, spaceSizeOf, hasNeeded, endIsRaw, extentOf, isDetached}
 use Rattle.format.specs.Header.{Item, magic, field, Entry, entry, versionOfLine, Judged, wrong, right, unescaped, onPair, onField, onMark, onKind, judge, Outcome, refused, accepted, withEntry, closes, afterItem, complete, onJudged, walk, afterMagic, fromFirst, header}
 
 -- ---- a line's
@@ -28,7 +28,7 @@ module _ (version : ℕ) (gs : List Given) where
   unfolding onField
   field-numbered none rest = omega arith
   field-numbered (some f) rest =
-      go (ltb version (fieldSince f)) (isGiven f gs) (inOrder f gs) (mayDescribe (dimensionOf gs) f (descriptor f rest))
+      go (ltb version (fieldSince f)) (isRepeated f gs) (inOrder f gs) (mayDescribe (dimensionOf gs) (spaceSizeOf gs) f (descriptor f rest))
     where
       go : (a b c d : Bool)
           → Numbered

@@ -1,15 +1,19 @@
 -- The starred trials and the further ones hold: both sides of each are computed.
 use mathlib.Core.Path.{refl}
+use mathlib.Core.List.{flatMap}
 use Rattle.format.specs.Bytes.{every, same, alike, beginsWith, isIn, isAny, rowFrom}
 use Rattle.format.specs.Lines.{lines, unlines, starts}
 use Rattle.format.specs.Pairs.{mark, escape, unescapeFrom}
-use Rattle.format.specs.Fields.{fieldAt, descriptorOf, inOrder}
+use Rattle.format.specs.Fields.{fieldAt, descriptorOf, isRepeated, inOrder}
 use Rattle.format.specs.Words.{trimFront, trimEnd, digitsFrom, number, parts, notEmpty, numbersIn}
 use Rattle.format.specs.Descriptors.{descriptor, typeAt, mayDescribe, hasNeeded, endIsRaw, product}
 use Rattle.format.specs.Decimals.{digitsOf, afterDigits, numeralValue, component}
 use Rattle.format.specs.Spaces.{spaceAt}
 use Rattle.format.specs.Vectors.{partsOutside, vectorWords, closed, commaParts, allSaid, saidBy, vectorSaid, directionSaid}
-use Rattle.format.specs.HeaderWriter.{componentText, joined, vectorText, orientationLines, orientedBytes}
+use Rattle.format.specs.HeaderWriter.{componentText, joined, vectorText, orientationLines, orientedBytes, untilNone, inVersion, writeHeader}
+use Rattle.format.specs.Orientation.{originOf, directionsOf, frameOf}
+use Rattle.format.specs.Columns.{eight}
+use Rattle.format.specs.EntryPoints.{columnsLent, writeHeaderEntry}
 use Rattle.format.specs.Header.{magicVersion, onPair, onField, judge, complete, walk, header, valueOf}
 use Rattle.format.specs.Data.{skipLine, skipLines, skipBytes, lastBytes, placeOf}
 use Rattle.format.specs.Samples.{inType, toBytes, valueBytes, fromBytes, sampleValue, rawSamples, skipBlanks, token, afterToken, tokenValue, tokens, samplesOf}
@@ -24,7 +28,7 @@ use Rattle.format.specs.EntryTrials.{entries}
 use Rattle.format.specs.FurtherTrials.{FurtherTrials}
 
 trials : StarredTrials × FurtherTrials
-unfolding every same alike beginsWith isIn isAny rowFrom lines unlines starts mark escape unescapeFrom fieldAt descriptorOf inOrder trimFront trimEnd descriptor digitsFrom number parts notEmpty numbersIn typeAt mayDescribe hasNeeded endIsRaw product magicVersion onPair onField judge complete walk header valueOf skipLine skipLines skipBytes lastBytes placeOf inType fromBytes sampleValue rawSamples skipBlanks token afterToken tokenValue tokens samplesOf inside sampleNumber keyFine valueFine pairText replaced newLines refilled tableFine store setRead setKey noReading readingOf withTable texts keyPlace fieldPlace decimalFrom spaced shownRefusal shownKeys shownReading listing hexText rawData textData dataBytes headerLines fileBytes allInType writable writeRefusal groups numberBytes wordsOfSamples entries toBytes valueBytes digitsOf afterDigits numeralValue component spaceAt partsOutside vectorWords closed commaParts allSaid saidBy vectorSaid directionSaid componentText joined vectorText orientationLines orientedBytes decimalBytes decimalOf decimalsBytes
+unfolding every same alike beginsWith isIn isAny rowFrom lines unlines starts mark escape unescapeFrom fieldAt descriptorOf isRepeated inOrder trimFront trimEnd descriptor digitsFrom number parts notEmpty numbersIn typeAt mayDescribe hasNeeded endIsRaw product magicVersion onPair onField judge complete walk header valueOf skipLine skipLines skipBytes lastBytes placeOf inType fromBytes sampleValue rawSamples skipBlanks token afterToken tokenValue tokens samplesOf inside sampleNumber keyFine valueFine pairText replaced newLines refilled tableFine store setRead setKey noReading readingOf withTable texts keyPlace fieldPlace decimalFrom spaced shownRefusal shownKeys shownReading listing hexText rawData textData dataBytes headerLines fileBytes allInType writable writeRefusal groups numberBytes wordsOfSamples entries toBytes valueBytes digitsOf afterDigits numeralValue component spaceAt partsOutside vectorWords closed commaParts allSaid saidBy vectorSaid directionSaid componentText joined vectorText orientationLines orientedBytes decimalBytes decimalOf decimalsBytes untilNone inVersion writeHeader originOf directionsOf frameOf eight columnsLent writeHeaderEntry flatMap
 trials = (
   (refl, (refl, (refl, (refl, (refl, (refl, (refl, (refl, (refl, (refl, (refl, (refl, (refl, (refl, (refl, (refl, (refl, (refl, (refl, (refl, (refl, (refl, (refl, (refl, (refl, tt))))))))))))))))))))))))),
   record {
@@ -39,6 +43,11 @@ trials = (
       in-vectors = (refl, (refl, (refl, (refl, (refl, (refl, (refl, (refl, (refl, (refl, (refl, (refl, (refl, (refl, (refl, (refl, (refl, (refl, (refl, (refl, (refl, (refl, (refl, (refl, (refl, (refl, (refl, (refl, tt))))))))))))))))))))))))))));
       in-spaces = (refl, (refl, (refl, (refl, (refl, (refl, (refl, (refl, (refl, (refl, (refl, (refl, (refl, (refl, (refl, tt)))))))))))))));
       in-headers = (refl, (refl, tt));
+    };
+    posed = record {
+      in-accepting = (refl, (refl, (refl, (refl, (refl, (refl, (refl, (refl, (refl, (refl, (refl, (refl, (refl, (refl, (refl, (refl, (refl, (refl, (refl, (refl, (refl, (refl, (refl, (refl, (refl, (refl, (refl, (refl, tt))))))))))))))))))))))))))));
+      in-saying = (refl, (refl, (refl, (refl, (refl, (refl, (refl, (refl, (refl, (refl, (refl, (refl, (refl, (refl, (refl, (refl, (refl, (refl, (refl, (refl, tt))))))))))))))))))));
+      in-writing = (refl, (refl, (refl, (refl, (refl, (refl, (refl, (refl, (refl, (refl, (refl, (refl, (refl, (refl, (refl, (refl, tt))))))))))))))));
     };
   },
 )

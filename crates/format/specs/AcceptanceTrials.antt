@@ -40,6 +40,11 @@ readingDetached =
       length = 114;
       lines = 9;
       fromend = false;
+      origin = false;
+      directions = false;
+      frame = false;
+      space = 12;
+      spacedimension = 0;
     }
 
 -- its second file: a line of 6 bytes and LF, 3 bytes, 4 bytes of data, one byte more
@@ -86,7 +91,7 @@ acceptanceTrials =
     ∷ since 4 ("space dimension: 3" ∷ []) "space units: m"
     ∷ since 4 ("space dimension: 3" ∷ []) "space origin: (0,0,0)"
     ∷ since 4 ("space dimension: 3" ∷ []) "space directions: none"
-    ∷ since 5 ("space dimension: 3" ∷ []) "measurement frame: (1,0,0)"
+    ∷ since 5 ("space dimension: 3" ∷ []) "measurement frame: (1,0,0) (0,1,0) (0,0,1)"
     -- order: space units before space, after space, and after space dimension
     ∷ trial Refusal (withLines 4 ("space units: m" ∷ "space: RAS" ∷ [])) (atLine 10 6)
     ∷ trial Refusal (withLines 4 ("space: RAS" ∷ "space units: m" ∷ [])) fine

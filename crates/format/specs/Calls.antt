@@ -23,8 +23,8 @@ use Rattle.format.specs.Limits.{maxAxes}
 use Rattle.format.specs.Refusals.{lentTooShort, badCoordinates, refusal, fine}
 use Rattle.format.specs.Lines.{text, size}
 use Rattle.format.specs.Pairs.{Marked, unmarked, fieldMark, pairMark, mark, escape}
-use Rattle.format.specs.Fields.{Given, given}
-use Rattle.format.specs.Descriptors.{fromDescriptor, bytesForward, isFromEnd, isDetached, dimensionOf, typeOf, encodingOf, endianOf, sizesOf, lineSkipOf, byteSkipOf, extentOf, sampleBytes, numberKind, product}
+use Rattle.format.specs.Fields.{Given, given, isGiven, spaceOrigin, spaceDirections, measurementFrame}
+use Rattle.format.specs.Descriptors.{fromDescriptor, bytesForward, isFromEnd, isDetached, dimensionOf, typeOf, encodingOf, endianOf, sizesOf, lineSkipOf, byteSkipOf, spaceOf, spaceSizeOf, extentOf, sampleBytes, numberKind, product}
 use Rattle.format.specs.Header.{Item, pairOf, fieldOf, Entry, entry, Outcome, refused, accepted, header, versionOf, valueOf, valueIn, tableOf, headerLength}
 use Rattle.format.specs.Data.{Place, nowhere, part, placeOf, partOf}
 use Rattle.format.specs.Samples.{Decoded, samplesOf}
@@ -36,7 +36,7 @@ use Rattle.format.specs.Settings.{Lent, lent, Setting, setting, SetOutco
 
 unfoldable pub noReading : Reading
 noReading =
-    record { version = 0; form = 0; dimension = 0; sampletype = 0; encoding = 0; endian = 0; sizes = replicate maxAxes 0; lineskip = 0; byteskip = 0; extent = 0; length = 0; lines = 0; fromend = false }
+    record { version = 0; form = 0; dimension = 0; sampletype = 0; encoding = 0; endian = 0; sizes = replicate maxAxes 0; lineskip = 0; byteskip = 0; extent = 0; length = 0; lines = 0; fromend = false; origin = false; directions = false; frame = false; space = 0; spacedimension = 0 }
 
 abbrev pub formOf : List Given → ℕ
 formOf gs = if isDetached gs then 1 else 0
@@ -62,6 +62,11 @@ readingAt version gs bytes count =
       length = bytes;
       lines = count;
       fromend = isFromEnd (byteSkipOf gs);
+      origin = isGiven spaceOrigin gs;
+      directions = isGiven spaceDirections gs;
+      frame = isGiven measurementFrame gs;
+      space = spaceOf gs;
+      spacedimension = spaceSizeOf gs;
     }
 
 unfoldable pub readingOf : List Entry → List Given → Reading

@@ -1,5 +1,5 @@
 -- Descriptors and what they mean (document 01, "Lines and headers", point 5; "Understood fields", "Needed", "Types";
--- "Data and samples", extent; document 02, W1, byte skips).
+-- "Data and samples", extent; document 02, W1, byte skips, and W2, orientation).
 use Prim.Native.Nat.{ℕ, _+_, _-_, _*_, min}
 use Prim.Native.String.{String}
 use mathlib.Core.Bool.{Bool, true, false, not, _&&_, _||_}
@@ -7,10 +7,12 @@ use mathlib.Core.List.{List, [], _∷_, map}
 use mathlib.Core.Option.{Option, none, some}
 use lib.Dec.{eqb, ltb}
 use lib.ListN.{length, getD}
-use Rattle.format.specs.Bytes.{if_then_else_, bytes, between, spaceOrTab, isDigit, same, beginsWith, isIn, isEmpty, rowOf, isSome, orDefault, PERCENT}
+use Rattle.format.specs.Bytes.{if_then_else_, bytes, same, beginsWith, isIn, isEmpty, rowOf, isSome, orDefault, PERCENT}
 use Rattle.format.specs.Words.{trimFront, trimEnd, numberIn, valueOfNumber, words, numbersIn}
 use Rattle.format.specs.Limits.{maxAxes, maxSize, maxSkip, pastExtent}
-use Rattle.format.specs.Fields.{Given, descriptorOf, isGiven, isUnderstood, dimension, type, encoding, endian, sizes, lineSkip, byteSkip, dataFile}
+use Rattle.format.specs.Fields.{Given, descriptorOf, isGiven, isUnderstood, dimension, type, encoding, endian, sizes, lineSkip, byteSkip, dataFile, space, spaceDimension, spaceOrigin, spaceDirections, measurementFrame}
+use Rattle.format.specs.Spaces.{spaceCount, maxSpace, spaceSize, spaceNamed}
+use Rattle.format.specs.Vectors.{vectorsSaid, directionsSaid}
 
 -- ---- the text of a descriptor
 
@@ -149,8 +151,12 @@ abbrev pub meaning : {A : Type 0} → A → (List ℕ → A) → Option (List �
 meaning d f none = d
 meaning d f (some t) = f t
 
--- the number that a field's descriptor says: of a type, an encoding or an endian the one of its name, of dimension and line skip their value,
--- of a byte skip the number of bytes; 0 for a field that says none
+-- the space that is not given
+abbrev pub noSpace : ℕ
+noSpace = spaceCount
+
+-- the number that a field's descriptor says: of a type, an encoding, an endian or a space the one of its name, of dimension, line skip and space dimension
+-- their value, of a byte skip the number of bytes; 0 for a field that says none
 abbrev pub numberSaid : ℕ → List ℕ → ℕ
 numberSaid f t =
     if eqb f type then orDefault 0 (typeNamed t)
@@ -158,11 +164,13 @@ numberSaid f t =
     else if eqb f endian then orDefault noEndian (endianNamed t)
     else if eqb f dimension || eqb f lineSkip then valueOfNumber t
     else if eqb f byteSkip then bytesForward (byteSkipSaid t)
+    else if eqb f space then orDefault noSpace (spaceNamed t)
+    else if eqb f spaceDimension then valueOfNumber t
     else 0
 
 -- the number of a field that is not given
 abbrev pub numberAbsent : ℕ → ℕ
-numberAbsent f = if eqb f endian then noEndian else 0
+numberAbsent f = if eqb f endian then noEndian else if eqb f space then noSpace else 0
 
 -- the number of a field
 abbrev pub numberOf : ℕ → List Given → ℕ
@@ -182,6 +190,13 @@ endianOf gs = numberOf endian gs
 
 abbrev pub lineSkipOf : List Given → ℕ
 lineSkipOf gs = numberOf lineSkip gs
+
+abbrev pub spaceOf : List Given → ℕ
+spaceOf gs = numberOf space gs
+
+-- the dimension of the space, by its name or as it is given; 0 where neither is
+abbrev pub spaceSizeOf : List Given → ℕ
+spaceSizeOf gs = if isGiven space gs then spaceSize (spaceOf gs) else numberOf spaceDimension gs
 
 -- a byte skip that is not given skips nothing
 abbrev pub byteSkipOf : List Given → ByteSkip
@@ -217,9 +232,9 @@ isName t = not (isEmpty t) && (not (isList t) && not (isIn PERCENT t))
 unfoldable pub namesFollow : List Given → Bool
 namesFollow gs = meaning false isList (descriptorOf dataFile gs)
 
--- the field may have the descriptor t in a header of dimension n; a carried field may have any
-unfoldable pub mayDescribe : ℕ → ℕ → List ℕ → Bool
-mayDescribe n f t =
+-- the field may have the descriptor t in a header of dimension n, in a space of dimension m; a carried field may have any
+unfoldable pub mayDescribe : ℕ → ℕ → ℕ → List ℕ → Bool
+mayDescribe n m f t =
     if eqb f dimension then numberIn 1 maxAxes t
     else if eqb f type then isSome (typeNamed t)
     else if eqb f encoding then isSome (encodingNamed t)
@@ -228,6 +243,11 @@ mayDescribe n f t =
     else if eqb f lineSkip then numberIn 0 maxSkip t
     else if eqb f byteSkip then isMinusOne t || numberIn 0 maxSkip t
     else if eqb f dataFile then isName t
+    else if eqb f space then isSome (spaceNamed t)
+    else if eqb f spaceDimension then numberIn 1 maxSpace t
+    else if eqb f spaceOrigin then isSome (vectorsSaid 1 m t)
+    else if eqb f spaceDirections then isSome (directionsSaid n m t)
+    else if eqb f measurementFrame then isSome (vectorsSaid m m t)
     else true
 
 -- ---- what is needed (refusal 14), the encoding that a byte skip of -1 asks for (11 with line 0), and the extent

@@ -1,5 +1,5 @@
 -- The 30 fields: their names in either spelling, first versions and order
--- (document 01, "Understood fields", "Carried fields", "Versions", "Order").
+-- (document 01, "Understood fields", "Carried fields", "Versions", "Order"; document 02, W2, the five that became understood).
 -- A field is a number from 0: its row in the table. The numbers are those that callers in C use: they stay when a field becomes understood.
 use Prim.Native.Nat.{ℕ}
 use Prim.Native.String.{String}
@@ -42,12 +42,12 @@ fieldTable =
     ∷ fieldRow ("old max" ∷ "oldmax" ∷ []) 1 anywhere carried
     ∷ fieldRow ("number" ∷ []) 1 anywhere carried
     ∷ fieldRow ("sample units" ∷ "sampleunits" ∷ []) 4 anywhere carried
-    ∷ fieldRow ("space" ∷ []) 4 anywhere carried
-    ∷ fieldRow ("space dimension" ∷ []) 4 anywhere carried
+    ∷ fieldRow ("space" ∷ []) 4 anywhere understood
+    ∷ fieldRow ("space dimension" ∷ []) 4 anywhere understood
     ∷ fieldRow ("space units" ∷ []) 4 afterSpace carried
-    ∷ fieldRow ("space origin" ∷ []) 4 afterSpace carried
-    ∷ fieldRow ("space directions" ∷ []) 4 afterBoth carried
-    ∷ fieldRow ("measurement frame" ∷ []) 5 afterSpace carried
+    ∷ fieldRow ("space origin" ∷ []) 4 afterSpace understood
+    ∷ fieldRow ("space directions" ∷ []) 4 afterBoth understood
+    ∷ fieldRow ("measurement frame" ∷ []) 5 afterSpace understood
     ∷ fieldRow ("spacings" ∷ []) 1 afterDimension carried
     ∷ fieldRow ("thicknesses" ∷ []) 4 afterDimension carried
     ∷ fieldRow ("axis mins" ∷ "axismins" ∷ []) 1 afterDimension carried
@@ -147,6 +147,15 @@ space = 16
 abbrev pub spaceDimension : ℕ
 spaceDimension = 17
 
+abbrev pub spaceOrigin : ℕ
+spaceOrigin = 19
+
+abbrev pub spaceDirections : ℕ
+spaceDirections = 20
+
+abbrev pub measurementFrame : ℕ
+measurementFrame = 21
+
 -- ---- versions
 
 -- key pairs are there from version 2
@@ -165,6 +174,16 @@ descriptorOf f (given g d ∷ gs) = if eqb f g then some d else descriptorOf f g
 
 abbrev pub isGiven : ℕ → List Given → Bool
 isGiven f gs = isSome (descriptorOf f gs)
+
+-- ---- repeated fields
+
+-- space and space dimension say the same: each counts as the other (document 02, W2)
+abbrev pub otherField : ℕ → ℕ
+otherField f = if eqb f space then spaceDimension else if eqb f spaceDimension then space else f
+
+-- the field is given already (refusal 9)
+unfoldable pub isRepeated : ℕ → List Given → Bool
+isRepeated f gs = isGiven f gs || isGiven (otherField f) gs
 
 -- ---- order
 

@@ -7,7 +7,7 @@ use mathlib.Core.Option.{Option, some}
 use Rattle.format.specs.declared.FindAnswer.{FindAnswer}
 use Rattle.format.specs.Bytes.{bytes, LF}
 use Rattle.format.specs.Refusals.{atLine, fine}
-use Rattle.format.specs.Fields.{fieldNamed, dimension, type, encoding, endian, sizes, lineSkip, byteSkip, dataFile, space, spaceDimension}
+use Rattle.format.specs.Fields.{fieldNamed, dimension, type, encoding, endian, sizes, lineSkip, byteSkip, dataFile, space, spaceDimension, spaceOrigin, spaceDirections, measurementFrame}
 use Rattle.format.specs.Calls.{noPlace, foundAt, findFieldCall, findKeyCall}
 use Rattle.format.specs.Trials.{Trial, trial, Hold, texts, wholeS, fileS}
 
@@ -63,6 +63,9 @@ namedFields =
     ∷ ("data file", dataFile)
     ∷ ("space", space)
     ∷ ("space dimension", spaceDimension)
+    ∷ ("space origin", spaceOrigin)
+    ∷ ("space directions", spaceDirections)
+    ∷ ("measurement frame", measurementFrame)
     ∷ []
 
 -- ---- the trials; fields by their numbers (specs/Fields.antt)

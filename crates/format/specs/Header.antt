@@ -12,8 +12,8 @@ use Rattle.format.specs.Limits.{maxFile, maxHeader, maxLines, maxExtent}
 use Rattle.format.specs.Refusals.{fileTooLong, noMagic, headerTooLong, tooManyLines, badByte, noMark, unknownField, notInVersion, repeatedField, outOfOrder, badDescriptor, badBackslash, noEnd, missingField, extentTooLarge, atLine, refusal}
 use Rattle.format.specs.Lines.{Line, line, lf, crlf, eof, text, size, lines, unlines, starts}
 use Rattle.format.specs.Pairs.{plain, Marked, unmarked, fieldMark, pairMark, LineKind, emptyLine, commentLine, otherLine, kindOf, unescape}
-use Rattle.format.specs.Fields.{fieldNamed, pairsSince, fieldSince, Given, given, isGiven, inOrder}
-use Rattle.format.specs.Descriptors.{descriptor, mayDescribe, dimensionOf, hasNeeded, endIsRaw, extentOf, isDetached}
+use Rattle.format.specs.Fields.{fieldNamed, pairsSince, fieldSince, Given, given, isRepeated, inOrder}
+use Rattle.format.specs.Descriptors.{descriptor, mayDescribe, dimensionOf, spaceSizeOf, hasNeeded, endIsRaw, extentOf, isDetached}
 
 -- ---- what a line is
 
@@ -114,9 +114,9 @@ unfoldable pub onField : ℕ → List Given → Option ℕ → List ℕ → Judg
 onField version gs none rest = wrong unknownField
 onField version gs (some f) rest =
     if ltb version (fieldSince f) then wrong notInVersion
-    else if isGiven f gs then wrong repeatedField
+    else if isRepeated f gs then wrong repeatedField
     else if not (inOrder f gs) then wrong outOfOrder
-    else if not (mayDescribe (dimensionOf gs) f (descriptor f rest)) then wrong badDescriptor
+    else if not (mayDescribe (dimensionOf gs) (spaceSizeOf gs) f (descriptor f rest)) then wrong badDescriptor
     else right (field f (descriptor f rest))
 
 abbrev pub onMark : ℕ → List Given → Marked → Judged

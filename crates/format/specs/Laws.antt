@@ -7,6 +7,7 @@ use mathlib.Core.Option.{some}
 use lib.Dec.{eqb}
 use lib.IntN.{ℤ}
 use lib.ListN.{length, drop, getD}
+use Rattle.format.specs.declared.Decimal.{Decimal}
 use Rattle.format.specs.declared.Refusal.{Refusal}
 use Rattle.format.specs.Bytes.{if_then_else_, every, over, LF, CR}
 use Rattle.format.specs.Limits.{maxFile}
@@ -24,7 +25,7 @@ use Rattle.format.specs.Settings.{keyFine, valueFine, pairText}
 use Rattle.format.specs.Calls.{findFieldCall, findKeyCall}
 use Rattle.format.specs.Found.{FindsField, FindsKey}
 use Rattle.format.specs.Trials.{AtLimits}
-use Rattle.format.specs.Boundary.{wordBytes, numbersOf, samplesLent, lentNumbers, lentSamples}
+use Rattle.format.specs.Boundary.{wordBytes, numbersOf, samplesLent, lentNumbers, lentSamples, decimalBytes, decimalOf}
 
 -- ---- the line rule (document 01, "Lines and headers", the first point), said of lines instead of computed
 
@@ -64,6 +65,10 @@ AllBelow m ns = Each (λ (n : ℕ). n < m) ns
 abbrev pub AllBytes : List ℕ → Type 0
 AllBytes s = AllBelow 256 s
 
+-- a decimal that crosses in bytes: its number fits 64 bits, its power 32 bits, and its kind 32 bits without a sign
+abbrev pub FitsBytes : Decimal → Type 0
+FitsBytes d = (inType signed 8 (d .number) ≡ true) × (inType signed 4 (d .power) ≡ true) × (d .kind < 256 ^ 4)
+
 -- ---- the laws
 
 pub record Laws : Type 0 where
@@ -88,7 +93,7 @@ pub record Laws : Type 0 where
   pub refused-keeps-none : (file : List ℕ) {x : Refusal} → header file ≡ refused x → (es : List Entry) (gs : List Given) (r : List Line) → KeepsRules file es gs r → ⊥
   pub keeps-none-refused : (file : List ℕ) → ((es : List Entry) (gs : List Given) (r : List Line) → KeepsRules file es gs r → ⊥) → (x : Refusal) × (header file ≡ refused x)
   -- a field that is not understood may have any descriptor
-  pub carried-any : (n f : ℕ) (t : List ℕ) → isUnderstood f ≡ false → mayDescribe n f t ≡ true
+  pub carried-any : (n m f : ℕ) (t : List ℕ) → isUnderstood f ≡ false → mayDescribe n m f t ≡ true
   -- no names follow the fields of an accepted header: a data file of the form LIST is refused
   pub no-names : (file : List ℕ) {es : List Entry} {gs : List Given} {r : List Line} → header file ≡ accepted es gs r → namesFollow gs ≡ false
   -- what follows the closing line decides nothing about the header; the data area is what follows it
@@ -108,6 +113,9 @@ pub record Laws : Type 0 where
   pub lent-of-numbers : (w : ℕ) (s : List ℕ) → AllBytes s → lentNumbers w (numbersOf w s) s ≡ s
   pub samples-of-lent : (zs : List ℤ) (s : List ℕ) → length zs ≡ length s / wordBytes → allInType signed wordBytes zs ≡ true → samplesLent (lentSamples zs s) ≡ zs
   pub lent-of-samples : (s : List ℕ) → AllBytes s → lentSamples (samplesLent s) s ≡ s
+  -- so are decimals, in 16 bytes each
+  pub decimal-of-bytes : (d : Decimal) → FitsBytes d → decimalOf (decimalBytes d) ≡ d
+  pub bytes-of-decimal : (s : List ℕ) → AllBytes s → length s ≡ 16 → decimalBytes (decimalOf s) ≡ s
   -- numbers put in at the front only: the others are taken out as they were
   pub numbers-of-front : (w : ℕ) (ns s : List ℕ) → length ns ≤ length s / w → AllBelow (256 ^ w) ns → numbersOf w (lentNumbers w ns s) ≡ over ns (numbersOf w s)
   -- decimal and hex text of a value read back as it

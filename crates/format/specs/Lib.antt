@@ -8,6 +8,7 @@ pub mod Words
 pub mod Decimals
 pub mod Spaces
 pub mod Vectors
+pub mod Columns
 pub mod Descriptors
 pub mod Widths
 pub mod Header
@@ -18,6 +19,7 @@ pub mod Writer
 pub mod HeaderWriter
 pub mod Settings
 pub mod Calls
+pub mod Orientation
 pub mod Listing
 pub mod Found
 pub mod Trials
@@ -31,6 +33,7 @@ pub mod WriteTrials
 pub mod EntryTrials
 pub mod SkipTrials
 pub mod OrientationTrials
+pub mod HeaderTrials
 pub mod FurtherTrials
 pub mod Rules
 pub mod Laws

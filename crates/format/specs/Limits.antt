@@ -1,4 +1,4 @@
--- The limits of document 01, each named once.
+-- The limits of document 01, and that of document 02 on spaces, each named once.
 use Prim.Native.Nat.{ℕ, _+_, _*_, min}
 use Rattle.format.specs.declared.Limits.{Limits}
 
@@ -38,6 +38,10 @@ pastExtent = maxExtent + 1
 abbrev pub maxVersion : ℕ
 maxVersion = 5
 
+-- the largest dimension of a space, as the field space dimension says it (document 02, W2)
+abbrev pub maxSpace : ℕ
+maxSpace = 8
+
 -- the largest sample: samples go to a list of signed 64-bit numbers (20)
 abbrev pub maxSample : ℕ
 maxSample = 9_223_372_036_854_775_807
@@ -64,4 +68,4 @@ maxListing = maxReading + maxKeys
 
 abbrev pub limits : Limits
 limits =
-    record { file = maxFile; header = maxHeader; lines = maxLines; axes = maxAxes; size = maxSize; skip = maxSkip; extent = maxExtent; version = maxVersion; sample = maxSample; listed = maxListed; listing = maxListing }
+    record { file = maxFile; header = maxHeader; lines = maxLines; axes = maxAxes; size = maxSize; skip = maxSkip; extent = maxExtent; version = maxVersion; space = maxSpace; sample = maxSample; listed = maxListed; listing = maxListing }

@@ -1,6 +1,6 @@
 -- How much room is always enough for what a call stores: the manual promises it (include/craneholt.h), and document 01 asks for refusal 22 only where
--- what is lent is too short ("Numbers of refusal"). That it is enough is the theorem of `theorem_room`; each call's contract says its own part. The room of
--- a listing is `Limits.maxListing`.
+-- what is lent is too short ("Numbers of refusal"). That it is enough is the theorem of `theorem_room`; each call's contract says its own part, but for the
+-- orientation's. The room of a listing is `Limits.maxListing`.
 use Prim.Native.Nat.{ℕ, _+_, _*_, _≤_}
 use mathlib.Core.Path.{_≡_}
 use mathlib.Core.List.{List}
@@ -9,11 +9,11 @@ use Rattle.format.specs.declared.Refusal.{Refusal}
 use Rattle.format.specs.declared.Reading.{Reading}
 use Rattle.format.specs.declared.FindAnswer.{FindAnswer}
 use Rattle.format.specs.declared.ValueAnswer.{ValueAnswer}
-use Rattle.format.specs.Limits.{maxLines}
+use Rattle.format.specs.Limits.{maxLines, maxAxes, maxSpace}
 use Rattle.format.specs.Refusals.{lentTooShort}
 use Rattle.format.specs.Descriptors.{product}
 use Rattle.format.specs.Header.{Outcome, refused, accepted}
-use Rattle.format.specs.Boundary.{entryBytes}
+use Rattle.format.specs.Boundary.{entryBytes, decimalWidth}
 use Rattle.format.specs.Calls.{countOf}
 
 -- what is lent was long enough: the refusal is another one, or none
@@ -73,3 +73,17 @@ sizesRoom r = product (take (r .dimension) (r .sizes))
 -- bytes for a file of `used` bytes once its key k has the value v: of both each byte takes at most two, `:=` takes two and a line's ending at most two
 abbrev pub setRoom : ℕ → List ℕ → List ℕ → ℕ
 setRoom used k v = used + (2 * (length k + length v) + 4)
+
+-- ---- the orientation
+
+-- bytes for the decimals of an origin: one for each dimension of the space
+abbrev pub originRoom : ℕ
+originRoom = maxSpace * decimalWidth
+
+-- bytes for those of all directions: a vector for each axis
+abbrev pub directionsRoom : ℕ
+directionsRoom = maxAxes * maxSpace * decimalWidth
+
+-- bytes for those of a measurement frame: a vector for each dimension of the space
+abbrev pub frameRoom : ℕ
+frameRoom = maxSpace * maxSpace * decimalWidth

@@ -1,4 +1,4 @@
--- When a header keeps the rules of document 01, with request W1 of document 02: `KeepsRules`.
+-- When a header keeps the rules of document 01, with requests W1 and W2 of document 02: `KeepsRules`.
 -- It is said of all lines at once, each with the lines before it, and not by a walk over them.
 -- Headers are accepted exactly when they keep the rules: the laws `accepted-keeps` and `keeps-accepted` (specs/Laws.antt).
 -- At each rule stand its heading, where that is not "Lines and headers", and the number of the refusal where it is broken.
@@ -13,8 +13,8 @@ use Rattle.format.specs.Bytes.{bytes, every, isEmpty, HASH}
 use Rattle.format.specs.Limits.{maxFile, maxHeader, maxLines, maxExtent}
 use Rattle.format.specs.Lines.{Ending, lf, crlf, eof, Line, text, ending, lines}
 use Rattle.format.specs.Pairs.{plain, unescape}
-use Rattle.format.specs.Fields.{fieldNamed, pairsSince, fieldSince, Given, isGiven, needsDimension, needsSpace, dimension, type, encoding, endian, sizes, dataFile, space, spaceDimension}
-use Rattle.format.specs.Descriptors.{descriptor, mayDescribe, endianNeeded, fromEnd, dimensionOf, typeOf, encodingOf, byteSkipOf, raw, extentOf}
+use Rattle.format.specs.Fields.{fieldNamed, pairsSince, fieldSince, Given, isGiven, otherField, needsDimension, needsSpace, dimension, type, encoding, endian, sizes, dataFile, space, spaceDimension}
+use Rattle.format.specs.Descriptors.{descriptor, mayDescribe, endianNeeded, fromEnd, dimensionOf, typeOf, encodingOf, byteSkipOf, spaceSizeOf, raw, extentOf}
 use Rattle.format.specs.Header.{Item, magic, comment, field, pair, closing, Entry, entry, itemOf, linesOf, magicVersion, closes, afterItem, headerLength}
 
 -- ---- one line after line 1
@@ -48,12 +48,14 @@ pub record FieldLine (version : ℕ) (gs : List Given) (t : List ℕ) (f : ℕ) 
   pub since : fieldSince f ≤ version
   -- no line before gives it, in either spelling ("Numbers of refusal"; 9)
   pub new : isGiven f gs ≡ false
+  -- of space and space dimension no line before gives the other (document 02, W2; 9)
+  pub other-new : isGiven (otherField f) gs ≡ false
   -- a per-axis field comes after dimension, and a field that lies in a space after space or space dimension ("Order"; 10)
   pub after-dimension : needsDimension f ≡ true → isGiven dimension gs ≡ true
   pub after-space : needsSpace f ≡ true → (isGiven space gs || isGiven spaceDimension gs) ≡ true
   -- its descriptor is the text after the mark, trimmed, and it is one that the field may have ("Understood fields", "Carried fields"; 11)
   pub descriptor-is : d ≡ descriptor f rest
-  pub described : mayDescribe (dimensionOf gs) f d ≡ true
+  pub described : mayDescribe (dimensionOf gs) (spaceSizeOf gs) f d ≡ true
 
 -- a line with the text t is the pair of the key k and the value v, in a header of this version
 pub record PairLine (version : ℕ) (t k v : List ℕ) : Type 0 where

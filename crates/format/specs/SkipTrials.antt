@@ -63,6 +63,11 @@ readingAtEnd =
       length = 88;
       lines = 8;
       fromend = true;
+      origin = false;
+      directions = false;
+      frame = false;
+      space = 12;
+      spacedimension = 0;
     }
 
 -- a detached header with these lines too; the data, a double, is the end of the second file

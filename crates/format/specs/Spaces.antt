@@ -6,6 +6,7 @@ use mathlib.Core.List.{List, [], _∷_, map}
 use mathlib.Core.Option.{Option}
 use lib.ListN.{length, getD}
 use Rattle.format.specs.Bytes.{rowOf}
+pub use Rattle.format.specs.Limits.{maxSpace}
 
 -- a space: its names, the full one first, and its dimension
 pub data Space : Type 0 where
@@ -30,10 +31,6 @@ spaces =
 -- how many there are
 abbrev pub spaceCount : ℕ
 spaceCount = length spaces
-
--- the largest dimension that a space may have, as the field space dimension says it
-abbrev pub maxSpace : ℕ
-maxSpace = 8
 
 abbrev pub spaceNames : Space → List String
 spaceNames (spaceRow ns n) = ns

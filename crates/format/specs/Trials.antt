@@ -89,6 +89,11 @@ readingS =
       length = 114;
       lines = 10;
       fromend = false;
+      origin = false;
+      directions = false;
+      frame = false;
+      space = 12;
+      spacedimension = 0;
     }
 
 -- ---- calls

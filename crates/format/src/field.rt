@@ -19,5 +19,11 @@ pub const SPACE: usize = 16;
 
 pub const SPACE_DIMENSION: usize = 17;
 
+pub const SPACE_ORIGIN: usize = 19;
+
+pub const SPACE_DIRECTIONS: usize = 20;
+
+pub const MEASUREMENT_FRAME: usize = 21;
+
 // How many fields there are.
 pub const COUNT: usize = 30;

@@ -30,6 +30,11 @@ pub const MAX_EXTENT: u64 = 4294967295;
 
 pub const MAX_VERSION: u64 = 5;
 
+// The largest dimension of a space, also as a length.
+pub const MAX_SPACE: u64 = 8;
+
+pub const SPACE: usize = MAX_SPACE as usize;
+
 pub const MAX_SAMPLE: u64 = 9223372036854775807;
 
 // The listing: the most bytes of a file that is listed, of a reading's lines without those of its keys, of a header, and of a listing.
@@ -116,6 +121,9 @@ pub const BIG: u32 = 1;
 
 pub const NO_ENDIAN: u32 = 2;
 
+// The number of a space that is not given.
+pub const NO_SPACE: u32 = 12;
+
 // The form of a header that stands in a file of its own; a header's form is else 0, attached.
 pub const DETACHED: u32 = 1;
 
@@ -134,6 +142,7 @@ pub struct Limits {
     pub skip: u64,
     pub extent: u64,
     pub version: u64,
+    pub space: u64,
     pub sample: u64,
     pub listed: usize,
     pub listing: usize,
@@ -186,6 +195,29 @@ pub struct Decimal {
     pub kind: u32,
 }
 
+// What is given of an orientation to the header writer, in numbers: 16 directions of 8 components each, and a matrix, come beside it.
+pub struct Shape {
+    // a sum of 1 for a space, 2 for a space's dimension, 4 for an origin, 8 for directions, 16 for a frame
+    pub given: u32,
+    // how many components a vector has, up to `MAX_SPACE`; it ends earlier where one is of the kind none
+    pub components: u32,
+    // how many directions there are, up to `MAX_AXES`, and how many columns, up to `MAX_SPACE`
+    pub axes: u32,
+    pub columns: u32,
+    // a space by its number
+    pub space: u64,
+    pub spacedimension: u64,
+}
+
+// The answer of the calls for an origin and for a direction: whether it is given, how many components it has, and these, zeros after them. The direction of an axis that has none
+// is given, has no components, and a first one of the kind none. All zero where the call is refused.
+pub struct VectorAnswer {
+    pub refusal: Refusal,
+    pub given: bool,
+    pub count: u32,
+    pub parts: [Decimal; SPACE],
+}
+
 // What a reading says in numbers. All zero where the call is refused.
 #[repr(C)]
 pub struct Reading {
@@ -212,6 +244,14 @@ pub struct Reading {
     pub lines: u32,
     // the byte skip is -1: the data is the last `extent` bytes of its file, and `byteskip` is 0
     pub fromend: bool,
+    // whether space origin, space directions and measurement frame are given
+    pub origin: bool,
+    pub directions: bool,
+    pub frame: bool,
+    // the space, numbered from 0 as section 4 of source 000 lists them, `NO_SPACE` where none is named
+    pub space: u32,
+    // the dimension of the space, by its name or as given, 1 to `MAX_SPACE`; 0 where there is none
+    pub spacedimension: u32,
 }
 
 // The answer of the reading calls.
@@ -289,6 +329,7 @@ pub fn all_limits() -> Limits
         skip: MAX_SKIP,
         extent: MAX_EXTENT,
         version: MAX_VERSION,
+        space: MAX_SPACE,
         sample: MAX_SAMPLE,
         listed: MAX_LISTED,
         listing: MAX_LISTING,

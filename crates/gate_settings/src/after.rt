@@ -70,9 +70,11 @@ fn same_reading(a: Reading, b: Reading) -> bool {
         & (a.encoding == b.encoding)
         & (a.endian == b.endian);
     let skips = (a.lineskip == b.lineskip) & (a.byteskip == b.byteskip) & (a.fromend == b.fromend);
+    let vectors = (a.origin == b.origin) & (a.directions == b.directions) & (a.frame == b.frame);
+    let spaces = (a.space == b.space) & (a.spacedimension == b.spacedimension);
     let x = a.sizes;
     let y = b.sizes;
-    kinds & samples & skips & (a.extent == b.extent) & same_sizes(&x, &y)
+    kinds & samples & skips & vectors & spaces & (a.extent == b.extent) & same_sizes(&x, &y)
 }
 
 // What follows the first `n` bytes of a file.

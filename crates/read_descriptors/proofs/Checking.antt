@@ -12,9 +12,9 @@ use lib.Seq.{take-length}
 use borrow.Author.Tests.{lt-leb, leb-true, leb-false, eqb-true, eqb-false, eq-eqb, ne-eqb}
 use Rattle.format.specs.Bytes.{bytes, PERCENT, isIn, isEmpty, same, beginsWith, if_then_else_}
 use Rattle.format.specs.Limits.{maxAxes, maxSize}
-use Rattle.format.specs.Fields.{dimension, type, encoding, endian, sizes, lineSkip, byteSkip, dataFile}
+use Rattle.format.specs.Fields.{dimension, type, encoding, endian, sizes, lineSkip, byteSkip, dataFile, space, spaceDimension, spaceOrigin, spaceDirections, measurementFrame}
 use Rattle.format.specs.Words.{trimEnd, valueOfNumber, within, words, numbersIn}
-use Rattle.format.specs.Descriptors.{fromDescriptor, descriptor, isName, mayDescribe, sizesFine, sizesSaid}
+use Rattle.format.specs.Descriptors.{fromDescriptor, descriptor, isName, isFromEnd, byteSkipSaid, mayDescribe, numberSaid, sizesFine, sizesSaid}
 use Rattle.format.specs.Calls.{padded}
 use Rattle.format.proofs.Bytes.{and-left, and-right}
 use Rattle.format.proofs.Descriptors.{drop-to-descriptor, take-trimmed}
@@ -23,7 +23,7 @@ use Rattle.read_text.specs.Places.{before}
 use Rattle.read_text.specs.declared.numbers.Number.the-variants.{Value, Wrong}
 use Rattle.read_text.specs.declared.numbers.Sizes.{Sizes}
 use Rattle.read_descriptors.specs.declared.check.Checked.{Checked}
-use Rattle.read_descriptors.specs.Checked.{found, checked}
+use Rattle.read_descriptors.specs.Checked.{found, checked, asked, NoneOf}
 
 -- ---- where a descriptor stands
 
@@ -81,10 +81,10 @@ pub fine-length : (n : ℕ) (ws : List (List ℕ)) → sizesFine n ws ≡ true �
 fine-length n ws e = eqb-true (length ws) n (and-left (eqb (length ws) n) (numbersIn 1 maxSize ws) e)
 
 -- by what is read
-pub sizes-read : (n : ℕ) (t ns : List ℕ) (r : Sizes) → r ≡ sizesAnswer n (words t)
-    → _≡_ {A = Checked × List ℕ} (record { fine = r .fine; number = 0; fromend = false }, if r .fine then r .sizes else ns) (checked n sizes t ns)
+pub sizes-read : (n m : ℕ) (t ns : List ℕ) (r : Sizes) → r ≡ sizesAnswer n (words t)
+    → _≡_ {A = Checked × List ℕ} (record { fine = r .fine; number = 0; fromend = false }, if r .fine then r .sizes else ns) (checked n m sizes t ns)
 unfolding sizesAnswer mayDescribe
-sizes-read n t ns r e = go (leb n maxAxes && sizesFine n (words t)) refl e
+sizes-read n m t ns r e = go (leb n maxAxes && sizesFine n (words t)) refl e
   where
     go : (x : Bool) → (leb n maxAxes && sizesFine n (words t)) ≡ x
         → r ≡ (if x then record { fine = true; sizes = map valueOfNumber (words t) ++ replicate (maxAxes - n) 0 } else noSizes)
@@ -104,15 +104,6 @@ eqb-comm a b = go (eqb a b) refl
 
 -- ---- fields that may have any descriptor: those that `check` has no arm for
 
--- the arms of `check`, the last one first
-abbrev pub asked : List ℕ
-asked = dataFile ∷ byteSkip ∷ lineSkip ∷ sizes ∷ endian ∷ encoding ∷ type ∷ dimension ∷ []
-
--- f is none of them, as the arm `_` of a match is told
-abbrev pub NoneOf : ℕ → List ℕ → Type 0
-NoneOf f [] = Unit
-NoneOf f (g ∷ gs) = NoneOf f gs × (f ≡ g → ⊥)
-
 none-is : (f : ℕ) (gs : List ℕ) → NoneOf f gs → (g : ℕ) → isIn g gs ≡ true → eqb f g ≡ false
 unfolding isIn
 none-is f [] h g e = absurd (false≢true e)
@@ -122,13 +113,36 @@ none-is f (x ∷ gs) h g e = go (eqb g x) refl e (none-is f gs (h .0) g)
     go true q e i = ne-eqb f g (λ z. h .1 (z ∙ eqb-true g x q))
     go false q e i = i e
 
-pub any-taken : (n f : ℕ) (t ns : List ℕ) → NoneOf f asked → _≡_ {A = Checked × List ℕ} (record { fine = true; number = 0; fromend = false }, ns) (checked n f t ns)
+-- what such a field says goes by `mayDescribe` alone: it keeps no sizes, and says nothing of the end
+pub other-checked : (n m f : ℕ) (t ns : List ℕ) → NoneOf f asked
+    → _≡_ {A = Checked × List ℕ} (found (mayDescribe n m f t) (numberSaid f t) false, ns) (checked n m f t ns)
+unfolding isIn
+other-checked n m f t ns h =
+    go (eqb sizes f) (eqb byteSkip f) (mayDescribe n m f t) (eqb-comm sizes f ∙ none-is f asked h sizes refl) (eqb-comm byteSkip f ∙ none-is f asked h byteSkip refl)
+  where
+    go : (s e b : Bool) → s ≡ false → e ≡ false
+        → _≡_ {A = Checked × List ℕ} (found b (numberSaid f t) false, ns)
+        (found ((not s || leb n maxAxes) && b) (numberSaid f t) (e && isFromEnd (byteSkipSaid t)), if (not s || leb n maxAxes) && b then (if s then padded (sizesSaid t) else ns) else ns)
+    go true e b p q = absurd (false≢true (sym p))
+    go false true b p q = absurd (false≢true (sym q))
+    go false false true p q = refl
+    go false false false p q = refl
+
+-- the arms of `check_orientation`, the last one first
+abbrev pub oriented : List ℕ
+oriented = measurementFrame ∷ spaceDirections ∷ spaceOrigin ∷ spaceDimension ∷ space ∷ []
+
+-- a field that is in neither list may have any descriptor, and says no number
+pub any-taken : (n m f : ℕ) (t : List ℕ) → NoneOf f asked → NoneOf f oriented → found true 0 false ≡ found (mayDescribe n m f t) (numberSaid f t) false
 unfolding mayDescribe isIn
-any-taken n f t ns h =
-    rw (eqb-comm sizes f, eqb-comm byteSkip f, no dimension refl, no type refl, no encoding refl, no endian refl, no sizes refl, no lineSkip refl, no byteSkip refl, no dataFile refl)
+any-taken n m f t h k =
+    rw (no dimension refl, no type refl, no encoding refl, no endian refl, no sizes refl, no lineSkip refl, no byteSkip refl, no dataFile refl, nor space refl, nor spaceDimension refl, nor spaceOrigin refl, nor spaceDirections refl, nor measurementFrame refl)
   where
     no : (g : ℕ) → isIn g asked ≡ true → eqb f g ≡ false
     no = none-is f asked h
+
+    nor : (g : ℕ) → isIn g oriented ≡ true → eqb f g ≡ false
+    nor = none-is f oriented k
 
 -- ---- names
 

@@ -1,11 +1,12 @@
 -- Internal to the library. The answer of the checker of descriptors, and what it keeps.
 use Prim.Native.Nat.{ℕ}
+use mathlib.Core.Path.{_≡_}
 use mathlib.Core.Bool.{Bool, not, _&&_, _||_}
-use mathlib.Core.List.{List}
+use mathlib.Core.List.{List, [], _∷_}
 use lib.Dec.{eqb, leb}
 use Rattle.format.specs.Bytes.{if_then_else_}
 use Rattle.format.specs.Limits.{maxAxes}
-use Rattle.format.specs.Fields.{sizes, byteSkip}
+use Rattle.format.specs.Fields.{dimension, type, encoding, endian, sizes, lineSkip, byteSkip, dataFile}
 use Rattle.format.specs.Descriptors.{isFromEnd, byteSkipSaid, mayDescribe, numberSaid, sizesSaid}
 use Rattle.format.specs.Calls.{padded}
 use Rattle.read_descriptors.specs.declared.check.Checked.{Checked}
@@ -14,9 +15,9 @@ use Rattle.read_descriptors.specs.declared.check.Checked.{Checked}
 abbrev pub found : Bool → ℕ → Bool → Checked
 found fine n end = record { fine = fine; number = if fine then n else 0; fromend = fine && end }
 
--- whether the descriptor t of the field f is taken in a header of dimension n: no header has sizes of more axes than the largest dimension
-abbrev pub takes : ℕ → ℕ → List ℕ → Bool
-takes n f t = (not (eqb sizes f) || leb n maxAxes) && mayDescribe n f t
+-- whether the descriptor t of the field f is taken in a header of dimension n and a space of dimension m: no header has sizes of more axes than the largest dimension
+abbrev pub takes : ℕ → ℕ → ℕ → List ℕ → Bool
+takes n m f t = (not (eqb sizes f) || leb n maxAxes) && mayDescribe n m f t
 
 -- whether the field f says with t that the data is found from the end: a byte skip of -1
 abbrev pub saysEnd : ℕ → List ℕ → Bool
@@ -27,5 +28,16 @@ abbrev pub sizesKept : ℕ → List ℕ → List ℕ → List ℕ
 sizesKept f t ns = if eqb sizes f then padded (sizesSaid t) else ns
 
 -- the answer, and the sizes kept
-abbrev pub checked : ℕ → ℕ → List ℕ → List ℕ → Checked × List ℕ
-checked n f t ns = (found (takes n f t) (numberSaid f t) (saysEnd f t), if takes n f t then sizesKept f t ns else ns)
+abbrev pub checked : ℕ → ℕ → ℕ → List ℕ → List ℕ → Checked × List ℕ
+checked n m f t ns = (found (takes n m f t) (numberSaid f t) (saysEnd f t), if takes n m f t then sizesKept f t ns else ns)
+
+-- ---- fields that `check` has no arm for
+
+-- the arms of `check`, the last one first
+abbrev pub asked : List ℕ
+asked = dataFile ∷ byteSkip ∷ lineSkip ∷ sizes ∷ endian ∷ encoding ∷ type ∷ dimension ∷ []
+
+-- f is none of them, as the arm `_` of a match is told
+abbrev pub NoneOf : ℕ → List ℕ → Type 0
+NoneOf f [] = Unit
+NoneOf f (g ∷ gs) = NoneOf f gs × (f ≡ g → ⊥)

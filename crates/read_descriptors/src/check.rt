@@ -8,19 +8,33 @@ ghost use mathlib.Core.List.{List};
 ghost use mathlib.Core.Option.{Option};
 ghost use Prim.Native.Nat.{ℕ, _≤_};
 ghost use Rattle.format.specs.Bytes.{isSome, orDefault};
-ghost use Rattle.format.specs.Limits.{maxSize, maxSkip};
+ghost use lib.ListN.{length};
+ghost use Rattle.format.specs.Limits.{maxSize, maxSkip, maxHeader};
 ghost use Rattle.format.specs.Fields.{sizes};
+ghost use Rattle.format.specs.Spaces.{maxSpace};
+ghost use Rattle.format.specs.Vectors.{vectorsSaid, directionsSaid};
 ghost use Rattle.format.specs.Words.{numberIn, valueOfNumber};
-ghost use Rattle.format.specs.Descriptors.{isName, isMinusOne, byteSkipSaid, bytesForward, isFromEnd};
+ghost use Rattle.format.specs.Descriptors.{isName, mayDescribe, numberSaid, isMinusOne, byteSkipSaid, bytesForward, isFromEnd};
 ghost use Rattle.read_text.specs.Rows.{rowAnswer};
 ghost use Rattle.read_descriptors.specs.declared.check.Checked.{Checked};
-ghost use Rattle.read_descriptors.specs.Checked.{found, checked};
+ghost use Rattle.read_descriptors.specs.Checked.{found, checked, asked, NoneOf};
 
 // Whether the descriptor is one that the field may have; the number that it says, 0 where it says none or is wrong; whether it says that the data is found from the end.
 pub struct Checked {
     pub fine: bool,
     pub number: u32,
     pub fromend: bool,
+}
+
+// A descriptor that is fine or not, and says no number.
+fn says_none(fine: bool) -> Checked
+    ensures { λ r. ⌜ r ≡ found fine 0 false ⌝ }
+{
+    Checked {
+        fine: fine,
+        number: 0,
+        fromend: false,
+    }
 }
 
 // A number from the least to the most.
@@ -86,7 +100,7 @@ fn check_row(row: Row) -> Checked
 
 // As many sizes as the dimension: they are kept.
 fn check_sizes(t: &[u8], dimension: u32, kept: &mut [u64; format::AXES]) -> Checked
-    ensures { λ r. ⌜ _≡_ {A = Checked × List ℕ} (r, now (kept .exit)) (checked dimension sizes (now (t .entry)) (now (kept .entry))) ⌝ }
+    ensures { λ r. ⌜ ((m : ℕ) → _≡_ {A = Checked × List ℕ} (r, now (kept .exit)) (checked dimension m sizes (now (t .entry)) (now (kept .entry)))) ⌝ }
 {
     let x = read_text::numbers::read_sizes(t, dimension as usize);
     if !x.fine {
@@ -121,9 +135,57 @@ fn is_name(t: &[u8]) -> bool
     read_text::bytes::find_byte(t, b'%') == t.len()
 }
 
-// The descriptor t of the field f, in a header of this dimension. Right sizes are kept, 0 past them; otherwise what is kept stays.
-pub fn check(f: usize, t: &[u8], dimension: u32, kept: &mut [u64; format::AXES]) -> Checked
-    ensures { λ r. ⌜ _≡_ {A = Checked × List ℕ} (r, now (kept .exit)) (checked dimension f (now (t .entry)) (now (kept .entry))) ⌝ }
+// So many vectors in a space of this dimension. No space has more dimensions, and no header is longer: both are told here once for all that follows.
+fn check_vectors(t: &[u8], count: u32, space: u32) -> Checked
+    ensures { λ r. ⌜ (space ≤ maxSpace → length (now (t .entry)) ≤ maxHeader → r ≡ found (isSome (vectorsSaid count space (now (t .entry)))) 0 false) ⌝ }
+{
+    let n = space as usize;
+    if format::SPACE < n {
+        return says_none(false);
+    }
+    if format::MAX_HEADER < t.len() {
+        return says_none(false);
+    }
+    says_none(read_vectors::list::are_vectors(t, count as usize, n))
+}
+
+// The same with a direction for each of so many axes.
+fn check_directions(t: &[u8], count: u32, space: u32) -> Checked
+    ensures { λ r. ⌜ (space ≤ maxSpace → length (now (t .entry)) ≤ maxHeader → r ≡ found (isSome (directionsSaid count space (now (t .entry)))) 0 false) ⌝ }
+{
+    let n = space as usize;
+    if format::SPACE < n {
+        return says_none(false);
+    }
+    if format::MAX_HEADER < t.len() {
+        return says_none(false);
+    }
+    says_none(read_vectors::list::are_directions(t, count as usize, n))
+}
+
+// The descriptor t of the field f that is one of the five of the orientation, or a carried one, in a header of this dimension and a space of this one.
+fn check_orientation(f: usize, t: &[u8], dimension: u32, space: u32) -> Checked
+    ensures { λ r. ⌜ (NoneOf f asked → space ≤ maxSpace → length (now (t .entry)) ≤ maxHeader → r ≡ found (mayDescribe dimension space f (now (t .entry))) (numberSaid f (now (t .entry))) false) ⌝ }
+{
+    match f {
+        field::SPACE => check_row(read_text::words::space_named(t)),
+        field::SPACE_DIMENSION => check_number(t, 1, format::MAX_SPACE),
+        field::SPACE_ORIGIN => check_vectors(t, 1, space),
+        field::SPACE_DIRECTIONS => check_directions(t, dimension, space),
+        field::MEASUREMENT_FRAME => check_vectors(t, space, space),
+        _ => says_none(true),
+    }
+}
+
+// The descriptor t of the field f, in a header of this dimension and a space of this one. Right sizes are kept, 0 past them; otherwise what is kept stays.
+pub fn check(
+    f: usize,
+    t: &[u8],
+    dimension: u32,
+    space: u32,
+    kept: &mut [u64; format::AXES],
+) -> Checked
+    ensures { λ r. ⌜ (space ≤ maxSpace → length (now (t .entry)) ≤ maxHeader → _≡_ {A = Checked × List ℕ} (r, now (kept .exit)) (checked dimension space f (now (t .entry)) (now (kept .entry)))) ⌝ }
 {
     match f {
         field::DIMENSION => check_number(t, 1, format::MAX_AXES),
@@ -133,15 +195,7 @@ pub fn check(f: usize, t: &[u8], dimension: u32, kept: &mut [u64; format::AXES])
         field::SIZES => check_sizes(t, dimension, kept),
         field::LINE_SKIP => check_number(t, 0, format::MAX_SKIP),
         field::BYTE_SKIP => check_byte_skip(t),
-        field::DATA_FILE => Checked {
-            fine: is_name(t),
-            number: 0,
-            fromend: false,
-        },
-        _ => Checked {
-            fine: true,
-            number: 0,
-            fromend: false,
-        },
+        field::DATA_FILE => says_none(is_name(t)),
+        _ => check_orientation(f, t, dimension, space),
     }
 }

@@ -11,11 +11,14 @@ use lib.ListN.{length, take, drop, getD, length-drop}
 use lib.Seq.{take-length}
 use borrow.Author.Tests.{lt-ltb, le-ltb}
 use Rattle.format.specs.Bytes.{if_then_else_, every, isSome}
+use Rattle.format.specs.Limits.{maxAxes, maxHeader}
+use Rattle.format.specs.Spaces.{maxSpace}
 use Rattle.format.specs.Refusals.{badByte, noMark, notInVersion, repeatedField, outOfOrder, badBackslash}
 use Rattle.format.specs.Pairs.{plain, unmarked, pairMark, LineKind, otherLine, kindOf, unescape}
-use Rattle.format.specs.Fields.{pairsSince, fieldSince, Given, isGiven, needsDimension, needsSpace, inOrder}
-use Rattle.format.specs.Descriptors.{descriptor, dimensionOf}
+use Rattle.format.specs.Fields.{pairsSince, fieldSince, fieldCount, Given, otherField, isRepeated, needsDimension, needsSpace, inOrder}
+use Rattle.format.specs.Descriptors.{descriptor, dimensionOf, spaceSizeOf}
 use Rattle.format.specs.Header.{Judged, wrong, right, unescaped, onPair, onField, onKind, judge}
+use Rattle.format.proofs.Descriptors.{descriptor-le}
 use Rattle.read_fields.specs.declared.state.Step.{Step}
 use Rattle.read_fields.specs.States.{flags, described, stepOf, stepped, wrongOf}
 use Rattle.read_fields.proofs.States.{flags-at}
@@ -29,6 +32,12 @@ pub order-by-flags : (f : ℕ) (gs : List Given) {g : List Bool} {axes space : B
 unfolding inOrder
 order-by-flags f gs p q e =
     rw (e, p, q, flags-at gs 0 (omega arith), flags-at gs 16 (omega arith), flags-at gs 17 (omega arith))
+
+-- whether a field or its other is given, by the flags
+pub repeated-by-flags : (f : ℕ) (gs : List Given) {g : List Bool} {other : ℕ} → f < fieldCount → other < fieldCount → other ≡ otherField f → g ≡ flags gs
+    → (getD g f false || getD g other false) ≡ isRepeated f gs
+unfolding isRepeated
+repeated-by-flags f gs {g} {other} l k o e = rw (e, flags-at gs f l, flags-at gs other k, o)
 
 -- ---- a pair along its tests
 
@@ -102,24 +111,38 @@ module _ (version : ℕ) (gs : List Given) (f : ℕ) (rest : List ℕ) where
   field-old n = rw (lt-ltb version (fieldSince f) n)
 
   module _ (n : fieldSince f ≤ version) where
-    pub field-again : isGiven f gs ≡ true → onField version gs (some f) rest ≡ wrong repeatedField
+    pub field-again : isRepeated f gs ≡ true → onField version gs (some f) rest ≡ wrong repeatedField
     unfolding onField
     field-again g = rw (le-ltb version (fieldSince f) n, g)
 
-    pub field-early : isGiven f gs ≡ false → inOrder f gs ≡ false → onField version gs (some f) rest ≡ wrong outOfOrder
+    pub field-early : isRepeated f gs ≡ false → inOrder f gs ≡ false → onField version gs (some f) rest ≡ wrong outOfOrder
     unfolding onField
     field-early g o = rw (le-ltb version (fieldSince f) n, g, o)
 
-    pub field-here : isGiven f gs ≡ false → inOrder f gs ≡ true
-        → onField version gs (some f) rest ≡ described (dimensionOf gs) f (descriptor f rest)
+    pub field-here : isRepeated f gs ≡ false → inOrder f gs ≡ true
+        → onField version gs (some f) rest ≡ described (dimensionOf gs) (spaceSizeOf gs) f (descriptor f rest)
     unfolding onField
     field-here g o = rw (le-ltb version (fieldSince f) n, g, o)
+
+-- a field that comes here, by what `take_field` answers of its descriptor t in a header of dimension k and a space of dimension m
+pub take-known : (version : ℕ) (gs : List Given) (f : ℕ) (rest ns : List ℕ) {k m : ℕ} {t : List ℕ} {x : Step × List ℕ}
+    → k ≡ dimensionOf gs → m ≡ spaceSizeOf gs → t ≡ descriptor f rest → length rest ≤ maxHeader → dimensionOf gs ≤ maxAxes → spaceSizeOf gs ≤ maxSpace
+    → onField version gs (some f) rest ≡ described (dimensionOf gs) (spaceSizeOf gs) f (descriptor f rest)
+    → (k ≤ maxAxes → m ≤ maxSpace → length t ≤ maxHeader → x ≡ stepped (described k m f t) ns) → x ≡ stepped (onField version gs (some f) rest) ns
+take-known version gs f rest ns {k} {m} {t} p q d l a s here taken =
+    let short = descriptor-le f rest in
+    let size : length t ≤ maxHeader = rw d (omega arith) in
+    rw here (rw (p, q, d) at (taken (rw p a) (rw q s) size))
 
 -- ---- a line by its text
 
 -- all that stands from i on
 pub to-end : (t : List ℕ) (i : ℕ) → take (length t - i) (drop i t) ≡ drop i t
 to-end t i = rw (← length-drop i t, take-length)
+
+-- it is no longer than the whole
+pub rest-le : (t : List ℕ) (i : ℕ) {most : ℕ} → length t ≤ most → length (take (length t - i) (drop i t)) ≤ most
+rest-le t i l = let e = length-drop i t in rw (to-end t i) (omega arith)
 
 pub line-is : (version : ℕ) (gs : List Given) (t ns : List ℕ) {k : LineKind} → kindOf t ≡ k → stepped (onKind version gs t k) ns ≡ stepped (judge version gs t) ns
 unfolding judge

@@ -17,9 +17,10 @@ use Rattle.format.specs.declared.Reading.{Reading}
 use Rattle.format.specs.Bytes.{isAny, isSome, rowFrom, orDefault, if_then_else_}
 use Rattle.format.specs.Limits.{maxAxes, maxExtent}
 use Rattle.format.specs.Refusals.{badDescriptor, missingField, extentTooLarge, refusal, fine}
-use Rattle.format.specs.Fields.{namesOf, fieldTable, fieldAt, fieldCount, fieldNamed, Given, given, descriptorOf, isGiven, dimension, type, encoding, endian, sizes, lineSkip, byteSkip, dataFile}
+use Rattle.format.specs.Fields.{namesOf, fieldTable, fieldAt, fieldCount, fieldNamed, Given, given, descriptorOf, isGiven, dimension, type, encoding, endian, sizes, lineSkip, byteSkip, dataFile, space, spaceDimension, spaceOrigin, spaceDirections, measurementFrame, needsDimension}
+use Rattle.format.specs.Spaces.{Space, spaceRow, spaces, spaceAxes, spaceAt, spaceSize, maxSpace}
 use Rattle.format.specs.Words.{number, valueOfNumber, within, words}
-use Rattle.format.specs.Descriptors.{forward, byteSkipSaid, bytesForward, isFromEnd, byteSkipOf, raw, endIsRaw, meaning, isDetached, mayDescribe, numberSaid, numberOf, dimensionOf, sizesSaid, sizesOf, endianNeeded, hasNeeded, extent, extentOf}
+use Rattle.format.specs.Descriptors.{forward, byteSkipSaid, bytesForward, isFromEnd, byteSkipOf, raw, endIsRaw, meaning, isDetached, mayDescribe, numberSaid, numberOf, dimensionOf, noSpace, spaceSizeOf, sizesSaid, sizesOf, endianNeeded, hasNeeded, extent, extentOf}
 use Rattle.format.specs.Header.{Item, field, fieldOf, Entry, wrong, right, judge, refused, withField, afterItem, versionOf, headerLength}
 use Rattle.format.specs.Rules.{FieldLine, Keeps}
 use Rattle.format.specs.Calls.{readAnswer, padded, readingAt, readingOf}
@@ -67,8 +68,17 @@ pub flags-at : (gs : List Given) (f : ℕ) → f < fieldCount → getD (flags gs
 flags-at gs f h = each-at (λ g. isGiven g gs) false f h
 
 -- the flag of a field
-pub given-at : {marks : List Bool} {n : ℕ} {gs : List Given} → Known marks n gs → (f : ℕ) → f < fieldCount → getD marks f false ≡ isGiven f gs
-given-at {marks} {n} {gs} h f l = rw (h .marks-are) (flags-at gs f l)
+pub given-at : {marks : List Bool} {numbers : List ℕ} {gs : List Given} → Known marks numbers gs → (f : ℕ) → f < fieldCount → getD marks f false ≡ isGiven f gs
+given-at {marks} {numbers} {gs} h f l = rw (h .marks-are) (flags-at gs f l)
+
+-- the number of a field
+pub number-of : (gs : List Given) {numbers : List ℕ} → numbers ≡ numbersOf gs → (f : ℕ) → f < fieldCount → getD numbers f 0 ≡ numberOf f gs
+number-of gs e f l = rw e (each-at (λ g. numberOf g gs) 0 f l)
+
+-- the dimension of the space, by the flags and numbers
+pub size-is : (gs : List Given) {marks : List Bool} {numbers : List ℕ} → marks ≡ flags gs → numbers ≡ numbersOf gs
+    → (if getD marks space false then spaceSize (getD numbers space 0) else getD numbers spaceDimension 0) ≡ spaceSizeOf gs
+size-is gs p q = rw (p, flags-at gs space (omega arith), number-of gs q space (omega arith), number-of gs q spaceDimension (omega arith))
 
 -- ---- one field more: it sets its flag and its number, and sizes set the sizes
 
@@ -121,19 +131,19 @@ module _ (f : ℕ) (d : List ℕ) (gs : List Given) where
 -- ---- a field with its descriptor, refused or taken
 
 -- taken, by the checker's answer and the sizes that it leaves
-module _ (n f : ℕ) (t ns : List ℕ) (x : Checked) (after : List ℕ) (e : _≡_ {A = Checked × List ℕ} (x, after) (checked n f t ns)) (h : n ≤ maxAxes) where
-  axes-fit : takes n f t ≡ mayDescribe n f t
+module _ (n m f : ℕ) (t ns : List ℕ) (x : Checked) (after : List ℕ) (e : _≡_ {A = Checked × List ℕ} (x, after) (checked n m f t ns)) (h : n ≤ maxAxes) where
+  axes-fit : takes n m f t ≡ mayDescribe n m f t
   axes-fit = rw (le-leb n maxAxes h) (go (eqb sizes f))
     where
-      go : (s : Bool) → ((not s || true) && mayDescribe n f t) ≡ mayDescribe n f t
+      go : (s : Bool) → ((not s || true) && mayDescribe n m f t) ≡ mayDescribe n m f t
       go true = refl
       go false = refl
 
   pub check-taken
       : _≡_ {A = Step × List ℕ}
       (if x .fine then record { wrong = 0; closes = false; field = f; number = x .number; fromend = x .fromend } else stepOf (wrong badDescriptor), after)
-      (stepped (described n f t) ns)
-  check-taken = go (mayDescribe n f t) (rw axes-fit at e)
+      (stepped (described n m f t) ns)
+  check-taken = go (mayDescribe n m f t) (rw axes-fit at e)
     where
       go : (b : Bool) → _≡_ {A = Checked × List ℕ} (x, after) (found b (numberSaid f t) (saysEnd f t), if b then sizesKept f t ns else ns)
           → _≡_ {A = Step × List ℕ}
@@ -167,9 +177,9 @@ bytes-kept gs = go (descriptorOf byteSkip gs)
     go none = refl
     go (some t) = refl
 
--- the reading by the flags, numbers, sizes, and whether the data is found from the end, with the skips and the extent x
-abbrev pub readingBy : ℕ → List Bool → List ℕ → List ℕ → Bool → ℕ → ℕ → ℕ → ℕ → ℕ → Reading
-readingBy version marks numbers ns end skip skipped x bytes count =
+-- the reading by the flags, numbers, sizes, and whether the data is found from the end, with the skips, the extent x and the space's dimension
+abbrev pub readingBy : ℕ → List Bool → List ℕ → List ℕ → Bool → ℕ → ℕ → ℕ → ℕ → ℕ → ℕ → Reading
+readingBy version marks numbers ns end skip skipped x size bytes count =
     let n : ℕ → ℕ = λ f. getD numbers f 0 in
     record {
       version = version;
@@ -185,12 +195,17 @@ readingBy version marks numbers ns end skip skipped x bytes count =
       length = bytes;
       lines = count;
       fromend = end;
+      origin = getD marks spaceOrigin false;
+      directions = getD marks spaceDirections false;
+      frame = getD marks measurementFrame false;
+      space = n space;
+      spacedimension = size;
     }
 
 module _ {marks : List Bool} {numbers ns : List ℕ} {end : Bool} {gs : List Given} (h : Holds marks numbers ns end gs) where
   -- a number that is kept
   pub number-at : (f : ℕ) → f < fieldCount → getD numbers f 0 ≡ numberOf f gs
-  number-at f l = rw (h .numbers-are) (each-at (λ g. numberOf g gs) 0 f l)
+  number-at = number-of gs (h .numbers-are)
 
   pub axes-at : getD numbers dimension 0 ≤ maxAxes
   axes-at = rw (number-at dimension (omega arith)) (h .kept .axes)
@@ -207,10 +222,10 @@ module _ {marks : List Bool} {numbers ns : List ℕ} {end : Bool} {gs : List Giv
   fits-is = rw (h .end-is, number-at encoding (omega arith))
 
   -- the reading that they make
-  pub reading-is : (version bytes count : ℕ) {skip skipped x : ℕ} → skip ≡ getD numbers lineSkip 0 → skipped ≡ getD numbers byteSkip 0 → x ≡ extentOf gs
-      → readingBy version marks numbers ns end skip skipped x bytes count ≡ readingAt version gs bytes count
+  pub reading-is : (version bytes count : ℕ) {skip skipped x size : ℕ} → skip ≡ getD numbers lineSkip 0 → skipped ≡ getD numbers byteSkip 0 → x ≡ extentOf gs → size ≡ spaceSizeOf gs
+      → readingBy version marks numbers ns end skip skipped x size bytes count ≡ readingAt version gs bytes count
   unfolding each
-  reading-is version bytes count p q e = rw (p, q ∙ number-at byteSkip (omega arith) ∙ bytes-kept gs, h .marks-are, h .numbers-are, h .sizes-are, h .end-is, e, form-of (isDetached gs))
+  reading-is version bytes count p q e s = rw (p, s, q ∙ number-at byteSkip (omega arith) ∙ bytes-kept gs, h .marks-are, h .numbers-are, h .sizes-are, h .end-is, e, form-of (isDetached gs))
     where
       form-of : (b : Bool) → boolByte b ≡ (if b then 1 else 0)
       form-of true = refl
@@ -246,43 +261,89 @@ reading-at es gs = refl
 -- no field is given
 pub kept-none : Kept []
 unfolding descriptorOf
-kept-none = record { axes = omega arith; ordered = λ e. absurd (false≢true e); sized = λ e. absurd (false≢true e) }
+kept-none = record { axes = omega arith; spaces = omega arith; ordered = λ e. absurd (false≢true e); sized = λ e. absurd (false≢true e) }
 
 -- a number in a range is at most the largest
 within-most : (least most : ℕ) (o : Option ℕ) → within least most o ≡ true → orDefault 0 o ≤ most
 within-most least most none e = omega arith
 within-most least most (some n) e = leb-true n most (and-right (leb least n) (leb n most) e)
 
+-- no space of the list has more dimensions than a space may have
+abbrev Fit : List Space → Type 0
+Fit [] = Unit
+Fit (r ∷ rs) = (spaceAxes r ≤ maxSpace) × Fit rs
+
+fit-at : (rs : List Space) → Fit rs → (i : ℕ) → spaceAxes (getD rs i (spaceRow [] 0)) ≤ maxSpace
+fit-at [] h i = omega arith
+fit-at (r ∷ rs) h zero = h .0
+fit-at (r ∷ rs) h (suc i) = fit-at rs (h .1) i
+
+sizes-fit : (i : ℕ) → spaceSize i ≤ maxSpace
+unfolding spaceAt
+sizes-fit = fit-at spaces (three, (three, (three, (four, (four, (four, (three, (four, (three, (three, (four, (four, tt))))))))))))
+  where
+    three : 3 ≤ maxSpace
+    three = omega arith
+
+    four : 4 ≤ maxSpace
+    four = omega arith
+
 -- one field more
-module _ (version : ℕ) {gs : List Given} (d : List ℕ) (k : Kept gs) where
-  kept-dimension : {t : List ℕ} → FieldLine version gs t dimension d → Kept (given dimension d ∷ gs)
+module _ (version : ℕ) {gs : List Given} {t : List ℕ} (f : ℕ) (d : List ℕ) (k : Kept gs) (h : FieldLine version gs t f d) where
+  -- what the field itself may say, and how it comes
+  own : (g : ℕ) → g ≡ f → mayDescribe (dimensionOf gs) (spaceSizeOf gs) g d ≡ true
+  own g e = rw e (h .described)
+
+  kept-axes : dimensionOf (given f d ∷ gs) ≤ maxAxes
   unfolding descriptorOf mayDescribe
-  kept-dimension h =
-      record {
-        axes = within-most 1 maxAxes (number d) (h .described);
-        ordered = λ e. refl;
-        sized = λ e. absurd (false≢true (sym (h .new) ∙ k .ordered e));
-      }
+  kept-axes = go (eqb dimension f) refl
+    where
+      go : (x : Bool) → eqb dimension f ≡ x → meaning 0 (numberSaid dimension) (if x then some d else descriptorOf dimension gs) ≤ maxAxes
+      go true e = within-most 1 maxAxes (number d) (own dimension (eqb-true dimension f e))
+      go false e = k .axes
 
-  kept-sizes : {t : List ℕ} → FieldLine version gs t sizes d → Kept (given sizes d ∷ gs)
-  unfolding descriptorOf mayDescribe fieldAt
-  kept-sizes h =
-      record {
-        axes = k .axes;
-        ordered = λ e. h .after-dimension refl;
-        sized = λ e. length-map (words d) valueOfNumber ∙ fine-length (dimensionOf gs) (words d) (h .described);
-      }
+  kept-spaces : spaceSizeOf (given f d ∷ gs) ≤ maxSpace
+  unfolding descriptorOf mayDescribe
+  kept-spaces = go (eqb space f) refl (eqb spaceDimension f) refl
+    where
+      said : (o : Option (List ℕ)) → isSome o ≡ false → (if isSome o then spaceSize (meaning noSpace (numberSaid space) o) else valueOfNumber d) ≡ valueOfNumber d
+      said none e = refl
+      said (some t) e = absurd (false≢true (sym e))
 
-  kept-other : (f : ℕ) → (dimension ≡ f → ⊥) → (sizes ≡ f → ⊥) → Kept (given f d ∷ gs)
-  unfolding descriptorOf
-  kept-other f a b =
-      let p = ne-eqb dimension f a in
-      let q = ne-eqb sizes f b in
-      record {
-        axes = rw p (k .axes);
-        ordered = λ e. rw p (k .ordered (rw q at e));
-        sized = λ e. rw (p, q) (k .sized (rw q at e));
-      }
+      -- by the space that is given before, or else by the dimension n
+      before : (o : Option (List ℕ)) (n : ℕ) → n ≤ maxSpace → (if isSome o then spaceSize (meaning noSpace (numberSaid space) o) else n) ≤ maxSpace
+      before none n l = l
+      before (some t) n l = sizes-fit (numberSaid space t)
+
+      go : (x : Bool) → eqb space f ≡ x → (y : Bool) → eqb spaceDimension f ≡ y
+          → (if isSome (if x then some d else descriptorOf space gs) then spaceSize (meaning noSpace (numberSaid space) (if x then some d else descriptorOf space gs))
+          else meaning 0 (numberSaid spaceDimension) (if y then some d else descriptorOf spaceDimension gs)) ≤ maxSpace
+      go true e y q = sizes-fit (numberSaid space d)
+      go false e true q = before (descriptorOf space gs) (valueOfNumber d) (within-most 1 maxSpace (number d) (own spaceDimension (eqb-true spaceDimension f q)))
+      go false e false q = k .spaces
+
+  kept-ordered : isGiven sizes (given f d ∷ gs) ≡ true → isGiven dimension (given f d ∷ gs) ≡ true
+  unfolding descriptorOf fieldAt
+  kept-ordered = go (eqb sizes f) refl (eqb dimension f)
+    where
+      go : (x : Bool) → eqb sizes f ≡ x → (y : Bool) → isSome (if x then some d else descriptorOf sizes gs) ≡ true → isSome (if y then some d else descriptorOf dimension gs) ≡ true
+      go x e true p = refl
+      go true e false p = h .after-dimension (ap needsDimension (sym (eqb-true sizes f e)))
+      go false e false p = k .ordered p
+
+  kept-sized : isGiven sizes (given f d ∷ gs) ≡ true → length (sizesOf (given f d ∷ gs)) ≡ dimensionOf (given f d ∷ gs)
+  unfolding descriptorOf mayDescribe
+  kept-sized = go (eqb sizes f) refl (eqb dimension f) refl
+    where
+      go : (x : Bool) → eqb sizes f ≡ x → (y : Bool) → eqb dimension f ≡ y → isSome (if x then some d else descriptorOf sizes gs) ≡ true
+          → length (meaning [] sizesSaid (if x then some d else descriptorOf sizes gs)) ≡ meaning 0 (numberSaid dimension) (if y then some d else descriptorOf dimension gs)
+      go true e true q p = absurd (let z : ⊥ = omega (arith, eqb-true sizes f e, eqb-true dimension f q) in z)
+      go true e false q p = length-map (words d) valueOfNumber ∙ fine-length (dimensionOf gs) (words d) (own sizes (eqb-true sizes f e))
+      go false e true q p = absurd (false≢true (sym (rw (eqb-true dimension f q) (h .new)) ∙ k .ordered p))
+      go false e false q p = k .sized p
+
+  kept-field : Kept (given f d ∷ gs)
+  kept-field = record { axes = kept-axes; spaces = kept-spaces; ordered = kept-ordered; sized = kept-sized }
 
 -- ---- the field of a name is below their number
 
@@ -302,14 +363,6 @@ row-below w (r ∷ rs) i = go (isAny w r) (row-below w rs (i + 1))
 
 pub field-below : (name : List ℕ) (f : ℕ) → fieldNamed name ≡ some f → f < fieldCount
 field-below name f e = rw e at (row-below name (map namesOf fieldTable) 0)
-
-kept-field : (version : ℕ) {gs : List Given} {t : List ℕ} (f : ℕ) (d : List ℕ) → Kept gs → FieldLine version gs t f d → Kept (given f d ∷ gs)
-kept-field version {gs} {t} f d k h = go (eqb dimension f) refl (eqb sizes f) refl
-  where
-    go : (x : Bool) → eqb dimension f ≡ x → (y : Bool) → eqb sizes f ≡ y → Kept (given f d ∷ gs)
-    go true p y q = let e = eqb-true dimension f p in rw (sym e) (kept-dimension version d k (rw (sym e) at h))
-    go false p true q = let e = eqb-true sizes f q in rw (sym e) (kept-sizes version d k (rw (sym e) at h))
-    go false p false q = kept-other version d k f (eqb-false dimension f p) (eqb-false sizes f q)
 
 -- one line more
 pub kept-next : (version : ℕ) (gs : List Given) (t : List ℕ) (i : Item) → Kept gs → judge version gs t ≡ right i → Kept (afterItem i gs)
@@ -346,5 +399,5 @@ holds-next version {marks} {numbers} {ns} {end} {gs} t i h j = go (fieldOf i) re
         }
 
 -- what the judgement of a line has to know
-pub known-of : {marks : List Bool} {numbers ns : List ℕ} {end : Bool} {gs : List Given} → Holds marks numbers ns end gs → Known marks (getD numbers dimension 0) gs
-known-of h = record { marks-are = h .marks-are; dimension-is = number-at h dimension (omega arith); axes = axes-at h }
+pub known-of : {marks : List Bool} {numbers ns : List ℕ} {end : Bool} {gs : List Given} → Holds marks numbers ns end gs → Known marks numbers gs
+known-of h = record { marks-are = h .marks-are; numbers-are = h .numbers-are; axes = h .kept .axes; spaces = h .kept .spaces }

@@ -9,9 +9,10 @@ use lib.ListN.{length, set}
 use Rattle.format.specs.declared.ReadAnswer.{ReadAnswer}
 use Rattle.format.specs.Bytes.{if_then_else_}
 use Rattle.format.specs.Limits.{maxAxes, maxExtent}
+use Rattle.format.specs.Spaces.{maxSpace}
 use Rattle.format.specs.Refusals.{badDescriptor, missingField, extentTooLarge, refusal, fine}
 use Rattle.format.specs.Fields.{Given, given, fieldCount, isGiven, dimension, sizes}
-use Rattle.format.specs.Descriptors.{isFromEnd, numberSaid, numberOf, dimensionOf, byteSkipOf, sizesOf, mayDescribe, hasNeeded, endIsRaw, extentOf}
+use Rattle.format.specs.Descriptors.{isFromEnd, numberSaid, numberOf, dimensionOf, spaceSizeOf, byteSkipOf, sizesOf, mayDescribe, hasNeeded, endIsRaw, extentOf}
 use Rattle.format.specs.Header.{Judged, wrong, right, field, fieldOf, closes, Outcome, refused, accepted, headerLength}
 use Rattle.format.specs.Calls.{noReading, padded, readingAt}
 use Rattle.read_descriptors.specs.Checked.{saysEnd, sizesKept}
@@ -30,9 +31,10 @@ flags gs = each (λ f. isGiven f gs) 0 fieldCount
 abbrev pub numbersOf : List Given → List ℕ
 numbersOf gs = each (λ f. numberOf f gs) 0 fieldCount
 
--- what the walk keeps of the fields given: the dimension is in its range, sizes come after it, and there is a size for each axis
+-- what the walk keeps of the fields given: the dimensions are in their ranges, sizes come after dimension, and there is a size for each axis
 pub record Kept (gs : List Given) : Type 0 where
   pub axes : dimensionOf gs ≤ maxAxes
+  pub spaces : spaceSizeOf gs ≤ maxSpace
   pub ordered : isGiven sizes gs ≡ true → isGiven dimension gs ≡ true
   pub sized : isGiven sizes gs ≡ true → length (sizesOf gs) ≡ dimensionOf gs
 
@@ -44,15 +46,16 @@ pub record Holds (marks : List Bool) (numbers ns : List ℕ) (end : Bool) (gs : 
   pub end-is : end ≡ isFromEnd (byteSkipOf gs)
   pub kept : Kept gs
 
--- what the judgement of a line has to know of the fields given: which they are, and the dimension
-pub record Known (marks : List Bool) (n : ℕ) (gs : List Given) : Type 0 where
+-- what the judgement of a line has to know of the fields given: which they are, and their numbers
+pub record Known (marks : List Bool) (numbers : List ℕ) (gs : List Given) : Type 0 where
   pub marks-are : marks ≡ flags gs
-  pub dimension-is : n ≡ dimensionOf gs
-  pub axes : n ≤ maxAxes
+  pub numbers-are : numbers ≡ numbersOf gs
+  pub axes : dimensionOf gs ≤ maxAxes
+  pub spaces : spaceSizeOf gs ≤ maxSpace
 
--- a field with the descriptor t, judged by its descriptor alone, in a header of dimension n
-abbrev pub described : ℕ → ℕ → List ℕ → Judged
-described n f t = if not (mayDescribe n f t) then wrong badDescriptor else right (field f t)
+-- a field with the descriptor t, judged by its descriptor alone, in a header of dimension n and a space of dimension m
+abbrev pub described : ℕ → ℕ → ℕ → List ℕ → Judged
+described n m f t = if not (mayDescribe n m f t) then wrong badDescriptor else right (field f t)
 
 -- the field that a line gives, or the first number that is none, and the number that it says
 abbrev pub fieldGiven : Option Given → ℕ

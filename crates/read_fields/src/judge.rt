@@ -9,10 +9,11 @@ ghost use mathlib.Core.Option.{some};
 ghost use Prim.Native.Nat.{ℕ, _+_, _≤_, _<_};
 ghost use lib.ListN.{length, take, drop};
 ghost use Rattle.format.specs.Bytes.{every, if_then_else_};
-ghost use Rattle.format.specs.Limits.{maxAxes};
+ghost use Rattle.format.specs.Limits.{maxAxes, maxHeader};
+ghost use Rattle.format.specs.Spaces.{maxSpace};
 ghost use Rattle.format.specs.Refusals.{badByte};
 ghost use Rattle.format.specs.Pairs.{plain, fieldMark, otherLine};
-ghost use Rattle.format.specs.Fields.{Given, fieldCount, inOrder};
+ghost use Rattle.format.specs.Fields.{Given, fieldCount, otherField, isRepeated, inOrder};
 ghost use Rattle.format.specs.Header.{wrong, onPair, onField, onKind, judge};
 ghost use Rattle.read_fields.specs.declared.state.Step.{Step};
 ghost use Rattle.read_fields.specs.States.{wrongOf, flags, Known, described, stepOf, stepped};
@@ -45,6 +46,27 @@ fn is_in_order(f: usize, given: &[bool; field::COUNT]) -> bool
             | (given[field::SPACE] | given[field::SPACE_DIMENSION]))
 }
 
+// The field that says the same: of space and space dimension the other one, of any other the field itself.
+fn other_field(f: usize) -> usize
+    ensures { λ r. ⌜ r ≡ otherField f ⌝ }
+    ensures below { λ r. ⌜ (f < fieldCount → r < fieldCount) ⌝ }
+{
+    match f {
+        field::SPACE => field::SPACE_DIMENSION,
+        field::SPACE_DIMENSION => field::SPACE,
+        _ => f,
+    }
+}
+
+// Whether the field is given already, or one that says the same.
+fn is_repeated(f: usize, given: &[bool; field::COUNT]) -> bool
+    requires { ⌜ f < fieldCount ⌝ }
+    ensures { λ r. ⌜ ((gs : List Given) → now (given .entry) ≡ flags gs → r ≡ isRepeated f gs) ⌝ }
+{
+    let other = other_field(f);
+    given[f] | given[other]
+}
+
 // The step of a line that gives no field and does not close: the number of its refusal, 0 where it is right.
 fn without_field(number: u32) -> Step
     ensures { λ r. ⌜ r ≡ stepOf (wrong number) ⌝ }
@@ -59,10 +81,16 @@ fn without_field(number: u32) -> Step
 }
 
 // The field f with the descriptor t: bad descriptor 11. Right sizes change the sizes.
-fn take_field(f: usize, t: &[u8], dimension: u32, sizes: &mut [u64; format::AXES]) -> Step
-    ensures { λ r. ⌜ (dimension ≤ maxAxes → _≡_ {A = Step × List ℕ} (r, now (sizes .exit)) (stepped (described dimension f (now (t .entry))) (now (sizes .entry)))) ⌝ }
+fn take_field(
+    f: usize,
+    t: &[u8],
+    dimension: u32,
+    space: u32,
+    sizes: &mut [u64; format::AXES],
+) -> Step
+    ensures { λ r. ⌜ (dimension ≤ maxAxes → space ≤ maxSpace → length (now (t .entry)) ≤ maxHeader → _≡_ {A = Step × List ℕ} (r, now (sizes .exit)) (stepped (described dimension space f (now (t .entry))) (now (sizes .entry)))) ⌝ }
 {
-    let x = read_descriptors::check::check(f, t, dimension, sizes);
+    let x = read_descriptors::check::check(f, t, dimension, space, sizes);
     if !x.fine {
         return without_field(format::BAD_DESCRIPTOR);
     }
@@ -79,27 +107,30 @@ fn take_field(f: usize, t: &[u8], dimension: u32, sizes: &mut [u64; format::AXES
 fn on_known(
     version: u32,
     given: &[bool; field::COUNT],
-    dimension: u32,
+    numbers: &[u32; field::COUNT],
     f: usize,
     rest: &[u8],
     sizes: &mut [u64; format::AXES],
 ) -> Step
     requires { ⌜ f < fieldCount ⌝ }
-    ensures { λ r. ⌜ ((gs : List Given) → Known (now (given .entry)) dimension gs → _≡_ {A = Step × List ℕ} (r, now (sizes .exit)) (stepped (onField version gs (some f) (now (rest .entry))) (now (sizes .entry)))) ⌝ }
+    ensures { λ r. ⌜ ((gs : List Given) → Known (now (given .entry)) (now (numbers .entry)) gs → length (now (rest .entry)) ≤ maxHeader → _≡_ {A = Step × List ℕ} (r, now (sizes .exit)) (stepped (onField version gs (some f) (now (rest .entry))) (now (sizes .entry)))) ⌝ }
 {
     if version < format_values::fields::since(f) {
         return without_field(format::NOT_IN_VERSION);
     }
-    if given[f] {
+    if is_repeated(f, given) {
         return without_field(format::REPEATED_FIELD);
     }
     if !is_in_order(f, given) {
         return without_field(format::OUT_OF_ORDER);
     }
+    let dimension = numbers[field::DIMENSION];
+    let space = crate::state::space_size(given, numbers);
     take_field(
         f,
         read_descriptors::place::descriptor_of(f, rest),
         dimension,
+        space,
         sizes,
     )
 }
@@ -108,20 +139,20 @@ fn on_known(
 fn on_field(
     version: u32,
     given: &[bool; field::COUNT],
-    dimension: u32,
+    numbers: &[u32; field::COUNT],
     t: &[u8],
     i: usize,
     sizes: &mut [u64; format::AXES],
 ) -> Step
     requires { ⌜ i + 2 ≤ length (now t) ⌝ }
-    ensures { λ r. ⌜ ((gs : List Given) → Known (now (given .entry)) dimension gs → _≡_ {A = Step × List ℕ} (r, now (sizes .exit)) (stepped (onKind version gs (now (t .entry)) (otherLine (fieldMark (take i (now (t .entry))) (drop (i + 2) (now (t .entry)))))) (now (sizes .entry)))) ⌝ }
+    ensures { λ r. ⌜ ((gs : List Given) → Known (now (given .entry)) (now (numbers .entry)) gs → length (now (t .entry)) ≤ maxHeader → _≡_ {A = Step × List ℕ} (r, now (sizes .exit)) (stepped (onKind version gs (now (t .entry)) (otherLine (fieldMark (take i (now (t .entry))) (drop (i + 2) (now (t .entry)))))) (now (sizes .entry)))) ⌝ }
 {
     if !read_text::bytes::is_plain(t) {
         return without_field(format::BAD_BYTE);
     }
     let row = read_text::words::field_named(&t[..i]);
     match row {
-        Row::Number(f) => on_known(version, given, dimension, f as usize, &t[i + 2..], sizes),
+        Row::Number(f) => on_known(version, given, numbers, f as usize, &t[i + 2..], sizes),
         Row::Unknown => without_field(format::UNKNOWN_FIELD),
     }
 }
@@ -136,15 +167,15 @@ fn plain_first(t: &[u8], number: u32) -> u32
     format::BAD_BYTE
 }
 
-// One line after line 1, by its text, after the fields given, in a header of this dimension: with no mark 6. A right line of sizes changes the sizes.
+// One line after line 1, by its text, after the fields given, by what is kept of them: with no mark 6. A right line of sizes changes the sizes.
 pub fn judge_line(
     version: u32,
     given: &[bool; field::COUNT],
-    dimension: u32,
+    numbers: &[u32; field::COUNT],
     t: &[u8],
     sizes: &mut [u64; format::AXES],
 ) -> Step
-    ensures { λ r. ⌜ ((gs : List Given) → Known (now (given .entry)) dimension gs → _≡_ {A = Step × List ℕ} (r, now (sizes .exit)) (stepped (judge version gs (now (t .entry))) (now (sizes .entry)))) ⌝ }
+    ensures { λ r. ⌜ ((gs : List Given) → Known (now (given .entry)) (now (numbers .entry)) gs → length (now (t .entry)) ≤ maxHeader → _≡_ {A = Step × List ℕ} (r, now (sizes .exit)) (stepped (judge version gs (now (t .entry))) (now (sizes .entry)))) ⌝ }
 {
     match read_text::lines::kind_of(t) {
         Kind::Empty => Step {
@@ -155,7 +186,7 @@ pub fn judge_line(
             fromend: false,
         },
         Kind::Comment => without_field(0),
-        Kind::Field(i) => on_field(version, given, dimension, t, i, sizes),
+        Kind::Field(i) => on_field(version, given, numbers, t, i, sizes),
         Kind::Pair(i) => without_field(plain_first(t, on_pair(version, &t[..i], &t[i + 2..]))),
         Kind::Neither => without_field(plain_first(t, format::NO_MARK)),
     }

@@ -14,7 +14,7 @@ ghost use lib.ListN.{take};
 ghost use Rattle.format.specs.Limits.{maxAxes};
 ghost use Rattle.format.specs.Refusals.{atLine};
 ghost use Rattle.format.specs.Fields.{Given};
-ghost use Rattle.format.specs.Descriptors.{raw, endianNeeded, extent, hasNeeded, capped};
+ghost use Rattle.format.specs.Descriptors.{raw, spaceSizeOf, endianNeeded, extent, hasNeeded, capped};
 ghost use Rattle.format.specs.Header.{refused};
 ghost use Rattle.format.specs.Calls.{padded, readAnswer};
 ghost use Rattle.read_fields.specs.States.{flags, numbersOf, keptAt, Holds, finished};
@@ -42,6 +42,7 @@ pub fn no_numbers() -> [u32; field::COUNT]
 {
     let mut numbers = [0u32; field::COUNT];
     numbers[field::ENDIAN] = format::NO_ENDIAN;
+    numbers[field::SPACE] = format::NO_SPACE;
     numbers
 }
 
@@ -87,6 +88,11 @@ pub fn refuse(number: u32, line: u32) -> ReadAnswer
             length: 0,
             lines: 0,
             fromend: false,
+            origin: false,
+            directions: false,
+            frame: false,
+            space: 0,
+            spacedimension: 0,
         },
     }
 }
@@ -95,6 +101,16 @@ fn wide(n: u32) -> u64
     ensures { λ r. ⌜ r ≡ n ⌝ }
 {
     n as u64
+}
+
+// The dimension of the space, by its name or as it is given.
+pub(crate) fn space_size(given: &[bool; field::COUNT], numbers: &[u32; field::COUNT]) -> u32
+    ensures { λ r. ⌜ ((gs : List Given) → now (given .entry) ≡ flags gs → now (numbers .entry) ≡ numbersOf gs → r ≡ spaceSizeOf gs) ⌝ }
+{
+    if given[field::SPACE] {
+        return format_values::spaces::size(numbers[field::SPACE]);
+    }
+    numbers[field::SPACE_DIMENSION]
 }
 
 // Whether the order of a sample's bytes matters: raw or hex samples of several bytes.
@@ -166,6 +182,11 @@ pub fn finish(
     let lineskip = wide(numbers[field::LINE_SKIP]);
     let byteskip = wide(numbers[field::BYTE_SKIP]);
     let length = bytes as u64;
+    let space = numbers[field::SPACE];
+    let spacedimension = space_size(given, numbers);
+    let origin = given[field::SPACE_ORIGIN];
+    let directions = given[field::SPACE_DIRECTIONS];
+    let frame = given[field::MEASUREMENT_FRAME];
     ReadAnswer {
         refusal: refusals::FINE,
         reading: Reading {
@@ -182,6 +203,11 @@ pub fn finish(
             length: length,
             lines: count,
             fromend: fromend,
+            origin: origin,
+            directions: directions,
+            frame: frame,
+            space: space,
+            spacedimension: spacedimension,
         },
     }
 }

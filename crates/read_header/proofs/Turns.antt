@@ -7,7 +7,7 @@ use mathlib.Core.Path.{_≡_, refl, sym, ap, subst, _∙_}
 use mathlib.Core.Bool.{Bool, true, false, not, _||_}
 use mathlib.Core.List.{List, [], _∷_}
 use lib.Dec.{eqb, ltb}
-use lib.ListN.{length, take, drop, getD}
+use lib.ListN.{length, take, drop, getD, length-take}
 use borrow.Author.Tests.{lt-ltb, le-ltb}
 use Rattle.format.specs.declared.ReadAnswer.{ReadAnswer}
 use Rattle.format.specs.Bytes.{if_then_else_}
@@ -228,13 +228,13 @@ module _ {file : List ℕ} {version from : ℕ} {marks : List Bool} {numbers ns 
     going-many h = sym (turn-many file version (g .gs) n at textEnd next w h) ∙ g .same
 
     module _ (few : n ≤ maxLines) {s : Step} {ns′ : List ℕ}
-        (is : (gs : List Given) → Known marks (getD numbers dimension 0) gs
+        (is : (gs : List Given) → Known marks numbers gs → length (take (textEnd - at) (drop at file)) ≤ maxHeader
         → _≡_ {A = Step × List ℕ} (s, ns′) (stepped (judge version gs (take (textEnd - at) (drop at file))) ns)) where
       past-one : 1 ≤ n
       past-one = omega (arith, g .low)
 
       here : _≡_ {A = Step × List ℕ} (s, ns′) (stepped (judge version (g .gs) (take (textEnd - at) (drop at file))) ns)
-      here = is (g .gs) (known-of (g .holds))
+      here = is (g .gs) (known-of (g .holds)) (omega (arith, length-take (textEnd - at) (drop at file), w))
 
       -- the line is refused
       pub going-wrong : (s .wrong ≡ 0 → ⊥) → refusedAt (s .wrong) n ≡ answerAt file version [] 2 from

@@ -62,11 +62,10 @@ fn read_lines(file: &[u8], from: usize, version: u32) -> ReadAnswer
                 if format::MAX_LINES < n {
                     return read_fields::state::refuse(format::TOO_MANY_LINES, n);
                 }
-                let dimension = numbers[field::DIMENSION];
                 let step = read_fields::judge::judge_line(
                     version,
                     &given,
-                    dimension,
+                    &numbers,
                     &file[at..text_end],
                     &mut sizes,
                 );

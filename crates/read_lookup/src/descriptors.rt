@@ -13,7 +13,7 @@ ghost use Rattle.format.specs.Descriptors.{fromDescriptor, descriptor};
 ghost use Rattle.format.specs.Header.{Item, header};
 ghost use Rattle.format.specs.Calls.{noPlace, foundAt, descriptorPlace, findFieldCall};
 ghost use Rattle.format.specs.Found.{FindsField};
-ghost use Rattle.read_header.specs.Accepted.{IsItem};
+ghost use Rattle.read_header.specs.Accepted.{Headed, IsItem};
 ghost use Rattle.read_lookup.specs.Lookup.{isField, FieldLeft};
 
 // Whether a name means the field.
@@ -78,6 +78,14 @@ fn first_field(file: &[u8], field: u32, from: usize, count: u32) -> FindAnswer
     crate::places::absent()
 }
 
+// Where the descriptor of a field lies in a file whose header has so many lines, or nowhere if the field is not given.
+pub fn find_field_in(file: &[u8], field: u32, lines: u32) -> FindAnswer
+    requires { ⌜ Headed (now file) lines ⌝ }
+    ensures { λ r. ⌜ r ≡ findFieldCall (now (file .entry)) field ⌝ }
+{
+    first_field(file, field, crate::places::second_line(file), lines - 1)
+}
+
 // Where the descriptor of a field lies in the file, or nowhere if the field is not given.
 pub fn find_field(file: &[u8], field: u32) -> FindAnswer
     ensures call { λ r. ⌜ r ≡ findFieldCall (now (file .entry)) field ⌝ }
@@ -90,5 +98,5 @@ pub fn find_field(file: &[u8], field: u32) -> FindAnswer
     if count == 0 {
         return crate::places::nowhere(refusal);
     }
-    first_field(file, field, crate::places::second_line(file), count - 1)
+    find_field_in(file, field, count)
 }

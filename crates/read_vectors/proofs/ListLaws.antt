@@ -14,7 +14,7 @@ use Rattle.format.specs.declared.Decimal.{Decimal}
 use Rattle.format.specs.Bytes.{if_then_else_, isSome, orDefault}
 use Rattle.format.specs.Vectors.{Direction, without, along, alongSaid, saidBy, vectorSaid, directionSaid, vectorWords, vectorsSaid}
 use Rattle.read_vectors.specs.declared.vector.Vector.{Vector}
-use Rattle.read_vectors.specs.Columns.{eight, column, matrix}
+use Rattle.format.specs.Columns.{eight, column, matrix}
 use Rattle.read_vectors.specs.Outside.{part, Next}
 use Rattle.read_vectors.specs.Answers.{vectorAnswer, directionAnswer, wordSaid, frameSaid}
 use Rattle.read_vectors.proofs.Said.{cons-some, said-done, said-short, said-long, said-cons, said-values, said-both}

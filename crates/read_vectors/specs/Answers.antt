@@ -8,7 +8,7 @@ use Rattle.format.specs.Bytes.{if_then_else_, isSome, orDefault}
 use Rattle.format.specs.Decimals.{marked, noDirection}
 use Rattle.format.specs.Vectors.{Direction, without, along, alongSaid, vectorSaid, directionSaid, vectorWords}
 use Rattle.read_vectors.specs.declared.vector.Vector.{Vector}
-use Rattle.read_vectors.specs.Columns.{column, matrix}
+use Rattle.format.specs.Columns.{column, matrix}
 
 -- a vector's components, all of them zero where there is no vector
 abbrev pub vectorAnswer : Option (List Decimal) → Vector

@@ -6,7 +6,7 @@ ghost use lib.ListN.{length, getD};
 ghost use Rattle.format.specs.Bytes.{isSome};
 ghost use Rattle.format.specs.Limits.{maxHeader};
 ghost use Rattle.format.specs.Vectors.{saidBy, vectorWords, vectorSaid, directionSaid, vectorsSaid, directionsSaid};
-ghost use Rattle.read_vectors.specs.Columns.{matrix};
+ghost use Rattle.format.specs.Columns.{matrix};
 ghost use Rattle.read_vectors.specs.Answers.{vectorAnswer, directionAnswer, wordSaid, frameSaid};
 use crate::vector;
 use crate::vector::Vector;

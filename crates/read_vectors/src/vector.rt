@@ -8,7 +8,7 @@ ghost use Rattle.format.specs.Bytes.{isSome};
 ghost use Rattle.format.specs.Limits.{maxHeader};
 ghost use Rattle.format.specs.Vectors.{without, enclosed, commaParts, saidBy, componentIn, vectorSaid, directionSaid};
 ghost use Rattle.read_decimals.specs.Components.{componentAnswer};
-ghost use Rattle.read_vectors.specs.Columns.{column};
+ghost use Rattle.format.specs.Columns.{column};
 ghost use Rattle.read_vectors.specs.Answers.{vectorAnswer, directionAnswer};
 use format::Decimal;
 use read_decimals::Component;

@@ -193,6 +193,9 @@ carried-at first table es gs ls b u (lent buf used t n) done e f s =
           numbers-over entryBytes own p (take n ns) (omega arith) ∙ ap (λ (v : List ℕ). over v own) (first-numbers entryBytes t (f .bytes) n room) in
           answer-in-bytes own _ _ _ _ _ (s .fresh (numbersOf entryBytes own) (omega (arith, s .count, length-numbers entryBytes own))) (s .numbers) q;
       value = λ key out. value-of (take used buf) key out (s .entries) gs ls (s .reading) ∙ ap (copyValue out) (s .values key);
+      origin = λ list. rw (s .reading, e);
+      directions = λ list. rw (s .reading, e);
+      frame = λ list. rw (s .reading, e);
       samples = λ second list. ap (λ (a : CountAnswer × List ℤ). (a .0, lentSamples (a .1) list)) (s .samples second (samplesLent list));
     }
 

@@ -1,4 +1,5 @@
 pub mod Refused
 pub mod Written
+pub mod Headers
 pub mod Carried
 pub mod Callers

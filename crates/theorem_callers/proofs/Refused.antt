@@ -1,27 +1,32 @@
 -- A refused call leaves every lent byte as it was: demand 1 of specs/Callers.antt.
 -- Assumes nothing.
 use mathlib.Core.Path.{_≡_, refl, ap, _∙_}
-use Prim.Native.Nat.{ℕ}
-use mathlib.Core.Bool.{Bool, true, false}
-use mathlib.Core.List.{List}
+use Prim.Native.Nat.{ℕ, _/_}
+use mathlib.Core.Bool.{Bool, true, false, not, _&&_}
+use mathlib.Core.List.{List, flatMap}
 use mathlib.Core.Option.{Option, none, some}
 use lib.Dec.{eqb, ltb}
 use lib.IntN.{ℤ}
 use lib.ListN.{length}
 use borrow.Author.Tests.{ne-eqb}
+use Rattle.format.specs.declared.Decimal.{Decimal}
 use Rattle.format.specs.declared.Refusal.{Refusal}
 use Rattle.format.specs.declared.ReadAnswer.{ReadAnswer}
 use Rattle.format.specs.declared.ValueAnswer.{ValueAnswer}
 use Rattle.format.specs.declared.WriteAnswer.{WriteAnswer}
 use Rattle.format.specs.declared.CountAnswer.{CountAnswer}
-use Rattle.format.specs.Bytes.{if_then_else_}
+use Rattle.format.specs.Bytes.{if_then_else_, isEmpty}
 use Rattle.format.specs.Refusals.{lentTooShort}
 use Rattle.format.specs.Header.{Outcome, refused, accepted, header, valueOf}
+use Rattle.format.specs.Descriptors.{spaceSizeOf}
 use Rattle.format.specs.Settings.{Lent, lent, setting}
 use Rattle.format.specs.Calls.{withTable, copyValue, copyValueIn, writeAnswer, seenIn, listAfter, samplesCall, setKeyCall, left}
-use Rattle.format.specs.Writer.{fileBytes, writeRefusal}
+use Rattle.format.specs.Orientation.{originOf, directionsOf, frameOf, listed, originListed, directionDecimals, directionsListed, frameListed}
+use Rattle.format.specs.Writer.{fileBytes, writable, writeRefusal}
+use Rattle.format.specs.HeaderWriter.{Orientation, orientedBytes, spaceListed, inVersion, afterReading, writeHeader}
+use Rattle.format.specs.EntryPoints.{orientationWidth, writeHeaderEntry}
 use Rattle.format.specs.Listing.{listing}
-use Rattle.format.specs.Boundary.{entryBytes, wordBytes, numbersOf, samplesLent, lentNumbers, lentSamples}
+use Rattle.format.specs.Boundary.{entryBytes, wordBytes, decimalWidth, numbersOf, samplesLent, lentNumbers, lentSamples}
 use Rattle.format.proofs.Boundary.{lent-of-numbers, lent-of-samples}
 use Rattle.theorem_lists.specs.Lists.{bufferOf, usedOf, tableIn, countIn}
 use Rattle.theorem_lists.proofs.Lists.{settings}
@@ -51,6 +56,42 @@ value-kept key out (accepted es gs ls) = go (valueOf key es)
     go none = λ h. refl
     go (some v) = either (λ (a : ValueAnswer). a .refusal) out (ltb (length out) (length v)) _ _ (λ h. refl) (λ h. absurd (h refl))
 
+-- a list of decimals, or 22
+listed-kept : (ds : List Decimal) (list : List ℕ) → Kept (λ (a : CountAnswer). a .refusal) list (listed ds list)
+listed-kept ds list = either (λ (a : CountAnswer). a .refusal) list (ltb (length list / decimalWidth) (length ds)) _ _ (λ h. refl) (λ h. absurd (h refl))
+
+origin-kept : (o : Outcome) (list : List ℕ) → Kept (λ (a : CountAnswer). a .refusal) list (originListed list o)
+origin-kept (refused r) list = λ h. refl
+origin-kept (accepted es gs ls) list = listed-kept (originOf gs) list
+
+directions-kept : (o : Outcome) (list : List ℕ) → Kept (λ (a : CountAnswer). a .refusal) list (directionsListed list o)
+directions-kept (refused r) list = λ h. refl
+directions-kept (accepted es gs ls) list = listed-kept (flatMap (directionDecimals (spaceSizeOf gs)) (directionsOf gs)) list
+
+frame-kept : (o : Outcome) (list : List ℕ) → Kept (λ (a : CountAnswer). a .refusal) list (frameListed list o)
+frame-kept (refused r) list = λ h. refl
+frame-kept (accepted es gs ls) list = listed-kept (flatMap (λ c. c) (frameOf gs)) list
+
+-- a written header, along its refusals
+header-kept : (version : ℕ) (sizes : List ℕ) (t e endian : ℕ) (shaped : Bool) (o : Orientation) (out : List ℕ)
+    → Kept (λ (a : WriteAnswer). a .refusal) out (writeHeader version sizes t e endian shaped o out)
+unfolding writeHeader
+header-kept version sizes t e endian shaped o out =
+    let text = orientedBytes version sizes t e endian o in
+    either (λ (a : WriteAnswer). a .refusal) out (not (writable version sizes t e endian && (shaped && spaceListed o))) _ _ (λ h. refl)
+    (either (λ (a : WriteAnswer). a .refusal) out (not (inVersion version o)) _ _ (λ h. refl) (read (header text) text))
+  where
+    read : (x : Outcome) (text : List ℕ) → Kept (λ (a : WriteAnswer). a .refusal) out (afterReading x text out)
+    read (refused r) text = λ h. refl
+    read (accepted es gs ls) text = either (λ (a : WriteAnswer). a .refusal) out (ltb (length out) (length text)) _ _ (λ h. refl) (λ h. absurd (h refl))
+
+entry-kept : (version : ℕ) (sizes : List ℕ) (t e endian : ℕ) (given out : List ℕ)
+    → Kept (λ (a : WriteAnswer). a .refusal) out (writeHeaderEntry version sizes t e endian given out)
+unfolding writeHeaderEntry
+entry-kept version sizes t e endian given out =
+    either (λ (a : WriteAnswer). a .refusal) out (isEmpty given) _ _ (header-kept version _ t e endian _ _ out)
+    (either (λ (a : WriteAnswer). a .refusal) out (eqb (length given) orientationWidth) _ _ (header-kept version _ t e endian _ _ out) (λ h. refl))
+
 write-kept : (n : ℕ) (file out : List ℕ) → Kept (λ (a : WriteAnswer). a .refusal) out (writeAnswer n file out)
 write-kept n file out = either (λ (a : WriteAnswer). a .refusal) out (eqb n 0) _ _ (λ h. absurd (h refl)) (λ h. refl)
 
@@ -71,6 +112,10 @@ keeps =
       value = λ file key out h. value-kept key out (header file) h;
       samples = λ file second list p h.
           ap (λ (zs : List ℤ). lentSamples zs list) (samples-kept (samplesCall file second (samplesLent list) .0) (seenIn file second (header file)) (samplesLent list) h) ∙ lent-of-samples list p;
+      origin = λ file list. origin-kept (header file) list;
+      directions = λ file list. directions-kept (header file) list;
+      frame = λ file list. frame-kept (header file) list;
+      written-header = entry-kept;
       write = λ version sizes t e endian samples out h.
           let ns = numbersOf wordBytes sizes in
           let zs = samplesLent samples in

@@ -1,16 +1,17 @@
 -- What the demands say of the bytes that callers in C lend, beyond what each entry point's own contract says, as one statement: `CallersHold`.
--- A refused call leaves them (demand 1), what is written is read back (demand 2), lists of settings (demand 3).
+-- A refused call leaves them (demand 1), what is written is read back (demand 2; headers with their orientation: document 02, W2), lists of settings (demand 3).
 -- It speaks of what the entry points answer, which their contracts cite (EntryPoints.antt, Calls.antt, Listing.antt), over the bytes that callers lend,
 -- however many. Numbers in lent bytes have their low byte first: 4 bytes an entry of a table, 8 a size or a sample (Boundary.antt).
-use Prim.Native.Nat.{ℕ, _*_, _/_, _≤_}
+use Prim.Native.Nat.{ℕ, _*_, _/_, _≤_, _<_}
 use mathlib.Core.Path.{_≡_}
 use mathlib.Core.Bool.{not}
-use mathlib.Core.List.{List, []}
+use mathlib.Core.List.{List, [], flatMap}
+use mathlib.Core.Option.{none}
 use lib.Dec.{eqb}
 use lib.ListN.{length, take, drop}
 use Rattle.format.specs.declared.Refusal.{Refusal}
 use Rattle.format.specs.declared.CountAnswer.{CountAnswer}
-use Rattle.format.specs.Bytes.{over, isSome, orElse, orDefault}
+use Rattle.format.specs.Bytes.{if_then_else_, isEmpty, over, isSome, orElse, orDefault}
 use Rattle.format.specs.Refusals.{fine}
 use Rattle.format.specs.Lines.{Line}
 use Rattle.format.specs.Fields.{Given}
@@ -20,10 +21,13 @@ use Rattle.format.specs.Writer.{dataBytes}
 use Rattle.format.specs.Settings.{Lent, lent, Setting}
 use Rattle.format.specs.Calls.{readHeaderCall, copyValue, copyValueCall, dataPlaceCall, callOn, left, setKeysBy, setKeys}
 use Rattle.format.specs.Listing.{listingCall}
-use Rattle.format.specs.Boundary.{entryBytes, wordBytes, numbersOf, samplesLent}
-use Rattle.format.specs.EntryPoints.{readEntry, samplesEntry, writeEntry, setKeyEntry}
+use Rattle.format.specs.Boundary.{entryBytes, wordBytes, numbersOf, samplesLent, decimalsLent}
+use Rattle.format.specs.Orientation.{originCall, directionCall, frameCall, listed, directionDecimals, originEntry, directionsEntry, frameEntry}
+use Rattle.format.specs.HeaderWriter.{Orientation, orientation, orientationOf}
+use Rattle.format.specs.EntryPoints.{readEntry, samplesEntry, writeEntry, shapeLent, columnsLent, writeHeaderEntry, setKeyEntry}
 use Rattle.format.specs.Laws.{AllBytes}
 use Rattle.theorem_roundtrip.specs.RoundTrip.{readBack, dataBack}
+use Rattle.theorem_headers.specs.HeadersBack.{originGiven, directionsGiven, frameGiven, sizeGiven, meantOrientation, readBack as headerBack, originBack, directionBack, frameBack}
 use Rattle.theorem_lists.specs.Lists.{tableIn, countIn, fileIn, lastAccepted, resized, Settled, firstCase, setCases}
 
 -- a call answers the number of its refusal, 0 where nothing is refused (document 01, "Numbers of refusal")
@@ -45,9 +49,19 @@ pub record RefusedKeeps : Type 0 where
   -- craneholt_samples: the list
   pub samples : (file second list : List ℕ) → AllBytes list
       → Refused (samplesEntry file second list .0 .refusal) → samplesEntry file second list .1 ≡ list
+  -- craneholt_origin, craneholt_directions, craneholt_frame: the list
+  pub origin : (file list : List ℕ)
+      → Refused (originEntry file list .0 .refusal) → originEntry file list .1 ≡ list
+  pub directions : (file list : List ℕ)
+      → Refused (directionsEntry file list .0 .refusal) → directionsEntry file list .1 ≡ list
+  pub frame : (file list : List ℕ)
+      → Refused (frameEntry file list .0 .refusal) → frameEntry file list .1 ≡ list
   -- craneholt_write: the buffer
   pub write : (version : ℕ) (sizes : List ℕ) (t e endian : ℕ) (samples out : List ℕ)
       → Refused (writeEntry version sizes t e endian samples out .0 .refusal) → writeEntry version sizes t e endian samples out .1 ≡ out
+  -- craneholt_write_header: the buffer
+  pub written-header : (version : ℕ) (sizes : List ℕ) (t e endian : ℕ) (orientation out : List ℕ)
+      → Refused (writeHeaderEntry version sizes t e endian orientation out .0 .refusal) → writeHeaderEntry version sizes t e endian orientation out .1 ≡ out
   -- craneholt_set_key: buffer and table; used length and count are answered as they were lent
   pub set : (buf : List ℕ) (used : ℕ) (table : List ℕ) (count : ℕ) (key value : List ℕ) → AllBytes table
       → Refused (setKeyEntry buf used table count key value .0 .refusal)
@@ -87,6 +101,39 @@ WritesAreRead =
     → let a = writeEntry version sizes t e endian samples out in
     NotRefused (a .0 .refusal) → FileReadBack version sizes t e endian samples out (a .0 .length) (a .1)
 
+-- ---- a header that craneholt_write_header wrote is read back with its orientation (document 02, W2)
+
+-- the orientation that the lent bytes hold (EntryPoints.antt); without bytes nothing is given
+abbrev pub orientationLent : List ℕ → Orientation
+orientationLent s =
+    if isEmpty s then orientation none none none none none
+    else orientationOf (shapeLent s) (decimalsLent (take 128 (drop 32 s))) (columnsLent 16 (drop 160 s)) (columnsLent 8 (drop 2208 s))
+
+-- the buffer `out` was lent and came back as `after`, with a header of `written` bytes at its front, which is read as a file; o is the orientation that was given.
+-- Number and power of a decimal that is a mark are not written: what is meant by o is read (HeadersBack.antt).
+pub record HeaderReadBack (version : ℕ) (sizes : List ℕ) (t e endian : ℕ) (o : Orientation) (out : List ℕ) (written : ℕ) (after : List ℕ) : Type 0 where
+  -- the header fits, and bytes past it are as they were
+  pub fits : written ≤ length out
+  pub past : drop written after ≡ drop written out
+  -- craneholt_read_header answers the numbers that went in, and which parts of an orientation there are
+  pub reading : readHeaderCall (take written after) ≡ headerBack version (numbersOf wordBytes sizes) t e endian o
+  -- the calls for the orientation, by value: the origin, the direction of each axis, the frame
+  pub origin : originCall (take written after) ≡ originBack (meantOrientation o)
+  pub direction : (axis : ℕ) → axis < length (numbersOf wordBytes sizes) → directionCall (take written after) axis ≡ directionBack axis (meantOrientation o)
+  pub frame : frameCall (take written after) ≡ frameBack (meantOrientation o)
+  -- craneholt_origin, craneholt_directions and craneholt_frame: the decimals that went in, or 22 where the list has no room for them; none where nothing was given
+  pub origin-listed : (list : List ℕ) → originEntry (take written after) list ≡ listed (orDefault [] (originGiven (meantOrientation o))) list
+  pub directions-listed : (list : List ℕ)
+      → directionsEntry (take written after) list ≡ listed (flatMap (directionDecimals (sizeGiven o)) (orDefault [] (directionsGiven (meantOrientation o)))) list
+  pub frame-listed : (list : List ℕ) → frameEntry (take written after) list ≡ listed (flatMap (λ c. c) (orDefault [] (frameGiven (meantOrientation o)))) list
+
+-- of everything that craneholt_write_header accepts
+abbrev pub HeadersAreRead : Type 0
+HeadersAreRead =
+    (version : ℕ) (sizes : List ℕ) (t e endian : ℕ) (given out : List ℕ)
+    → let a = writeHeaderEntry version sizes t e endian given out in
+    NotRefused (a .0 .refusal) → HeaderReadBack version sizes t e endian (orientationLent given) out (a .0 .length) (a .1)
+
 -- ---- demand 3: any list of calls of craneholt_set_key after craneholt_read, each lent what the one before it left (document 01,
 -- "Lists of settings")
 
@@ -120,6 +167,10 @@ pub record Carried (first table : List ℕ) (after : Lent) (done : List Setting)
       )
   -- craneholt_copy_value: the value accepted last for the key, or else the one that it had in the first reading
   pub value : (key out : List ℕ) → copyValueCall (fileIn after) key out ≡ copyValue out (orElse (lastAccepted key done) (valueOf key first-entries))
+  -- craneholt_origin, craneholt_directions and craneholt_frame answer and leave what they did before, with any list
+  pub origin : (list : List ℕ) → originEntry (fileIn after) list ≡ originEntry first list
+  pub directions : (list : List ℕ) → directionsEntry (fileIn after) list ≡ directionsEntry first list
+  pub frame : (list : List ℕ) → frameEntry (fileIn after) list ≡ frameEntry first list
   -- craneholt_samples answers and leaves what it did before, with any second file and list
   pub samples : (second list : List ℕ) → samplesEntry (fileIn after) second list ≡ samplesEntry first second list
 
@@ -145,4 +196,5 @@ pub record SettingsAreCarried : Type 0 where
 pub record CallersHold : Type 0 where
   pub refused : RefusedKeeps
   pub written : WritesAreRead
+  pub headers : HeadersAreRead
   pub set : SettingsAreCarried

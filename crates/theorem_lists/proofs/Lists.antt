@@ -190,6 +190,9 @@ module _ (l : Line) (n : ℕ) (gs : List Given) (ls : List Line) where
         version = refl;
         values = λ k. rw (value-after-list done (ending l) es k) (or-none (lastAccepted k done) (valueOf k es));
         numbers = rw (g .reading, e, g .count);
+        origin = rw (g .reading, e);
+        direction = λ axis. rw (g .reading, e);
+        frame = rw (g .reading, e);
         count = g .count;
         table = g .table;
         fresh = λ own h. rw (g .reading, le-ltb (length own) (length (entry l (magic n) ∷ afterList done (ending l) es)) h, g .table);

@@ -18,6 +18,7 @@ use Rattle.format.specs.Lines.{Line, line, Ending, ending, unlines}
 use Rattle.format.specs.Fields.{Given, pairsSince}
 use Rattle.format.specs.Header.{pairOf, Entry, entry, linesOf, Outcome, refused, accepted, header, versionOf, valueOf, tableOf, headerLength}
 use Rattle.format.specs.Settings.{keyFine, valueFine, pairText, hasKey, newLines, tableFine, Lent, lent, Setting, setting}
+use Rattle.format.specs.Orientation.{originCall, directionCall, frameCall}
 use Rattle.format.specs.Calls.{readHeaderCall, readCall, dataPlaceCall, dataCall, samplesCall, setKeyCall, callOn, left, setKeys}
 
 -- ---- parts of what is lent
@@ -97,6 +98,11 @@ resized n k r =
       length = n;
       lines = k;
       fromend = r .fromend;
+      origin = r .origin;
+      directions = r .directions;
+      frame = r .frame;
+      space = r .space;
+      spacedimension = r .spacedimension;
     }
 
 -- the data was found, in the header's file
@@ -118,6 +124,10 @@ pub record Settled (first : List ℕ) (es : List Entry) (gs : List Given) (ls : 
   pub version : versionOf entries ≡ versionOf es
   -- its numbers are the first ones, but for the header's length and the count of its lines, which is the carried one
   pub numbers : readHeaderCall (fileIn after) ≡ record { refusal = fine; reading = resized (headerLength entries) (countIn after) (readHeaderCall first .reading) }
+  -- the orientation is the first one: the origin, the direction of each axis, the frame (document 02, W2)
+  pub origin : originCall (fileIn after) ≡ originCall first
+  pub direction : (axis : ℕ) → directionCall (fileIn after) axis ≡ directionCall first axis
+  pub frame : frameCall (fileIn after) ≡ frameCall first
   -- a key that was set has its latest accepted value, any other key the one that it had in the first reading
   pub values : (k : List ℕ) → valueOf k entries ≡ orElse (lastAccepted k done) (valueOf k es)
   -- the carried count and table are those of the fresh reading

@@ -188,7 +188,7 @@ unfolding every
 signed-above (pos n) = every-weaker isDigit (ltb COMMA) digit-above (decimal n) (decimal-digits n)
 signed-above (negsuc n) = every-weaker isDigit (ltb COMMA) digit-above (decimal (suc n)) (decimal-digits (suc n))
 
-every-if : (p : ℕ → Bool) (t : Bool) (a b : List ℕ) → every p a ≡ true → every p b ≡ true → every p (if t then a else b) ≡ true
+pub every-if : (p : ℕ → Bool) (t : Bool) (a b : List ℕ) → every p a ≡ true → every p b ≡ true → every p (if t then a else b) ≡ true
 every-if p true a b h i = h
 every-if p false a b h i = i
 

@@ -23,6 +23,13 @@ use Rattle.theorem_orientation.proofs.Joined.{comma-parts, trimmed, vec
 
 -- ---- lists of texts
 
+-- where each is kept, each means itself
+pub each-itself : {A : Type 0} (keeps : A → Bool) (means : A → A) → Itself keeps means → Itself (each keeps) (map means)
+unfolding each
+each-itself keeps means same [] h = refl
+each-itself keeps means same (a ∷ as′) h =
+    rw (same a (and-left (keeps a) (each keeps as′) h), each-itself keeps means same as′ (and-right (keeps a) (each keeps as′) h))
+
 module _ {A : Type 0} (text : A → List ℕ) (said : List ℕ → Option A) (keeps : A → Bool) (means : A → A) where
   -- each of the texts that are written
   cons-if : (s t : Bool) (a : A) (as′ : List A)
@@ -48,14 +55,8 @@ module _ {A : Type 0} (text : A → List ℕ) (said : List ℕ → Option A) (ke
       go true = refl
       go false = refl
 
-  each-itself : Itself keeps means → Itself (each keeps) (map means)
-  unfolding each
-  each-itself same [] h = refl
-  each-itself same (a ∷ as′) h =
-      rw (same a (and-left (keeps a) (each keeps as′) h), each-itself same as′ (and-right (keeps a) (each keeps as′) h))
-
   of-itself : (n : ℕ) → Itself keeps means → Itself (eachOf n keeps) (map means)
-  of-itself n same as′ h = each-itself same as′ (and-right (eqb (length as′) n) (each keeps as′) h)
+  of-itself n same as′ h = each-itself keeps means same as′ (and-right (eqb (length as′) n) (each keeps as′) h)
 
 -- a list of which what it means is kept has as many entries
 pub count-kept : {A : Type 0} (keeps : A → Bool) (means : A → A) (n : ℕ) (as′ : List A) → eachOf n keeps (map means as′) ≡ true → length as′ ≡ n

@@ -38,6 +38,7 @@ use Rattle.format.specs.Room.{Enough, tableEntries, tableRoom, writeRoom, value
 use Rattle.theorem_room.specs.Room.{RoomEnough}
 use Rattle.theorem_room.proofs.Written.{room-for-file}
 use Rattle.theorem_room.proofs.Checked.{list-long}
+use Rattle.theorem_room.proofs.Oriented.{origin-enough, directions-enough, frame-enough}
 use Rattle.theorem_room.proofs.Grown.{escape-length, header-grown}
 
 -- ---- the reading, with a table or without
@@ -192,6 +193,9 @@ room-enough =
       samples-enough = λ file second list h. samples-enough file second list (omega (arith, h));
       write-enough = λ version sizes t e endian zs out h. write-enough version sizes t e endian zs out (omega (arith, h));
       set-enough = λ buf used table count k v r h. set-enough buf used table r count k v (omega (arith, h));
+      origin-enough = λ file list h. origin-enough file list (omega (arith, h));
+      directions-enough = λ file list h. directions-enough file list (omega (arith, h));
+      frame-enough = λ file list h. frame-enough file list (omega (arith, h));
     }
 
 -- an answer with this refusal is refused for what is lent only if the other is

@@ -1,4 +1,5 @@
 pub mod Written
 pub mod Checked
 pub mod Grown
+pub mod Oriented
 pub mod Enough

@@ -8,7 +8,8 @@ use lib.ListN.{length}
 use Rattle.format.specs.Refusals.{extentTooLarge}
 use Rattle.format.specs.Header.{header}
 use Rattle.format.specs.Calls.{readHeaderCall, readCall, findKeyCall, copyValueCall, samplesCall, writeCall, setKeyCall}
-use Rattle.format.specs.Room.{Enough, tableEntries, writeRoom, valueRoom, Copied, samplesRoom, setRoom}
+use Rattle.format.specs.Orientation.{originEntry, directionsEntry, frameEntry}
+use Rattle.format.specs.Room.{Enough, tableEntries, writeRoom, valueRoom, Copied, samplesRoom, setRoom, originRoom, directionsRoom, frameRoom}
 
 pub record RoomEnough : Type 0 where
   -- a reading's refusals end at 15, so that 22 is never one of them
@@ -23,3 +24,7 @@ pub record RoomEnough : Type 0 where
   pub write-enough : (version : ℕ) (sizes : List ℕ) (t e endian : ℕ) (zs : List ℤ) (out : List ℕ) → writeRoom (length zs) ≤ length out → Enough (writeCall version sizes t e endian zs out .0 .refusal)
   -- with such a table and buffer no setting is refused by 22
   pub set-enough : (buf : List ℕ) (used : ℕ) (table : List ℕ) (count : ℕ) (k v : List ℕ) → tableEntries ≤ length table → setRoom used k v ≤ length buf → Enough (setKeyCall buf used table count k v .0 .refusal)
+  -- the decimals of an origin, of all directions and of a measurement frame
+  pub origin-enough : (file list : List ℕ) → originRoom ≤ length list → Enough (originEntry file list .0 .refusal)
+  pub directions-enough : (file list : List ℕ) → directionsRoom ≤ length list → Enough (directionsEntry file list .0 .refusal)
+  pub frame-enough : (file list : List ℕ) → frameRoom ≤ length list → Enough (frameEntry file list .0 .refusal)

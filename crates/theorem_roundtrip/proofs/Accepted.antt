@@ -46,7 +46,7 @@ no-refusal false n m l h = (refl, h)
 
 module _ (version : ℕ) (sizes : List ℕ) (t e endian : ℕ) where
   -- what `writable` tests
-  writable-is : writable version sizes t e endian ≡ true → Writable version sizes t e endian
+  pub writable-is : writable version sizes t e endian ≡ true → Writable version sizes t e endian
   unfolding writable
   writable-is h =
       let known = between 1 maxVersion version in

@@ -21,11 +21,11 @@ use Rattle.format.proofs.Bytes.{and-left, and-right, same-true}
 
 -- ---- a test of every number below n
 
-unfoldable everyBelow : (ℕ → Bool) → ℕ → Bool
+unfoldable pub everyBelow : (ℕ → Bool) → ℕ → Bool
 everyBelow p zero = true
 everyBelow p (suc n) = p n && everyBelow p n
 
-every-below : (p : ℕ → Bool) (n : ℕ) → everyBelow p n ≡ true → (i : ℕ) → i < n → p i ≡ true
+pub every-below : (p : ℕ → Bool) (n : ℕ) → everyBelow p n ≡ true → (i : ℕ) → i < n → p i ≡ true
 unfolding everyBelow
 every-below p zero h i l = absurd (omega arith)
 every-below p (suc n) h i l = go (eqb i n) refl (λ k. every-below p n (and-right (p n) (everyBelow p n) h) i k)
@@ -51,6 +51,19 @@ pub record Text (d : List ℕ) : Type 0 where
   pub front : trimFront d ≡ d
   pub back : trimEnd d ≡ d
 
+-- that as a test
+abbrev pub textTest : List ℕ → Bool
+textTest w = every plain w && (same (trimFront w) w && same (trimEnd w) w)
+
+pub text-by-test : (w : List ℕ) → textTest w ≡ true → Text w
+text-by-test w h =
+    let c = and-right (every plain w) _ h in
+    record {
+      bytes-plain = and-left (every plain w) _ h;
+      front = same-true (trimFront w) w (and-left (same (trimFront w) w) _ c);
+      back = same-true (trimEnd w) w (and-right (same (trimFront w) w) _ c);
+    }
+
 -- the text w is a name of row i, and has at most 6 bytes
 pub record Named (rows : List (List String)) (w : List ℕ) (i : ℕ) : Type 0 where
   pub row : rowOf w rows ≡ some i
@@ -59,8 +72,7 @@ pub record Named (rows : List (List String)) (w : List ℕ) (i : ℕ) : Type 0 w
 
 -- that as a test
 abbrev nameTest : List (List String) → List ℕ → ℕ → Bool
-nameTest rows w i =
-    isNumber i (rowOf w rows) && (every plain w && (same (trimFront w) w && (same (trimEnd w) w && leb (length w) 6)))
+nameTest rows w i = isNumber i (rowOf w rows) && (textTest w && leb (length w) 6)
 
 -- where the test passes for every number below n, each of them has its name
 named : (rows : List (List String)) (name : ℕ → List ℕ) (n : ℕ) → everyBelow (λ i. nameTest rows (name i) i) n ≡ true
@@ -69,16 +81,10 @@ named rows name n h i l =
     let w : List ℕ = name i in
     let a = every-below (λ i. nameTest rows (name i) i) n h i l in
     let b = and-right (isNumber i (rowOf w rows)) _ a in
-    let c = and-right (every plain w) _ b in
-    let d = and-right (same (trimFront w) w) _ c in
     record {
       row = is-number i (rowOf w rows) (and-left (isNumber i (rowOf w rows)) _ a);
-      text = record {
-        bytes-plain = and-left (every plain w) _ b;
-        front = same-true (trimFront w) w (and-left (same (trimFront w) w) _ c);
-        back = same-true (trimEnd w) w (and-left (same (trimEnd w) w) _ d);
-      };
-      short = leb-true (length w) 6 (and-right (same (trimEnd w) w) _ d);
+      text = text-by-test w (and-left (textTest w) _ b);
+      short = leb-true (length w) 6 (and-right (textTest w) _ b);
     }
 
 -- the names that are written for types, encodings and endians

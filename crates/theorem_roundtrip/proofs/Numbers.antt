@@ -65,7 +65,7 @@ trim-back (b ∷ w) h =
     go [] q = rw q
     go (c ∷ w) q = refl
 
-trim-back-after : (a s : List ℕ) → 1 ≤ length s → trimEnd s ≡ s → trimEnd (a ++ s) ≡ a ++ s
+pub trim-back-after : (a s : List ℕ) → 1 ≤ length s → trimEnd s ≡ s → trimEnd (a ++ s) ≡ a ++ s
 unfolding trimEnd
 trim-back-after [] s n h = h
 trim-back-after (b ∷ a) s n h = rw (trim-back-after a s n h) (trim-byte b (a ++ s) (simp length-append (omega arith)))

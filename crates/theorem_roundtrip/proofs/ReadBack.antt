@@ -125,7 +125,7 @@ module _ (version : ℕ) (ns : List ℕ) (t e n : ℕ) (zs : List ℤ) (a : Acce
   reads-back =
       let m = fields-mean in
       record {
-        reading = rw (header-is, m .attached, m .dimension-is, m .type-is, m .encoding-is, m .endian-is, m .sizes-are, m .no-line-skip, m .no-byte-skip, head-length, head-lines, h);
+        reading = rw (header-is, m .attached, m .dimension-is, m .type-is, m .encoding-is, m .endian-is, m .sizes-are, m .no-line-skip, m .no-byte-skip, m .no-origin, m .no-directions, m .no-frame, m .no-size, m .no-space, head-length, head-lines, h);
         place = λ second. rw (header-is, place-is false second);
         part = λ second. rw (header-is, place-is false second) (part-is second);
         samples = λ second list l. rw (check-is second (length list) l, seen-is second);

@@ -16,9 +16,9 @@ use Rattle.format.specs.Bytes.{if_then_else_, bytes, every, isAny, alike, rowFr
 use Rattle.format.specs.Limits.{maxLines, maxAxes}
 use Rattle.format.specs.Lines.{Line, line, lf, lines, unlines}
 use Rattle.format.specs.Pairs.{plain, mark}
-use Rattle.format.specs.Fields.{Given, given, descriptorOf, isGiven, inOrder, fieldAt, fieldSince, isUnderstood, dimension, type, encoding, endian, sizes, lineSkip, byteSkip, dataFile}
+use Rattle.format.specs.Fields.{Given, given, descriptorOf, isGiven, isRepeated, inOrder, fieldAt, fieldSince, isUnderstood, dimension, type, encoding, endian, sizes, lineSkip, byteSkip, dataFile, space, spaceDimension, spaceOrigin, spaceDirections, measurementFrame}
 use Rattle.format.specs.Words.{numberIn, valueOfNumber, words}
-use Rattle.format.specs.Descriptors.{forward, endIsRaw, descriptor, sizesFine, mayDescribe, hasNeeded, types, typeAt, typeName, typeNames, encodings, endians, endianNeeded, noEndian, dimensionOf, typeOf, encodingOf, endianOf, sizesOf, lineSkipOf, byteSkipOf, isDetached, sampleBytes, namesFollow}
+use Rattle.format.specs.Descriptors.{forward, endIsRaw, descriptor, sizesFine, mayDescribe, hasNeeded, types, typeAt, typeName, typeNames, encodings, endians, endianNeeded, noEndian, dimensionOf, typeOf, encodingOf, endianOf, sizesOf, lineSkipOf, byteSkipOf, noSpace, spaceOf, spaceSizeOf, isDetached, sampleBytes, namesFollow}
 use Rattle.format.specs.Header.{field, closing, magic, Entry, entry, linesOf, right, onField, judge, accepted, header, headerLength}
 use Rattle.format.specs.Writer.{decimal, spaced, nameAt, fieldLine, headerLines, fileBytes, dataBytes}
 use Rattle.format.proofs.Lines.{Shape, lf-line, no-lf-of, ends-of, shape-of-lines, lines-of-parts}
@@ -26,7 +26,7 @@ use Rattle.format.proofs.Judged.{judge-by-text}
 use Rattle.format.proofs.Header.{Complete, Fine, header-fine}
 use Rattle.format.proofs.Writer.{number-of-decimal}
 use Rattle.theorem_roundtrip.proofs.Names.{Text, Named, type-named, encoding-named, endian-named, version-of-magic}
-use Rattle.theorem_roundtrip.proofs.Numbers.{decimal-plain, decimal-short, decimal-text, spaced-text, words-of-spaced, values-of-decimals, sizes-in, sizes-short}
+use Rattle.theorem_roundtrip.proofs.Numbers.{Sizes, decimal-plain, decimal-short, decimal-text, spaced-text, words-of-spaced, values-of-decimals, sizes-in, sizes-short}
 use Rattle.theorem_roundtrip.proofs.Accepted.{Accepted}
 
 -- ---- the entries of a written header, and its fields, the last one first
@@ -49,13 +49,13 @@ restEntries x ns t e n =
     ∷ fieldEntry "encoding" encoding (nameAt encodings e)
     ∷ lastEntries x n
 
-abbrev firstLine : ℕ → Line
+abbrev pub firstLine : ℕ → Line
 firstLine version = line (bytes "NRRD000" ++ decimal version) lf
 
 abbrev pub entriesOf : Bool → ℕ → List ℕ → ℕ → ℕ → ℕ → List Entry
 entriesOf x version ns t e n = entry (firstLine version) (magic version) ∷ restEntries x ns t e n
 
-abbrev firstFields : List ℕ → ℕ → ℕ → List Given
+abbrev pub firstFields : List ℕ → ℕ → ℕ → List Given
 firstFields ns t e =
     given encoding (nameAt encodings e)
     ∷ given sizes (spaced ns)
@@ -93,22 +93,27 @@ pub record Means (gs : List Given) (x : Bool) (ns : List ℕ) (t e n : ℕ) : Ty
   pub no-line-skip : lineSkipOf gs ≡ 0
   pub no-byte-skip : byteSkipOf gs ≡ forward 0
   pub attached : isDetached gs ≡ false
+  pub no-origin : isGiven spaceOrigin gs ≡ false
+  pub no-directions : isGiven spaceDirections gs ≡ false
+  pub no-frame : isGiven measurementFrame gs ≡ false
+  pub no-space : spaceOf gs ≡ noSpace
+  pub no-size : spaceSizeOf gs ≡ 0
 
 -- ---- one line of a field
 
 -- a line that begins with this name is judged as one of the field f, where no names follow
-abbrev NameOf : String → ℕ → Type 0
+abbrev pub NameOf : String → ℕ → Type 0
 NameOf name f = (version : ℕ) (gs : List Given) (d : List ℕ) → namesFollow gs ≡ false → every plain d ≡ true
     → judge version gs (bytes name ++ (bytes ": " ++ d)) ≡ onField version gs (some f) d
 
-record WrittenNames : Type 0 where
-  of-type : NameOf "type" type
-  of-dimension : NameOf "dimension" dimension
-  of-sizes : NameOf "sizes" sizes
-  of-encoding : NameOf "encoding" encoding
-  of-endian : NameOf "endian" endian
+pub record WrittenNames : Type 0 where
+  pub of-type : NameOf "type" type
+  pub of-dimension : NameOf "dimension" dimension
+  pub of-sizes : NameOf "sizes" sizes
+  pub of-encoding : NameOf "encoding" encoding
+  pub of-endian : NameOf "endian" endian
 
-names : WrittenNames
+pub names : WrittenNames
 unfolding every alike isAny rowFrom mark
 names =
     record {
@@ -121,7 +126,7 @@ names =
 
 -- the line of an understood field that every version has, that is new and in order, with a descriptor that it may have
 field-line : (version : ℕ) (gs : List Given) (name : String) (f : ℕ) (d : List ℕ) → 1 ≤ version → NameOf name f → Text d
-    → (isUnderstood f ≡ true) × (fieldSince f ≡ 1) × (isGiven f gs ≡ false) × (inOrder f gs ≡ true) × (namesFollow gs ≡ false) → mayDescribe (dimensionOf gs) f d ≡ true
+    → (isUnderstood f ≡ true) × (fieldSince f ≡ 1) × (isRepeated f gs ≡ false) × (inOrder f gs ≡ true) × (namesFollow gs ≡ false) → mayDescribe (dimensionOf gs) (spaceSizeOf gs) f d ≡ true
     → judge version gs (bytes name ++ (bytes ": " ++ d)) ≡ right (field f d)
 unfolding onField descriptor
 field-line version gs name f d v named text here may =
@@ -129,8 +134,16 @@ field-line version gs name f d v named text here may =
     ∙ rw (here .1, le-ltb version 1 v, here .2, here .3, here .0, text .front, text .back, may)
 
 -- a line of plain bytes, with its LF, before lines that keep the line rule
-plain-line : {ls : List Line} (s : List ℕ) → every plain s ≡ true → Shape ls → Shape (line s lf ∷ ls)
+pub plain-line : {ls : List Line} (s : List ℕ) → every plain s ≡ true → Shape ls → Shape (line s lf ∷ ls)
 plain-line s h rest = lf-line (no-lf-of plain refl s h) (ends-of plain refl s h) rest
+
+-- dimension and sizes may have their descriptors
+pub dimension-may : (ns : List ℕ) → 1 ≤ length ns → length ns ≤ maxAxes → numberIn 1 maxAxes (decimal (length ns)) ≡ true
+dimension-may ns l h = rw (number-of-decimal (length ns), le-leb 1 (length ns) l, le-leb (length ns) maxAxes h)
+
+pub sizes-may : (ns : List ℕ) → Sizes ns → sizesFine (valueOfNumber (decimal (length ns))) (words (spaced ns)) ≡ true
+sizes-may ns s =
+    rw (number-of-decimal (length ns), words-of-spaced ns, length-map ns decimal, eq-eqb (length ns) (length ns) refl) (sizes-in ns s)
 
 -- ---- the header of what the writer accepts
 
@@ -158,6 +171,11 @@ module _ (version : ℕ) (ns : List ℕ) (t e n : ℕ) (zs : List ℤ) (a : Acce
         no-line-skip = rw (other-field x n gs lineSkip refl);
         no-byte-skip = rw (other-field x n gs byteSkip refl);
         attached = rw (other-field x n gs dataFile refl);
+        no-origin = rw (other-field x n gs spaceOrigin refl);
+        no-directions = rw (other-field x n gs spaceDirections refl);
+        no-frame = rw (other-field x n gs measurementFrame refl);
+        no-space = rw (other-field x n gs space refl);
+        no-size = rw (other-field x n gs space refl, other-field x n gs spaceDimension refl);
       }
     where
       endian-given : (x : Bool) → endianOf (fieldsOf x ns t e n) ≡ (if x then n else noEndian)
@@ -173,26 +191,16 @@ module _ (version : ℕ) (ns : List ℕ) (t e n : ℕ) (zs : List ℤ) (a : Acce
       go true h = refl
       go false h = rw (means false .type-is, means false .encoding-is, h)
 
-  -- dimension and sizes may have their descriptors
-  dimension-may : numberIn 1 maxAxes (decimal (length ns)) ≡ true
-  dimension-may =
-      rw (number-of-decimal (length ns), le-leb 1 (length ns) (a .numbers .axes-from), le-leb (length ns) maxAxes (a .numbers .axes-to))
-
-  sizes-may : sizesFine (valueOfNumber (decimal (length ns))) (words (spaced ns)) ≡ true
-  sizes-may =
-      rw (number-of-decimal (length ns), words-of-spaced ns, length-map ns decimal, eq-eqb (length ns) (length ns) refl)
-      (sizes-in ns (a .sizes-in))
-
   -- each line is judged to be its item
   fine-entries : (x : Bool) → Complete (fieldsOf x ns t e n) → (r : List Line)
       → Fine version [] (restEntries x ns t e n) (fieldsOf x ns t e n) r
-  unfolding descriptorOf inOrder fieldAt mayDescribe namesFollow judge
+  unfolding descriptorOf isRepeated inOrder fieldAt mayDescribe namesFollow judge
   fine-entries x c r = (
     field-line version _ "type" type _ v (names .of-type) (of-type-name .text) (refl, refl, refl, refl, refl) (rw (of-type-name .row)),
     (
-      field-line version _ "dimension" dimension _ v (names .of-dimension) (decimal-text (length ns)) (refl, refl, refl, refl, refl) dimension-may,
+      field-line version _ "dimension" dimension _ v (names .of-dimension) (decimal-text (length ns)) (refl, refl, refl, refl, refl) (dimension-may ns (a .numbers .axes-from) (a .numbers .axes-to)),
       (
-        field-line version _ "sizes" sizes _ v (names .of-sizes) (spaced-text ns) (refl, refl, refl, refl, refl) sizes-may,
+        field-line version _ "sizes" sizes _ v (names .of-sizes) (spaced-text ns) (refl, refl, refl, refl, refl) (sizes-may ns (a .sizes-in)),
         (
           field-line version _ "encoding" encoding _ v (names .of-encoding) (of-encoding-name .text) (refl, refl, refl, refl, refl) (rw (of-encoding-name .row)),
           last x c,

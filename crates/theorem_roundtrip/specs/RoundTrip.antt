@@ -12,7 +12,7 @@ use Rattle.format.specs.declared.CountAnswer.{CountAnswer}
 use Rattle.format.specs.Bytes.{if_then_else_, over}
 use Rattle.format.specs.Limits.{maxAxes}
 use Rattle.format.specs.Refusals.{fine}
-use Rattle.format.specs.Descriptors.{endianNeeded, noEndian, sampleBytes, extent}
+use Rattle.format.specs.Descriptors.{endianNeeded, noEndian, noSpace, sampleBytes, extent}
 use Rattle.format.specs.Writer.{headerLines, dataBytes, headerBytes, fileBytes, writeRefusal}
 use Rattle.format.specs.Calls.{readHeaderCall, dataPlaceCall, dataCall, samplesCall}
 
@@ -35,6 +35,11 @@ readBack version sizes t e endian =
         length = length (headerBytes version sizes t e endian);
         lines = length (headerLines version sizes t e endian);
         fromend = false;
+        origin = false;
+        directions = false;
+        frame = false;
+        space = noSpace;
+        spacedimension = 0;
       };
     }
 

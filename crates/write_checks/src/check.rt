@@ -28,7 +28,7 @@ fn has_zero(ns: &[u64]) -> bool
 }
 
 // Whether version, type, encoding, endian and sizes can be written (refusal 11).
-fn is_writable(version: u64, sizes: &[u64], sampletype: u64, encoding: u64, endian: u64) -> bool
+pub fn is_writable(version: u64, sizes: &[u64], sampletype: u64, encoding: u64, endian: u64) -> bool
     ensures is { λ r. ⌜ r ≡ writable version (now (sizes .entry)) sampletype encoding endian ⌝ }
     ensures known { λ r. ⌜ (r ≡ true → Numbers version (now (sizes .entry)) sampletype encoding endian) ⌝ }
 {

@@ -104,7 +104,7 @@ module _ (version : ℕ) (sizes : List ℕ) (t e endian : ℕ) (zs : List ℤ) w
 
 -- ---- sizes that are lent as bytes: 17 of them are enough to refuse more than 16
 
-not-writable : (version : ℕ) (sizes : List ℕ) (t e endian : ℕ) → 16 < length sizes → writable version sizes t e endian ≡ false
+pub not-writable : (version : ℕ) (sizes : List ℕ) (t e endian : ℕ) → 16 < length sizes → writable version sizes t e endian ≡ false
 unfolding writable
 not-writable version sizes t e endian h =
     go (between 1 maxVersion version) (ltb t 10) (ltb e 3) (ltb endian 2) (leb 1 (length sizes)) (leb (length sizes) 16) (lt-leb (length sizes) 16 h)

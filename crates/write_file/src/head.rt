@@ -145,7 +145,7 @@ fn put_rest(
 }
 
 // The whole header.
-pub(crate) fn put_header(
+pub fn put_header(
     out: &mut [u8],
     version: u64,
     sizes: &[u64],

@@ -10,13 +10,13 @@ ghost use Rattle.format.specs.Room.{Enough, writeRoom};
 ghost use Rattle.write_checks.specs.Refused.{chosen};
 ghost use Rattle.write_file.specs.Stored.{answerOf};
 
-mod head;
+pub mod head;
 
 use format::WriteAnswer;
 use format_values::refusals;
 
 // An answer: the number of the refusal, or 0, and the length of the file.
-fn answer(number: u32, length: usize) -> WriteAnswer
+pub fn answer(number: u32, length: usize) -> WriteAnswer
     ensures { λ r. ⌜ r ≡ answerOf number length ⌝ }
 {
     WriteAnswer {

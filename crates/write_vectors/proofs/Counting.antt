@@ -10,7 +10,7 @@ use Rattle.format.specs.declared.Decimal.{Decimal}
 use Rattle.format.specs.Bytes.{bytes}
 use Rattle.format.specs.HeaderWriter.{vectorText, directionText}
 use Rattle.format.proofs.Stores.{take-more}
-use Rattle.write_vectors.specs.Stored.{isNone, untilNone, vectorOf, startsNone, directionOf}
+use Rattle.format.specs.HeaderWriter.{isNone, untilNone, vectorOf, startsNone, directionOf}
 use Rattle.write_vectors.proofs.Entries.{entry-next, entry-over}
 
 -- none of the first i of v is none

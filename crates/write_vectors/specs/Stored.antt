@@ -1,38 +1,11 @@
--- Internal to the library. What arrays of decimals stand for, and what the functions store, in the words of their contracts.
+-- Internal to the library. What the functions store, in the words of their contracts.
 use Prim.Native.Nat.{ℕ, _+_, _*_}
-use mathlib.Core.Bool.{Bool, false}
+use mathlib.Core.Bool.{Bool}
 use mathlib.Core.List.{List, [], _∷_}
 use lib.Dec.{eqb}
-use lib.ListN.{take}
-use Rattle.format.specs.declared.Decimal.{Decimal}
 use Rattle.format.specs.Bytes.{if_then_else_, bytes, MINUS}
-use Rattle.format.specs.Decimals.{nan, inf, minusInf, noDirection}
-use Rattle.format.specs.Vectors.{Direction, without, along}
+use Rattle.format.specs.Decimals.{nan, inf, minusInf}
 use Rattle.format.specs.Writer.{decimal}
-
--- ---- arrays
-
--- it stands for an axis without a direction
-abbrev pub isNone : Decimal → Bool
-isNone d = eqb (d .kind) noDirection
-
--- the decimals before the first that is none
-unfoldable pub untilNone : List Decimal → List Decimal
-untilNone [] = []
-untilNone (d ∷ ds) = if isNone d then [] else d ∷ untilNone ds
-
--- a vector in a space of n dimensions
-abbrev pub vectorOf : ℕ → List Decimal → List Decimal
-vectorOf n v = untilNone (take n v)
-
--- whether the first one is none
-abbrev pub startsNone : List Decimal → Bool
-startsNone [] = false
-startsNone (d ∷ ds) = isNone d
-
--- the direction of an axis. Whether there is one is said by the first of v, not of the first n: so no n has to be told apart. Where n is 1 or more, both are the same
-abbrev pub directionOf : ℕ → List Decimal → Direction
-directionOf n v = if startsNone v then without else along (vectorOf n v)
 
 -- ---- parts of texts
 

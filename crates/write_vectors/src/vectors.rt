@@ -7,7 +7,8 @@ ghost use lib.ListN.{length, take};
 ghost use lib.Seq.{sets};
 ghost use Rattle.format.specs.Bytes.{COMMA};
 ghost use Rattle.format.specs.HeaderWriter.{componentText, joined, vectorText, directionText, directionsText, frameText};
-ghost use Rattle.write_vectors.specs.Stored.{vectorOf, directionOf, gapText, componentsRoom, vectorRoom, directionsRoom, frameRoom};
+ghost use Rattle.format.specs.HeaderWriter.{vectorOf, directionOf};
+ghost use Rattle.write_vectors.specs.Stored.{gapText, componentsRoom, vectorRoom, directionsRoom, frameRoom};
 use crate::components;
 
 // How many components stand before the first that is none.

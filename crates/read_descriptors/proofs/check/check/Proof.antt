@@ -1,10 +1,12 @@
 -- `check::check` meets its contract: each arm's field is the one that it matched, and the last arm's is none of them. Assumes nothing.
-use mathlib.Core.Path.{_≡_}
+use mathlib.Core.Path.{_≡_, ap, _∙_}
+use mathlib.Core.List.{List}
 use native.Mathlib.Omega.{arith}
 use borrow.Author.Needs.{needs}
 use Rattle.format.specs.Fields.{dimension, type, encoding, endian, sizes, lineSkip, byteSkip, dataFile}
 use Rattle.format.specs.Descriptors.{typeNamed, encodingNamed, endianNamed, noEndian, mayDescribe}
-use Rattle.read_descriptors.proofs.Checking.{says-none, stay, any-taken}
+use Rattle.read_descriptors.proofs.Checking.{stay, other-checked}
+use Rattle.read_descriptors.specs.declared.check.Checked.{Checked}
 use Rattle.read_descriptors.proofs.check.check.Statement.{statement}
 use Rattle.read_descriptors.proofs.check.check.Tie as tie
 
@@ -41,51 +43,60 @@ check-byte-skip-requires c κs = search needs
 is-name-requires : tie.Need-is-name-requires
 is-name-requires c κs = search needs
 
+says-none-requires : tie.Need-says-none-requires
+says-none-requires c κs = search needs
+
+check-orientation-requires : tie.Need-check-orientation-requires
+check-orientation-requires c κs = search needs
+
 returns : tie.Need-returns
 unfolding mayDescribe
-returns c = let a = c .before .before .before .args in let e : a .f ≡ dimension = omega arith in rw e (stay (a .kept .now) (c .check-number .ensures))
+returns c m l = let a = c .before .before .before .args in let e : a .f ≡ dimension = omega arith in rw e (stay (a .kept .now) (c .check-number .ensures))
 
 returns-2 : tie.Need-returns-2
 unfolding mayDescribe
-returns-2 c =
+returns-2 c m l =
     let a = c .before .before .before .before .args in
     let e : a .f ≡ type = omega arith in
     rw e (stay (a .kept .now) (c .check-row .ensures (typeNamed (a .t .now)) 0 (c .before .type-named .ensures)))
 
 returns-3 : tie.Need-returns-3
 unfolding mayDescribe
-returns-3 c =
+returns-3 c m l =
     let a = c .before .before .before .before .args in
     let e : a .f ≡ encoding = omega arith in
     rw e (stay (a .kept .now) (c .check-row2 .ensures (encodingNamed (a .t .now)) 0 (c .before .encoding-named .ensures)))
 
 returns-4 : tie.Need-returns-4
 unfolding mayDescribe
-returns-4 c =
+returns-4 c m l =
     let a = c .before .before .before .before .args in
     let e : a .f ≡ endian = omega arith in
     rw e (stay (a .kept .now) (c .check-row3 .ensures (endianNamed (a .t .now)) noEndian (c .before .endian-named .ensures)))
 
 returns-5 : tie.Need-returns-5
-returns-5 c = let e : c .before .before .before .before .args .f ≡ sizes = omega arith in rw e (c .check-sizes .ensures)
+returns-5 c m l = let e : c .before .before .before .before .args .f ≡ sizes = omega arith in rw e (c .check-sizes .ensures (c .before .before .before .before .args .space))
 
 returns-6 : tie.Need-returns-6
 unfolding mayDescribe
-returns-6 c = let a = c .before .before .before .args in let e : a .f ≡ lineSkip = omega arith in rw e (stay (a .kept .now) (c .check-number2 .ensures))
+returns-6 c m l = let a = c .before .before .before .args in let e : a .f ≡ lineSkip = omega arith in rw e (stay (a .kept .now) (c .check-number2 .ensures))
 
 returns-7 : tie.Need-returns-7
 unfolding mayDescribe
-returns-7 c = let a = c .before .before .before .args in let e : a .f ≡ byteSkip = omega arith in rw e (stay (a .kept .now) (c .check-byte-skip .ensures))
+returns-7 c m l = let a = c .before .before .before .args in let e : a .f ≡ byteSkip = omega arith in rw e (stay (a .kept .now) (c .check-byte-skip .ensures))
 
 returns-8 : tie.Need-returns-8
 unfolding mayDescribe
-returns-8 c =
-    let a = c .before .before .before .args in
+returns-8 c m l =
+    let a = c .before .before .before .before .args in
     let e : a .f ≡ dataFile = omega arith in
-    rw (e, ← c .is-name .ensures) (stay (a .kept .now) (says-none (c .is-name .result)))
+    rw (e, ← c .before .is-name .ensures) (stay (a .kept .now) (c .says-none .ensures))
 
 returns-9 : tie.Need-returns-9
-returns-9 c = let a = c .before .before .args in any-taken (a .dimension) (a .f) (a .t .now) (a .kept .now) (c .match .rest)
+returns-9 c m l =
+    let a = c .before .before .before .args in
+    let h = c .before .match .rest in
+    ap (λ (x : Checked). (x, a .kept .now)) (c .check-orientation .ensures h m l) ∙ other-checked (a .dimension) (a .space) (a .f) (a .t .now) (a .kept .now) h
 
 pub check-spec : {M : Type 1} → statement M
 check-spec =
@@ -102,6 +113,8 @@ check-spec =
     check-number-requires-2
     check-byte-skip-requires
     is-name-requires
+    says-none-requires
+    check-orientation-requires
     returns
     returns-2
     returns-3

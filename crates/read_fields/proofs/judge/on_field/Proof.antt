@@ -14,7 +14,7 @@ use Rattle.format.specs.Fields.{fieldNamed}
 use Rattle.format.specs.Header.{onField}
 use Rattle.read_text.proofs.Rows.{row-is, row-unknown}
 use Rattle.read_fields.proofs.States.{field-below}
-use Rattle.read_fields.proofs.Judging.{without-field, to-end}
+use Rattle.read_fields.proofs.Judging.{without-field, to-end, rest-le}
 use Rattle.read_fields.proofs.judge.on_field.Statement.{statement}
 use Rattle.read_fields.proofs.judge.on_field.Tie as tie
 
@@ -37,7 +37,7 @@ without-field-requires : tie.Need-without-field-requires
 without-field-requires c κs = search needs
 
 returns : tie.Need-returns
-returns c gs h =
+returns c gs h l =
     let a = c .before .before .before .before .args in
     let e = sym (c .before .before .is-plain .ensures) ∙ not-true _ (c .before .if1 .taken) in
     without-field (a .sizes .now) (c .without-field .ensures) refl ∙ rw e
@@ -76,16 +76,16 @@ without-field-requires-2 : tie.Need-without-field-requires-2
 without-field-requires-2 c κs = search needs
 
 returns-2 : tie.Need-returns-2
-returns-2 c gs h =
+returns-2 c gs h l =
     let r = c .before .before .before .before in
     let p = plainly (r .before .before .before .before) in
     let a = r .before .before .before .before .before .before .before .args in
     let e = known r in
-    c .on-known .ensures gs h ∙ rw (p, e, to-end (a .t .now))
+    c .on-known .ensures gs h (rest-le (a .t .now) _ l) ∙ rw (p, e, to-end (a .t .now))
 
 returns-3 : tie.Need-returns-3
 unfolding onField
-returns-3 c gs h =
+returns-3 c gs h l =
     let p = plainly (c .before .before .before .before .before) in
     let e = unknown (c .before) in
     without-field (c .before .before .before .before .before .before .before .before .args .sizes .now) (c .without-field2 .ensures) refl ∙ rw (p, e)

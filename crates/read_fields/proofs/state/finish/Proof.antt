@@ -87,18 +87,35 @@ element-copy-out-wide-2 c = search needs
 wide-requires-2 : tie.Need-wide-requires-2
 wide-requires-2 c κs = search needs
 
+element-copy-out-space : tie.Need-element-copy-out-space
+element-copy-out-space c = search needs
+
+space-size-requires : tie.Need-space-size-requires
+space-size-requires c κs = search needs
+
+element-copy-out-origin : tie.Need-element-copy-out-origin
+element-copy-out-origin c = search needs
+
+element-copy-out-directions : tie.Need-element-copy-out-directions
+element-copy-out-directions c = search needs
+
+element-copy-out-frame : tie.Need-element-copy-out-frame
+element-copy-out-frame c = search needs
+
 returns-4 : tie.Need-returns-4
 returns-4 c gs h =
-    let a = c .before .before .before .before .before .before .before .before .before .before .before .before .before .before .before .args in
-    let n = c .before .before .before .before .before .before .before .before .before .before .before .before .before .before .has-needed in
-    let f = c .before .before .before .before .before .before .before .before .before .before .before .end-is-raw in
-    let x = c .before .before .before .before .before .before .before .extent .result in
-    let e = sym (n .ensures gs (h .marks-are) (h .numbers-are)) ∙ not-false (n .result) (c .before .before .before .before .before .before .before .before .before .before .before .before .before .if1 .left) in
-    let s = sym (f .ensures ∙ fits-is h) ∙ not-false (f .result) (c .before .before .before .before .before .before .before .before .before .before .if2 .left) in
-    let m = c .before .before .before .before .before .before .before .extent .ensures (axes-at h) ∙ ap capped (extent-is h (needs-sizes gs e)) in
+    let w = c .before .before .before .before .before in
+    let a = w .before .before .before .before .before .before .before .before .before .before .before .before .before .before .before .args in
+    let n = w .before .before .before .before .before .before .before .before .before .before .before .before .before .before .has-needed in
+    let f = w .before .before .before .before .before .before .before .before .before .before .before .end-is-raw in
+    let x = w .before .before .before .before .before .before .before .extent .result in
+    let e = sym (n .ensures gs (h .marks-are) (h .numbers-are)) ∙ not-false (n .result) (w .before .before .before .before .before .before .before .before .before .before .before .before .before .if1 .left) in
+    let s = sym (f .ensures ∙ fits-is h) ∙ not-false (f .result) (w .before .before .before .before .before .before .before .before .before .before .if2 .left) in
+    let m = w .before .before .before .before .before .before .before .extent .ensures (axes-at h) ∙ ap capped (extent-is h (needs-sizes gs e)) in
     let l : extentOf gs ≤ maxExtent = omega arith in
     let k : x ≡ extentOf gs = omega arith in
-    ap (λ (r : Reading). record { refusal = fine; reading = r }) (reading-is h (a .version) (a .bytes) (a .count) (c .before .before .wide .ensures) (c .wide2 .ensures) k)
+    let z = c .before .before .before .space-size .ensures gs (h .marks-are) (h .numbers-are) in
+    ap (λ (r : Reading). record { refusal = fine; reading = r }) (reading-is h (a .version) (a .bytes) (a .count) (w .before .before .wide .ensures) (w .wide2 .ensures) k z)
     ∙ sym (finished-fine (a .version) gs (a .bytes) (a .count) e s l)
 
 pub finish-spec : {M : Type 1} → statement M
@@ -124,4 +141,9 @@ finish-spec =
     wide-requires
     element-copy-out-wide-2
     wide-requires-2
+    element-copy-out-space
+    space-size-requires
+    element-copy-out-origin
+    element-copy-out-directions
+    element-copy-out-frame
     returns-4)

@@ -56,17 +56,14 @@ refuse-requires-2 c κs = search needs
 returns-2 : tie.Need-returns-2 Inv-loop μ-loop
 returns-2 c = c .refuse2 .ensures ∙ going-many (c .before .before .before .before .before .before .before .loop .inv) (lined (c .before .before)) (c .before .if1 .taken)
 
-array-read-dimension : tie.Need-array-read-dimension Inv-loop μ-loop
-array-read-dimension c = search needs
-
 sub-judge-line : tie.Need-sub-judge-line Inv-loop μ-loop
-sub-judge-line c = lined (c .before .before) .from
+sub-judge-line c = lined (c .before .before .before) .from
 
 part-judge-line-start : tie.Need-part-judge-line-start Inv-loop μ-loop
-part-judge-line-start c = lined (c .before .before) .from
+part-judge-line-start c = lined (c .before .before .before) .from
 
 part-judge-line-end : tie.Need-part-judge-line-end Inv-loop μ-loop
-part-judge-line-end c = omega (arith, lined (c .before .before))
+part-judge-line-end c = omega (arith, lined (c .before .before .before))
 
 judge-line-requires : tie.Need-judge-line-requires Inv-loop μ-loop
 judge-line-requires c κs = search needs
@@ -75,16 +72,16 @@ refuse-requires-3 : tie.Need-refuse-requires-3 Inv-loop μ-loop
 refuse-requires-3 c κs = search needs
 
 returns-3 : tie.Need-returns-3 Inv-loop μ-loop
-returns-3 c = c .refuse3 .ensures ∙ going-wrong (c .before .before .before .before .before .before .before .before .before .before .before .before .before .loop .inv) (lined (c .before .before .before .before .before .before .before .before)) (c .before .before .before .before .before .before .before .if1 .left) (c .before .before .before .judge-line .ensures) (c .before .if2 .taken)
+returns-3 c = c .refuse3 .ensures ∙ going-wrong (c .before .before .before .before .before .before .before .before .before .before .before .before .before .before .loop .inv) (lined (c .before .before .before .before .before .before .before .before .before)) (c .before .before .before .before .before .before .before .before .if1 .left) (c .before .before .before .judge-line .ensures) (c .before .if2 .taken)
 
 finish-requires : tie.Need-finish-requires Inv-loop μ-loop
 finish-requires c κs = search needs
 
 returns-4 : tie.Need-returns-4 Inv-loop μ-loop
 returns-4 c =
-    let g = c .before .before .before .before .before .before .before .before .before .before .before .before .before .before .before .before .loop .inv in
-    let l = lined (c .before .before .before .before .before .before .before .before .before .before .before) in
-    let few = c .before .before .before .before .before .before .before .before .before .before .if1 .left in
+    let g = c .before .before .before .before .before .before .before .before .before .before .before .before .before .before .before .before .before .loop .inv in
+    let l = lined (c .before .before .before .before .before .before .before .before .before .before .before .before) in
+    let few = c .before .before .before .before .before .before .before .before .before .before .before .if1 .left in
     let is = c .before .before .before .before .before .before .judge-line .ensures in
     let fine = c .before .before .before .before .if2 .left in
     let shut = c .before .before .before .if3 .taken in
@@ -97,11 +94,11 @@ add-n : tie.Need-add-n Inv-loop μ-loop
 add-n c = search needs
 
 loop-less : tie.Need-loop-less Inv-loop μ-loop
-loop-less c = omega (arith, lined (c .before .before .before .before .before .before .before .before .before .before .before .before))
+loop-less c = omega (arith, lined (c .before .before .before .before .before .before .before .before .before .before .before .before .before))
 
 loop-again : tie.Need-loop-again Inv-loop μ-loop
 loop-again c =
-    going-next (c .before .before .before .before .before .before .before .before .before .before .before .before .before .before .before .before .before .loop .inv) (lined (c .before .before .before .before .before .before .before .before .before .before .before .before)) (c .before .before .before .before .before .before .before .before .before .before .before .if1 .left) (c .before .before .before .before .before .before .before .judge-line .ensures) (c .before .before .before .before .before .if2 .left) (c .before .before .before .before .if3 .left) (c .before .keep .ensures .0) (c .before .keep .ensures .1)
+    going-next (c .before .before .before .before .before .before .before .before .before .before .before .before .before .before .before .before .before .before .loop .inv) (lined (c .before .before .before .before .before .before .before .before .before .before .before .before .before)) (c .before .before .before .before .before .before .before .before .before .before .before .before .if1 .left) (c .before .before .before .before .before .before .before .judge-line .ensures) (c .before .before .before .before .before .if2 .left) (c .before .before .before .before .if3 .left) (c .before .keep .ensures .0) (c .before .keep .ensures .1)
 
 array-read-if4 : tie.Need-array-read-if4 Inv-loop μ-loop
 array-read-if4 c = search needs
@@ -140,7 +137,6 @@ read-lines-spec =
     enum-known-text-end
     refuse-requires-2
     returns-2
-    array-read-dimension
     sub-judge-line
     part-judge-line-start
     part-judge-line-end

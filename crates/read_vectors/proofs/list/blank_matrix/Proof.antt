@@ -5,7 +5,7 @@ use mathlib.Core.Path.{ap}
 use mathlib.Core.List.{List}
 use lib.ListN.{replicate}
 use Rattle.format.specs.declared.Decimal.{Decimal}
-use Rattle.read_vectors.specs.Columns.{eight}
+use Rattle.format.specs.Columns.{eight}
 use Rattle.read_vectors.proofs.list.blank_matrix.Statement.{statement}
 use Rattle.read_vectors.proofs.list.blank_matrix.Tie as tie
 

@@ -1,7 +1,7 @@
 -- `vector::blank_column` meets its contract.
 -- Assumes nothing.
 use mathlib.Core.Path.{refl}
-use Rattle.read_vectors.specs.Columns.{eight}
+use Rattle.format.specs.Columns.{eight}
 use Rattle.read_vectors.proofs.vector.blank_column.Statement.{statement}
 use Rattle.read_vectors.proofs.vector.blank_column.Tie as tie
 

@@ -1,7 +1,7 @@
 -- `vector::no_direction` meets its contract.
 -- Assumes nothing.
 use borrow.Author.Needs.{needs}
-use Rattle.read_vectors.specs.Columns.{eight}
+use Rattle.format.specs.Columns.{eight}
 use Rattle.read_vectors.proofs.vector.no_direction.Statement.{statement}
 use Rattle.read_vectors.proofs.vector.no_direction.Tie as tie
 

@@ -8,7 +8,7 @@ use denote.Ref.{now}
 use lib.ListN.{length}
 use Rattle.format.specs.Bytes.{SPACE}
 use Rattle.format.specs.HeaderWriter.{directionText}
-use Rattle.write_vectors.specs.Stored.{directionOf}
+use Rattle.format.specs.HeaderWriter.{directionOf}
 use Rattle.write_vectors.proofs.Joining.{Joining, joining-none, joining-more, joining-done-of}
 use Rattle.write_vectors.proofs.vectors.put_directions.Statement.{statement}
 use Rattle.write_vectors.proofs.vectors.put_directions.Tie as tie

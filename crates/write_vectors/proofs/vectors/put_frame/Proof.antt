@@ -8,7 +8,7 @@ use denote.Ref.{now}
 use lib.ListN.{length}
 use Rattle.format.specs.Bytes.{SPACE}
 use Rattle.format.specs.HeaderWriter.{vectorText}
-use Rattle.write_vectors.specs.Stored.{vectorOf}
+use Rattle.format.specs.HeaderWriter.{vectorOf}
 use Rattle.write_vectors.proofs.Joining.{Joining, joining-none, joining-more, joining-done-of}
 use Rattle.write_vectors.proofs.vectors.put_frame.Statement.{statement}
 use Rattle.write_vectors.proofs.vectors.put_frame.Tie as tie

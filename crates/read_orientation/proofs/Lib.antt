@@ -1,0 +1,4 @@
+pub mod SaidLaws
+pub mod StoreLaws
+pub mod PlaceLaws
+pub mod CallLaws

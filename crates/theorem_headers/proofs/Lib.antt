@@ -1,0 +1,10 @@
+pub mod Lined
+pub mod Texts
+pub mod Givens
+pub mod Told
+pub mod Meant
+pub mod Short
+pub mod Fitting
+pub mod Taken
+pub mod Built
+pub mod HeadersBack

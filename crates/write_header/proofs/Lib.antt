@@ -1,0 +1,4 @@
+pub mod TextLaws
+pub mod AskedLaws
+pub mod LentLaws
+pub mod Filling
