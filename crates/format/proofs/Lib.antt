@@ -14,7 +14,7 @@ pub mod Boundary
 pub mod Writer
 pub mod Descriptors
 pub mod Found
-pub mod Oriented
 pub mod Trials
+pub mod Oriented
 pub mod AtLimits
 pub mod Believable

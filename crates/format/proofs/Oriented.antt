@@ -20,7 +20,7 @@ use Rattle.format.specs.Spaces.{Space, spaceRow, spaces, spaceCount, max
 use Rattle.format.specs.Descriptors.{fromDescriptor, descriptor, meaning, noSpace, numberSaid, mayDescribe, dimensionOf, spaceSizeOf}
 use Rattle.format.specs.Header.{Entry, entry, linesOf, accepted, header, afterItem, headerLength}
 use Rattle.format.specs.Rules.{FieldLine}
-use Rattle.format.proofs.Bytes.{and-left, and-right}
+use Rattle.format.proofs.Bytes.{and-left, and-right, neither}
 use Rattle.format.proofs.Lines.{length-unlines-cons}
 use Rattle.format.proofs.Judged.{after-cases}
 use Rattle.format.proofs.Descriptors.{drop-to-descriptor, take-trimmed}
@@ -156,7 +156,7 @@ module _ (version : ℕ) (gs : List Given) {u : List ℕ} (f : ℕ) (d : List �
       go false e = refl
 
   space-new : (g : ℕ) → g ≡ f → (isGiven g gs || isGiven (otherField g) gs) ≡ false
-  space-new g e = rw (e, w .new, w .other-new)
+  space-new g e = rw e (neither (isGiven f gs) (isGiven (otherField f) gs) (w .new) (w .other-new))
 
   space-stays : (isGiven space gs || isGiven spaceDimension gs) ≡ true → spaceSizeOf (given f d ∷ gs) ≡ spaceSizeOf gs
   unfolding descriptorOf
