@@ -4,6 +4,7 @@
 # make inputs     makes the input of the programs that the gate runs, and what they must print
 # make peers      lets teem-unu, where it is installed, read files that we write
 # make install    header, archive and pkg-config file under PREFIX
+# make size       the bytes of the archive's code and read-only data, by crate
 # make bench      times the calls beside plain C, and beside libteem where it is installed; RUNS=5: the median of five runs; ONLY=hex: these tables
 
 PREFIX  ?= /usr/local
@@ -23,7 +24,7 @@ STRICT  = -std=c99 -Wall -Wextra -pedantic -Werror
 SANITIZE = -O1 -g -fsanitize=address,undefined -fno-sanitize-recover=all
 SOURCES = crates.txt $(shell find crates -name '*.rt' -o -name '*.antt')
 
-.PHONY: all list check inputs peers teem-unu install uninstall bench clean
+.PHONY: all list check inputs peers teem-unu install uninstall size bench clean
 all: $(ARCHIVE)
 
 $(ARCHIVE): $(SOURCES)
@@ -131,6 +132,11 @@ install: $(ARCHIVE)
 uninstall:
 	rm -f $(DESTDIR)$(PREFIX)/include/craneholt.h $(DESTDIR)$(LIBDIR)/libcraneholt.a
 	rm -f $(DESTDIR)$(LIBDIR)/pkgconfig/craneholt.pc
+
+# ---- Size
+
+size: $(ARCHIVE)
+	@sh tools/size.sh $(ARCHIVE)
 
 # ---- Benchmark
 

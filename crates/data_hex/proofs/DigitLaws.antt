@@ -11,46 +11,33 @@ use lib.Dec.{leb}
 use lib.ListN.{length, drop, getD, drop-of-length-le}
 use lib.Seq.{drop-cons, drop-drop}
 use borrow.Author.Tests.{leb-true, leb-false, lt-leb, ne-eqb}
-use Rattle.format.specs.Bytes.{if_then_else_, between, isSome}
+use Rattle.format.specs.Bytes.{if_then_else_, between, isSome, orDefault}
 use Rattle.format.specs.Refusals.{badSample, dataEndsEarly}
 use Rattle.format.specs.Samples.{hexDigit, blank, withoutBlanks}
 use Rattle.format.proofs.Bytes.{and-left, and-right}
-use Rattle.data_hex.specs.Forms.{digitsAt, digitsRefusal, Passed, Reached, Scanned, digitOr, digitValue, oneIf}
+use Rattle.data_hex.specs.Forms.{digitsAt, digitsRefusal, Passed, Reached, Scanned, digitValue, oneIf}
 
 -- ---- digits
 
 upper : (a z b : ℕ) → between a z b ≡ true → b ≤ z
 upper a z b e = leb-true b z (and-right (leb a b) (leb b z) e)
 
-lower : (a z b : ℕ) → between a z b ≡ true → a ≤ b
-lower a z b e = leb-true a b (and-left (leb a b) (leb b z) e)
-
 low-none : (b : ℕ) → b < 48 → hexDigit b ≡ none
 unfolding hexDigit
 low-none b h = rw (lt-leb 48 b h, lt-leb 97 b (omega arith), lt-leb 65 b (omega arith))
 
 module _ (b : ℕ) where
-  pub is-digit-is : (between 48 57 b || (between 97 102 b || between 65 70 b)) ≡ isSome (hexDigit b)
-  unfolding hexDigit
-  is-digit-is = go (between 48 57 b) (between 97 102 b) (between 65 70 b)
-    where
-      go : (p q r : Bool) → (p || (q || r)) ≡ isSome (if p then some (b - 48) else if q then some (b - 97 + 10) else if r then some (b - 65 + 10) else none)
-      go true q r = refl
-      go false true r = refl
-      go false false true = refl
-      go false false false = refl
-
-  -- the value of a digit, and that it is at most 15
-  pub digit-value : isSome (hexDigit b) ≡ true → (digitValue b ≡ digitOr (hexDigit b)) × (digitValue b ≤ 15)
+  -- the value of a digit is at most 15
+  pub digit-value : isSome (hexDigit b) ≡ true → digitValue b ≤ 15
   unfolding hexDigit
   digit-value = go (between 48 57 b) (between 97 102 b) (between 65 70 b) refl refl refl
     where
       go : (p q r : Bool) → between 48 57 b ≡ p → between 97 102 b ≡ q → between 65 70 b ≡ r
           → isSome (if p then some (b - 48) else if q then some (b - 97 + 10) else if r then some (b - 65 + 10) else none) ≡ true
-          → (digitValue b ≡ digitOr (if p then some (b - 48) else if q then some (b - 97 + 10) else if r then some (b - 65 + 10) else none)) × (digitValue b ≤ 15)
-      go true q r e f g h = (omega (arith, lower 48 57 b e, upper 48 57 b e), omega (arith, lower 48 57 b e, upper 48 57 b e))
-      go false true r e f g h = (omega (arith, lower 97 102 b f, upper 97 102 b f), omega (arith, lower 97 102 b f, upper 97 102 b f))
-      go false false true e f g h = (omega (arith, lower 65 70 b g, upper 65 70 b g), omega (arith, lower 65 70 b g, upper 65 70 b g))
+          → orDefault 255 (if p then some (b - 48) else if q then some (b - 97 + 10) else if r then some (b - 65 + 10) else none) ≤ 15
+      go true q r e f g h = omega (arith, upper 48 57 b e)
+      go false true r e f g h = omega (arith, upper 97 102 b f)
+      go false false true e f g h = omega (arith, upper 65 70 b g)
       go false false false e f g h = absurd (false≢true h)
 
   pub digit-high : isSome (hexDigit b) ≡ true → 47 < b

@@ -2,4 +2,5 @@ pub mod BlockLaws
 pub mod DigitLaws
 pub mod JoinLaws
 pub mod LoopLaws
+pub mod RunLaws
 pub mod SampleLaws

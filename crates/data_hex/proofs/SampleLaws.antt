@@ -12,11 +12,11 @@ use borrow.Author.Tests.{eqb-true, eqb-false, ne-eqb, ltb-true, ltb-false}
 use lib.IntN.{ℤ}
 use lib.ListN.{length, take, drop, length-map}
 use lib.Seq.{drop-drop}
-use Rattle.format.specs.Bytes.{if_then_else_, isSome}
+use Rattle.format.specs.Bytes.{if_then_else_, isSome, orDefault}
 use Rattle.format.specs.Refusals.{badSample, dataEndsEarly}
 use Rattle.format.specs.Descriptors.{NumberKind, signed, unsigned}
 use Rattle.format.specs.Samples.{noHex, hexRun, withHexByte, hexAlone, hexPair, hexBytes, hexDigit, blank, withoutBlanks, inType, sampleValue, hexSample, hexSamples, rawSamples, withSample, stopped, Decoded}
-use Rattle.data_hex.specs.Forms.{digitsRefusal, digitOr, digitValue, pairsOf, bytesOf, Scanned, samplesAt}
+use Rattle.data_hex.specs.Forms.{digitsRefusal, digitValue, pairsOf, bytesOf, Scanned, samplesAt}
 use Rattle.lent_numbers.specs.Widths.{Width}
 use Rattle.data_hex.specs.declared.scan.Count.{Count}
 use Rattle.data_hex.proofs.DigitLaws.{not-refused, digit-value, refusal-add, refusal-first, refusal-after, refusal-last, refusal-length}
@@ -27,7 +27,7 @@ use Rattle.data_hex.proofs.JoinLaws.{joined, then-joined}
 
 -- ---- the bytes of one sample
 
-digit-some : (o : Option ℕ) → isSome o ≡ true → o ≡ some (digitOr o)
+digit-some : (o : Option ℕ) → isSome o ≡ true → o ≡ some (orDefault 255 o)
 digit-some none e = absurd (false≢true e)
 digit-some (some v) e = refl
 
@@ -46,7 +46,7 @@ run-bytes (suc w) (b ∷ c ∷ s) e =
     let q = not-refused (isSome (hexDigit c)) (digitsRefusal (2 * w) s) (p .1) in
     let h = digit-value b (p .0) in
     let l = digit-value c (q .0) in
-    let v : (digitValue b * 16 + digitValue c) % 256 ≡ 16 * digitOr (hexDigit b) + digitOr (hexDigit c) = omega arith in
+    let v : (digitValue b * 16 + digitValue c) % 256 ≡ 16 * digitValue b + digitValue c = omega arith in
     rw (two-more w, run-bytes w s (q .1), v, digit-some (hexDigit b) (p .0), digit-some (hexDigit c) (q .0))
 
 -- and where not, none

@@ -3,13 +3,12 @@ use Prim.Native.Nat.{ℕ, zero, suc, _+_, _*_, _/_, _%_, _≤_, _<_}
 use mathlib.Core.Path.{_≡_}
 use mathlib.Core.Bool.{Bool, true, false}
 use mathlib.Core.List.{List, [], _∷_, _++_, map}
-use mathlib.Core.Option.{Option, none, some}
-use lib.Dec.{eqb}
+use lib.Dec.{eqb, leb}
 use lib.ListN.{length, take, drop, getD}
-use Rattle.format.specs.Bytes.{if_then_else_, isSome}
+use Rattle.format.specs.Bytes.{if_then_else_, isSome, orDefault}
 use Rattle.format.specs.Descriptors.{NumberKind}
 use Rattle.format.specs.Refusals.{badSample, dataEndsEarly}
-use Rattle.format.specs.Samples.{Decoded, rawSamples, hexDigit, blank, withoutBlanks}
+use Rattle.format.specs.Samples.{Decoded, rawSamples, hexDigit, withoutBlanks}
 use Rattle.data_hex.specs.declared.scan.Count.{Count}
 
 -- the digits from a place on
@@ -60,22 +59,17 @@ oneIf false = 0
 abbrev pub Run : List ℕ → ℕ → ℕ → Type 0
 Run s at n = (i : ℕ) → i < n → 32 < getD s (at + i) 0
 
--- of n bytes from a place on each third one is a blank, and no other
+-- of n bytes from a place on each third one is at most 32, and no other
 abbrev pub Spaced : List ℕ → ℕ → ℕ → Type 0
-Spaced s at n = (i : ℕ) → i < n → blank (getD s (at + i) 0) ≡ eqb (i % 3) 2
+Spaced s at n = (i : ℕ) → i < n → leb (getD s (at + i) 0) 32 ≡ eqb (i % 3) 2
 
 -- the list d up to e, after the list c up to o: what was added are the digits between two places
 abbrev pub Moved : List ℕ → ℕ → ℕ → List ℕ → ℕ → List ℕ → ℕ → Type 0
 Moved s at next c o d e = take e d ++ digitsAt s next ≡ take o c ++ digitsAt s at
 
--- the value of a digit
-abbrev pub digitValue : ℕ → ℕ
-digitValue b = b % 16 + 9 * (b / 64)
-
 -- the value of a digit, or 255
-abbrev pub digitOr : Option ℕ → ℕ
-digitOr none = 255
-digitOr (some v) = v
+abbrev pub digitValue : ℕ → ℕ
+digitValue b = orDefault 255 (hexDigit b)
 
 -- two values as one number
 pub record Pair (h l x : ℕ) : Type 0 where

@@ -2,11 +2,12 @@
 // Loops over a fixed count have no branches, so that the compiler makes vector code of them.
 ghost use mathlib.Core.Path.{_≡_};
 ghost use mathlib.Core.Bool.{true};
-ghost use mathlib.Core.List.{map};
+ghost use mathlib.Core.List.{_++_, map};
 ghost use Prim.Native.Nat.{_+_, _*_, _-_, _/_, _%_, _≤_, _<_, min};
-ghost use lib.ListN.{length, getD, set};
+ghost use lib.ListN.{length, take, drop, getD, set};
+ghost use Rattle.format.specs.Samples.{blank};
 ghost use Rattle.data_hex.specs.Forms.{digitsAt, digitsRefusal, digitValue, pairsOf, Run, Spaced, Moved, Pair, Enough, Taken};
-use crate::digits;
+use crate::blanks;
 
 // Whether the 32 bytes from a place on are above the blanks.
 fn no_blanks(s: &[u8], at: usize) -> bool
@@ -33,7 +34,7 @@ fn is_run(s: &[u8], at: usize, room: usize) -> bool
     false
 }
 
-// 32 digits with no blank between them.
+// 32 digits with no blank between them, 8 at a time. The compiler makes one load and one store of each turn.
 fn copy(s: &[u8], at: usize, d: &mut [u8], o: usize)
     requires { ⌜ at + 32 ≤ length (now s) ⌝ }
     requires { ⌜ o + 32 ≤ length (now d) ⌝ }
@@ -41,13 +42,14 @@ fn copy(s: &[u8], at: usize, d: &mut [u8], o: usize)
     ensures { λ _. ⌜ Moved (now (s .entry)) at (at + 32) (now (d .entry)) o (now (d .exit)) (o + 32) ⌝ }
 {
     let mut j: usize = 0;
-    while j < 32 {
-        d[o + j] = s[at + j];
+    while j < 4 {
+        lent_numbers::store8(d, o + 8 * j, lent_numbers::load8(s, at + 8 * j));
         j += 1;
     }
 }
 
-// Whether the 48 bytes from a place on are two that are no blanks and a blank, 16 times.
+// Whether the 48 bytes from a place on are two above 32 and one of at most 32, 16 times.
+// The shorter test is enough where the next wanted byte that is no blank is a digit: a byte of at most 32 before it is a blank.
 fn blanks_third(s: &[u8], at: usize) -> bool
     requires { ⌜ at + 48 ≤ length (now s) ⌝ }
     ensures { λ r. ⌜ (r ≡ true → Spaced (now (s .entry)) at 48) ⌝ }
@@ -55,20 +57,21 @@ fn blanks_third(s: &[u8], at: usize) -> bool
     let mut fine = true;
     let mut j: usize = 0;
     while j < 48 {
-        fine = fine & (digits::is_blank(s[at + j]) == (j % 3 == 2));
+        fine = fine & ((s[at + j] <= 32) == (j % 3 == 2));
         j += 1;
     }
     fine
 }
 
-// Whether 16 pairs of digits with a blank after each are next, and as many digits may be stored.
+// Whether 16 pairs of bytes above the blanks, with a blank after each, are next, and as many digits may be stored.
+// The byte after the last pair is tested exactly, since no wanted digit needs to follow it.
 fn is_spaced(s: &[u8], at: usize, room: usize) -> bool
     requires { ⌜ at ≤ length (now s) ⌝ }
-    ensures { λ r. ⌜ (r ≡ true → (at + 48 ≤ length (now (s .entry))) × ((32 ≤ room) × Spaced (now (s .entry)) at 48)) ⌝ }
+    ensures { λ r. ⌜ (r ≡ true → (at + 48 ≤ length (now (s .entry))) × ((32 ≤ room) × (Spaced (now (s .entry)) at 48 × (blank (getD (now (s .entry)) (at + 47) 0) ≡ true)))) ⌝ }
 {
     if (48 <= s.len() - at) & (32 <= room) {
         // other shapes of data mostly end here
-        if digits::is_blank(s[at + 2]) {
+        if blanks::is_blank(s[at + 47]) {
             return blanks_third(s, at);
         }
     }
@@ -89,7 +92,8 @@ fn copy_pairs(s: &[u8], at: usize, d: &mut [u8], o: usize)
     requires { ⌜ at + 48 ≤ length (now s) ⌝ }
     requires { ⌜ o + 32 ≤ length (now d) ⌝ }
     requires { ⌜ Spaced (now s) at 48 ⌝ }
-    ensures { λ _. ⌜ Moved (now (s .entry)) at (at + 48) (now (d .entry)) o (now (d .exit)) (o + 32) ⌝ }
+    requires { ⌜ blank (getD (now s) (at + 47) 0) ≡ true ⌝ }
+    ensures { λ _. ⌜ (digitsRefusal 32 (digitsAt (now (s .entry)) at) ≡ 0 → Moved (now (s .entry)) at (at + 48) (now (d .entry)) o (now (d .exit)) (o + 32)) ⌝ }
 {
     let mut j: usize = 0;
     while j < 16 {
@@ -111,7 +115,7 @@ fn squeeze(s: &[u8], at: usize, c: usize, d: &mut [u8], o: usize) -> usize
     while j < c {
         let b = s[at + j];
         d[e] = b;
-        e += digits::one_if(32 < b) as usize;
+        e += blanks::one_if(32 < b) as usize;
         j += 1;
     }
     e
@@ -130,7 +134,7 @@ struct Place {
     end: usize,
 }
 
-// Some of the m digits that are wanted: a run of 32, none for a blank, 16 pairs, or those of up to 25 bytes.
+// Some of the m digits that are wanted: 16 pairs, a run of 32, none for a blank, or those of up to 25 bytes.
 // Where pairs start one or two bytes later, 25 bytes more lead to a blank or to the start of a pair, since 25 is no multiple of 3.
 fn put_some(s: &[u8], at: usize, m: usize, d: &mut [u8], o: usize) -> Place
     requires { ⌜ at < length (now s) ⌝ }
@@ -139,6 +143,13 @@ fn put_some(s: &[u8], at: usize, m: usize, d: &mut [u8], o: usize) -> Place
     ensures { λ r. ⌜ (at < r .at) × ((r .at ≤ length (now (s .entry))) × ((o ≤ r .end) × (r .end ≤ m))) ⌝ }
     ensures { λ r. ⌜ (digitsRefusal (m - o) (digitsAt (now (s .entry)) at) ≡ 0 → Moved (now (s .entry)) at (r .at) (now (d .entry)) o (now (d .exit)) (r .end)) ⌝ }
 {
+    if is_spaced(s, at, m - o) {
+        copy_pairs(s, at, d, o);
+        return Place {
+            at: at + 48,
+            end: o + 32,
+        };
+    }
     if is_run(s, at, m - o) {
         copy(s, at, d, o);
         return Place {
@@ -148,13 +159,6 @@ fn put_some(s: &[u8], at: usize, m: usize, d: &mut [u8], o: usize) -> Place
     }
     if s[at] <= 32 {
         return Place { at: at + 1, end: o };
-    }
-    if is_spaced(s, at, m - o) {
-        copy_pairs(s, at, d, o);
-        return Place {
-            at: at + 48,
-            end: o + 32,
-        };
     }
     let c = least(25, least(s.len() - at, m - o));
     let end = squeeze(s, at, c, d, o);
@@ -181,21 +185,15 @@ fn gather(s: &[u8], at: usize, m: usize, d: &mut [u8]) -> usize
     i
 }
 
-// The value of a hex digit.
-fn digit_value(b: u8) -> u8
-    ensures { λ r. ⌜ r ≡ digitValue b ⌝ }
-{
-    b % 16 + 9 * (b / 64)
-}
-
-// Each digit becomes its value.
-fn make_values(d: &mut [u8])
+// Each of the first 32 * k digits becomes its value. The count is a multiple of 32 that is not known when compiling: the compiler then makes a short loop over vectors, with nothing left over.
+fn make_values(d: &mut [u8], k: usize)
     requires { ⌜ length (now d) ≡ 256 ⌝ }
-    ensures { λ _. ⌜ now (d .exit) ≡ map digitValue (now (d .entry)) ⌝ }
+    requires { ⌜ k ≤ 8 ⌝ }
+    ensures { λ _. ⌜ now (d .exit) ≡ take (32 * k) (map digitValue (now (d .entry))) ++ drop (32 * k) (now (d .entry)) ⌝ }
 {
     let mut j: usize = 0;
-    while j < 256 {
-        d[j] = digit_value(d[j]);
+    while j != 32 * k {
+        d[j] = data_hex_digits::value(d[j]);
         j += 1;
     }
 }
@@ -224,30 +222,34 @@ fn byte_of(x: u16) -> u8
     (((x % 256) * 16 + x / 256) % 256) as u8
 }
 
-// The bytes that values write.
-fn make_bytes(d: &[u8], bytes: &mut [u8])
+// The bytes that the first 32 * k values write.
+fn make_bytes(d: &[u8], bytes: &mut [u8], k: usize)
     requires { ⌜ length (now d) ≡ 256 ⌝ }
     requires { ⌜ length (now bytes) ≡ 128 ⌝ }
-    ensures { λ _. ⌜ now (bytes .exit) ≡ pairsOf (now (d .entry)) ⌝ }
+    requires { ⌜ k ≤ 8 ⌝ }
+    ensures { λ _. ⌜ now (bytes .exit) ≡ take (16 * k) (pairsOf (now (d .entry))) ++ drop (16 * k) (now (bytes .entry)) ⌝ }
 {
     let mut j: usize = 0;
-    while j < 128 {
+    while j != 16 * k {
         bytes[j] = byte_of(load_pair(d, 2 * j));
         j += 1;
     }
 }
 
-// The next j bytes to the front of a block, and the place after their digits.
-pub(crate) fn next_bytes(s: &[u8], at: usize, j: usize, bytes: &mut [u8]) -> usize
+// The next j bytes to the front of a block, and the place after their digits, which go to d. Both arrays are the caller's, so that they are not
+// set to 0 for each block.
+pub(crate) fn next_bytes(s: &[u8], at: usize, j: usize, d: &mut [u8], bytes: &mut [u8]) -> usize
     requires { ⌜ at ≤ length (now s) ⌝ }
     requires { ⌜ j ≤ 128 ⌝ }
+    requires { ⌜ length (now d) ≡ 256 ⌝ }
     requires { ⌜ length (now bytes) ≡ 128 ⌝ }
     ensures { λ r. ⌜ r ≤ length (now (s .entry)) ⌝ }
     ensures { λ r. ⌜ (Enough (now (s .entry)) at j → Taken (now (s .entry)) at j (now (bytes .exit)) r) ⌝ }
 {
-    let mut d = [0u8; 256];
-    let next = gather(s, at, 2 * j, &mut d);
-    make_values(&mut d);
-    make_bytes(&d, bytes);
+    let next = gather(s, at, 2 * j, d);
+    // as many 16 bytes as have these j
+    let k = (j + 15) / 16;
+    make_values(d, k);
+    make_bytes(d, bytes, k);
     next
 }

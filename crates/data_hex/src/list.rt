@@ -19,15 +19,16 @@ struct Checked {
 }
 
 // The refusal of the next m unsigned samples of 8 bytes, for their values.
-fn check_block(s: &[u8], at: usize, m: usize, big: bool) -> Checked
+fn check_block(s: &[u8], at: usize, m: usize, big: bool, d: &mut [u8], bytes: &mut [u8]) -> Checked
     requires { ⌜ at ≤ length (now s) ⌝ }
     requires { ⌜ m ≤ 16 ⌝ }
+    requires { ⌜ length (now d) ≡ 256 ⌝ }
+    requires { ⌜ length (now bytes) ≡ 128 ⌝ }
     ensures { λ r. ⌜ r .next ≤ length (now (s .entry)) ⌝ }
     ensures { λ r. ⌜ (Enough (now (s .entry)) at (m * 8) → Past (now (s .entry)) at (m * 8) (r .next) × (r .code ≡ samplesAt unsigned 8 (endianBy big) m (now (s .entry)) at .number)) ⌝ }
 {
-    let mut bytes = [0u8; 128];
-    let next = bytes::next_bytes(s, at, m * 8, &mut bytes);
-    let code = data_raw::list::check(&bytes, m, 8, false, big);
+    let next = bytes::next_bytes(s, at, m * 8, d, bytes);
+    let code = data_raw::list::check(bytes, m, 8, false, big);
     Checked { code, next }
 }
 
@@ -35,11 +36,13 @@ fn check_block(s: &[u8], at: usize, m: usize, big: bool) -> Checked
 fn check_values(s: &[u8], n: usize, big: bool) -> u32
     ensures { λ r. ⌜ (Enough (now (s .entry)) 0 (n * 8) → r ≡ samplesAt unsigned 8 (endianBy big) n (now (s .entry)) 0 .number) ⌝ }
 {
+    let mut d = [0u8; 256];
+    let mut bytes = [0u8; 128];
     let mut at: usize = 0;
     let mut k: usize = 0;
     while k < n {
         let m = bytes::least(16, n - k);
-        let c = check_block(s, at, m, big);
+        let c = check_block(s, at, m, big, &mut d, &mut bytes);
         let code = c.code;
         if code != 0 {
             return code;
@@ -79,18 +82,21 @@ fn fill_block(
     w: usize,
     signed: bool,
     big: bool,
+    d: &mut [u8],
+    bytes: &mut [u8],
     dst: &mut [i64],
 ) -> usize
     requires { ⌜ Width w ⌝ }
+    requires { ⌜ length (now d) ≡ 256 ⌝ }
+    requires { ⌜ length (now bytes) ≡ 128 ⌝ }
     requires { ⌜ at ≤ length (now s) ⌝ }
     requires { ⌜ m * w ≤ 128 ⌝ }
     requires { ⌜ m ≤ length (now dst) ⌝ }
     ensures { λ r. ⌜ r ≤ length (now (s .entry)) ⌝ }
     ensures { λ r. ⌜ (Enough (now (s .entry)) at (m * w) → Past (now (s .entry)) at (m * w) r × (samplesAt (kindBy signed) w (endianBy big) m (now (s .entry)) at .number ≡ 0 → now (dst .exit) ≡ over (samplesAt (kindBy signed) w (endianBy big) m (now (s .entry)) at .seen) (now (dst .entry)))) ⌝ }
 {
-    let mut bytes = [0u8; 128];
-    let next = bytes::next_bytes(s, at, m * w, &mut bytes);
-    data_raw::list::fill(&bytes, m, w, signed, big, dst);
+    let next = bytes::next_bytes(s, at, m * w, d, bytes);
+    data_raw::list::fill(bytes, m, w, signed, big, dst);
     next
 }
 
@@ -101,11 +107,13 @@ fn fill_blocks(s: &[u8], n: usize, w: usize, signed: bool, big: bool, dst: &mut 
     ensures { λ _. ⌜ (hexSamples (kindBy signed) w (endianBy big) n (withoutBlanks (now (s .entry))) .number ≡ 0 → now (dst .exit) ≡ over (hexSamples (kindBy signed) w (endianBy big) n (withoutBlanks (now (s .entry))) .seen) (now (dst .entry))) ⌝ }
 {
     let most = 128 / w;
+    let mut d = [0u8; 256];
+    let mut bytes = [0u8; 128];
     let mut at: usize = 0;
     let mut k: usize = 0;
     while k < n {
         let m = bytes::least(most, n - k);
-        at = fill_block(s, at, m, w, signed, big, &mut dst[k..]);
+        at = fill_block(s, at, m, w, signed, big, &mut d, &mut bytes, &mut dst[k..]);
         k += m;
     }
 }

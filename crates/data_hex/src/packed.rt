@@ -20,18 +20,21 @@ fn fill_block(
     w: usize,
     signed: bool,
     big: bool,
+    d: &mut [u8],
+    bytes: &mut [u8],
     dst: &mut [u8],
 ) -> usize
     requires { ⌜ Width w ⌝ }
+    requires { ⌜ length (now d) ≡ 256 ⌝ }
+    requires { ⌜ length (now bytes) ≡ 128 ⌝ }
     requires { ⌜ at ≤ length (now s) ⌝ }
     requires { ⌜ m * w ≤ 128 ⌝ }
     requires { ⌜ m ≤ length (now dst) / 8 ⌝ }
     ensures { λ r. ⌜ r ≤ length (now (s .entry)) ⌝ }
     ensures { λ r. ⌜ (Enough (now (s .entry)) at (m * w) → Past (now (s .entry)) at (m * w) r × (samplesAt (kindBy signed) w (endianBy big) m (now (s .entry)) at .number ≡ 0 → now (dst .exit) ≡ over (wordsOfSamples (samplesAt (kindBy signed) w (endianBy big) m (now (s .entry)) at .seen)) (now (dst .entry)))) ⌝ }
 {
-    let mut bytes = [0u8; 128];
-    let next = bytes::next_bytes(s, at, m * w, &mut bytes);
-    data_raw::packed::fill(&bytes, m, w, signed, big, dst);
+    let next = bytes::next_bytes(s, at, m * w, d, bytes);
+    data_raw::packed::fill(bytes, m, w, signed, big, dst);
     next
 }
 
@@ -42,12 +45,24 @@ fn fill_blocks(s: &[u8], n: usize, w: usize, signed: bool, big: bool, dst: &mut 
     ensures { λ _. ⌜ (hexSamples (kindBy signed) w (endianBy big) n (withoutBlanks (now (s .entry))) .number ≡ 0 → now (dst .exit) ≡ over (wordsOfSamples (hexSamples (kindBy signed) w (endianBy big) n (withoutBlanks (now (s .entry))) .seen)) (now (dst .entry))) ⌝ }
 {
     let most = 128 / w;
+    let mut d = [0u8; 256];
+    let mut bytes = [0u8; 128];
     let mut at: usize = 0;
     let mut k: usize = 0;
     while k < n {
         let m = bytes::least(most, n - k);
         let from = 8 * k;
-        at = fill_block(s, at, m, w, signed, big, &mut dst[from..]);
+        at = fill_block(
+            s,
+            at,
+            m,
+            w,
+            signed,
+            big,
+            &mut d,
+            &mut bytes,
+            &mut dst[from..],
+        );
         k += m;
     }
 }

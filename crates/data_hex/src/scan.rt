@@ -4,7 +4,7 @@ ghost use Prim.Native.Nat.{_+_, _*_, _≤_, _<_};
 ghost use lib.ListN.{length};
 ghost use Rattle.data_hex.specs.Forms.{Passed, Reached, Scanned};
 ghost use Rattle.lent_numbers.specs.Widths.{Width};
-use crate::digits;
+use crate::blanks;
 
 // How many of the 64 bytes from a place on are digits, or 255 where one is neither a digit nor a blank.
 fn block_digits(s: &[u8], at: usize) -> u8
@@ -16,9 +16,9 @@ fn block_digits(s: &[u8], at: usize) -> u8
     let mut j: usize = 0;
     while j < 64 {
         let b = s[at + j];
-        let d = digits::is_digit(b);
-        digits += digits::one_if(d);
-        fine = fine & (d | digits::is_blank(b));
+        let d = data_hex_digits::is_digit(b);
+        digits += blanks::one_if(d);
+        fine = fine & (d | blanks::is_blank(b));
         j += 1;
     }
     if fine { digits } else { 255 }
@@ -72,15 +72,15 @@ pub(crate) fn scan(s: &[u8], need: usize) -> Count
             };
         }
         let b = s[at];
-        let d = digits::is_digit(b);
-        if !(d | digits::is_blank(b)) {
+        let d = data_hex_digits::is_digit(b);
+        if !(d | blanks::is_blank(b)) {
             return Count {
                 code: format::BAD_SAMPLE,
                 at,
                 digits,
             };
         }
-        digits += digits::one_if(d) as usize;
+        digits += blanks::one_if(d) as usize;
         at += 1;
     }
     Count {

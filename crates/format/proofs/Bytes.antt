@@ -1,13 +1,14 @@
 -- Laws of the tests on bytes and texts.
 -- Assumes nothing.
 use mathlib.Core.Path.{_≡_, refl, sym, _∙_}
-use Prim.Native.Nat.{ℕ}
+use Prim.Native.Nat.{ℕ, zero, suc, _<_}
+use native.Mathlib.Omega.{arith}
 use mathlib.Core.Bool.{Bool, true, false, _&&_, _||_, false≢true}
 use mathlib.Core.List.{List, [], _∷_, _++_}
 use mathlib.Core.Option.{Option, none, some}
 use lib.Dec.{eqb}
-use borrow.Author.Tests.{eqb-true, eq-eqb}
-use Rattle.format.specs.Bytes.{every, same, onto}
+use borrow.Author.Tests.{eqb-true, eqb-false, eq-eqb}
+use Rattle.format.specs.Bytes.{every, everyBelow, same, onto}
 
 -- ---- two tests at once
 
@@ -29,6 +30,17 @@ neither a b p q = rw (p, q)
 pub or-false : (a b : Bool) → (a || b) ≡ false → (a ≡ false) × (b ≡ false)
 or-false true b h = absurd (false≢true (sym h))
 or-false false b h = (refl, h)
+
+-- ---- a test of every number below n holds of each
+
+pub every-below : (p : ℕ → Bool) (n : ℕ) → everyBelow p n ≡ true → (i : ℕ) → i < n → p i ≡ true
+unfolding everyBelow
+every-below p zero h i l = absurd (omega arith)
+every-below p (suc n) h i l = go (eqb i n) refl (λ k. every-below p n (and-right (p n) (everyBelow p n) h) i k)
+  where
+    go : (x : Bool) → eqb i n ≡ x → (i < n → p i ≡ true) → p i ≡ true
+    go true q on = rw (eqb-true i n q) (and-left (p n) (everyBelow p n) h)
+    go false q on = on (omega (arith, eqb-false i n q))
 
 -- ---- `same` is equality
 

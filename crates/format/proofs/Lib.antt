@@ -10,6 +10,7 @@ pub mod Numbered
 pub mod Places
 pub mod Rules
 pub mod Samples
+pub mod HexDigits
 pub mod Boundary
 pub mod Writer
 pub mod Descriptors

@@ -12,11 +12,14 @@ use lib.IntN.{ℤ, pos, negsuc}
 use lib.ListN.{length, length-append}
 use lib.Seq.{take-at, drop-at}
 use borrow.Author.Tests.{ltb-true, ltb-false, leb-true, le-leb, lt-leb, ne-eqb}
-use Rattle.format.specs.Bytes.{between, isDigit, every, LF, if_then_else_}
+use Rattle.format.specs.Bytes.{between, isDigit, every, everyBelow, LF, if_then_else_}
 use Rattle.format.specs.Words.{digitsFrom, number}
 use Rattle.format.specs.Descriptors.{NumberKind, raw, asText}
 use Rattle.format.specs.Samples.{inType, valueBytes, rawSamples, blank, withoutBlanks, hexDigit, hexRun, hexBytes, hexSamples, skipBlanks, token, afterToken, signedBy, tokenValue, textSample, tokens, textSamples, samplesOf}
+use Rattle.format.specs.HexDigits.{sameValue}
 use Rattle.format.specs.Writer.{digit, byDigits, decimalFrom, decimal, signedDecimal, hexLetter, hexText, rawData, textData, dataBytes, allInType}
+use Rattle.format.proofs.Bytes.{every-below}
+use Rattle.format.proofs.HexDigits.{same-value}
 use Rattle.format.proofs.Samples.{AllBytes, length-value-bytes, value-bytes-bytes, value-of-bytes}
 
 -- ---- tests on a byte
@@ -137,17 +140,8 @@ hex-letter-not-blank n = go (ltb n 10)
 
 -- a hex digit is read back
 pub hex-digit-of-letter : (n : ℕ) → n < 16 → hexDigit (hexLetter n) ≡ some n
-unfolding hexDigit
-hex-digit-of-letter n h = go (ltb n 10) refl
-  where
-    go : (t : Bool) → ltb n 10 ≡ t → hexDigit (if t then 48 + n else 97 + (n - 10)) ≡ some n
-    go true q =
-        let e : 48 + n - 48 ≡ n = omega arith in
-        rw (is-digit n (ltb-true n 10 q), e)
-    go false q =
-        let l : 10 ≤ n = ltb-false n 10 q in
-        let e : 97 + (n - 10) - 97 + 10 ≡ n = omega arith in
-        rw (between-above 48 57 (97 + (n - 10)) (omega arith), between-true 97 102 (97 + (n - 10)) (omega arith) (omega arith), e)
+unfolding everyBelow hexDigit
+hex-digit-of-letter n h = same-value (hexDigit (hexLetter n)) (some n) (every-below (λ n. sameValue (hexDigit (hexLetter n)) (some n)) 16 refl n h)
 
 -- bytes are read back from their hex text, and r is left
 pub hex-of-text : (s r : List ℕ) → AllBytes s → hexBytes (length s) (hexText s ++ r) ≡ hexRun s r
@@ -155,7 +149,7 @@ unfolding hexBytes hexText
 hex-of-text [] r p = refl
 hex-of-text (b ∷ s) r p =
     let e : 16 * (b / 16) + b % 16 ≡ b = omega arith in
-    rw (hex-digit-of-letter (b / 16) (omega arith), hex-digit-of-letter (b % 16) (omega arith), hex-of-text s r (p .1), e)
+    rw (hex-digit-of-letter (b / 16) (omega arith), hex-digit-of-letter (b % 16) (omega arith), hex-of-text s r (p .1)) (ap (λ (c : ℕ). hexRun (c ∷ s) r) e)
 
 -- two digits a byte
 pub hex-length : (s : List ℕ) → length (hexText s) ≡ 2 * length s

@@ -5,10 +5,11 @@
 -- each for inputs of the shape on its left. `[]` is the empty list, `b ∷ s` a list with b before s, `s ++ t` two lists joined.
 -- An `Option` is `none` or `some` value. `λ x. ..` is a function of x, `map f s` is the list of what f gives for each entry of s. `(a, b)` is a pair, of the type
 -- `A × B`, `p .0` and `p .1` are its parts; `r .name` is a part of a record, `record { name = a; .. }` one with these parts. `data` lists the cases that a value may be.
--- Numbers are whole and unbounded; `a - b` is 0 where b is larger. Of the signed ones `pos n` is n and `negsuc n` is -(n + 1).
+-- Numbers are whole and unbounded, `zero` or one more than another (`suc n`); `a - b` is 0 where b is larger. Of the signed ones `pos n` is n and `negsuc n` is -(n + 1).
 -- `eqb`, `ltb` and `leb` test for equal, less, and less or equal; `not`, `&&` and `||` join tests.
+-- A claim is a type: `a ≡ b` says that a and b are equal, `(n : ℕ) → n < 256 → a ≡ b` that they are for every n below 256; a record of claims says that all of them hold.
 -- `abbrev` and `unfoldable` say how proofs see a definition and change nothing of what it means.
-use Prim.Native.Nat.{ℕ, _+_}
+use Prim.Native.Nat.{ℕ, zero, suc, _+_}
 use Prim.Native.Char.{code}
 use Prim.Native.String.{String, [] as []ˢ, _∷_ as _∷ˢ_}
 use mathlib.Core.Bool.{Bool, true, false, _&&_, _||_}
@@ -101,6 +102,11 @@ isDigit b = between 48 57 b
 -- a letter `A` to `Z` as its small letter, any other byte as itself
 abbrev pub small : ℕ → ℕ
 small b = if between 65 90 b then b + 32 else b
+
+-- the test holds of every number below n
+unfoldable pub everyBelow : (ℕ → Bool) → ℕ → Bool
+everyBelow p zero = true
+everyBelow p (suc n) = p n && everyBelow p n
 
 -- ---- tests on texts
 

@@ -14,6 +14,7 @@ pub mod Widths
 pub mod Header
 pub mod Data
 pub mod Samples
+pub mod HexDigits
 pub mod Axes
 pub mod Writer
 pub mod HeaderWriter

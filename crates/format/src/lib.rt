@@ -2,6 +2,7 @@
 // What is right is said in specs/; the laws that make it believable are in proofs/.
 ghost use mathlib.Core.Path.{_≡_};
 ghost use Rattle.format.specs.FurtherTrials.{FurtherTrials};
+ghost use Rattle.format.specs.HexDigits.{HexDigits};
 ghost use Rattle.format.specs.Laws.{Laws};
 ghost use Rattle.format.specs.Limits.{limits};
 ghost use Rattle.format.specs.Refusals.{refusalNumbers};
@@ -388,6 +389,13 @@ pub fn further_trials() -> u64
 // The laws that make the definitions believable hold.
 pub fn definition_laws() -> u64
     ensures { λ r. ⌜ Laws ⌝ }
+{
+    0
+}
+
+// The three ranges of hex digits give each digit its value, and no other of the 256 bytes one.
+pub fn hex_digits() -> u64
+    ensures { λ r. ⌜ HexDigits ⌝ }
 {
     0
 }

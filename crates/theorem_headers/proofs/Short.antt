@@ -13,17 +13,16 @@ use lib.IntN.{ℤ, pos, negsuc, natAbs}
 use lib.ListN.{length, length-append}
 use borrow.Author.Tests.{ltb-true, leb-true}
 use Rattle.format.specs.declared.Decimal.{Decimal}
-use Rattle.format.specs.Bytes.{if_then_else_, bytes, SPACE, COMMA}
+use Rattle.format.specs.Bytes.{if_then_else_, bytes, everyBelow, SPACE, COMMA}
 use Rattle.format.specs.Lines.{Line, unlines}
 use Rattle.format.specs.Decimals.{numeric, nan, inf, minusInf, pastNumber, maxPower}
 use Rattle.format.specs.Spaces.{spaceAt, spaceCount, spaceSize}
 use Rattle.format.specs.Vectors.{Direction, without, along}
 use Rattle.format.specs.Writer.{signedDecimal, fieldLine}
 use Rattle.format.specs.HeaderWriter.{componentText, joined, vectorText, directionText, spaceText, directionsText, frameText, lineFor}
-use Rattle.format.proofs.Bytes.{and-left, and-right}
+use Rattle.format.proofs.Bytes.{and-left, and-right, every-below}
 use Rattle.format.proofs.Lines.{length-unlines-cons}
 use Rattle.format.proofs.Writer.{digits-few}
-use Rattle.theorem_roundtrip.proofs.Names.{everyBelow, every-below}
 use Rattle.theorem_orientation.specs.ReadBack.{kept, each, eachOf, keptVector, keptDirection, meant, meantDirection}
 use Rattle.theorem_orientation.proofs.Vectors.{count-kept}
 use Rattle.theorem_headers.proofs.Lined.{If}

@@ -9,7 +9,7 @@ use lib.Dec.{eqb}
 use lib.IntN.{ℤ, pos, negsuc}
 use lib.ListN.{length, length-append}
 use Rattle.format.specs.declared.Decimal.{Decimal}
-use Rattle.format.specs.Bytes.{bytes, every, same, alike, isAny, rowFrom, SPACE, OPEN, CLOSE, COMMA}
+use Rattle.format.specs.Bytes.{bytes, every, everyBelow, same, alike, isAny, rowFrom, SPACE, OPEN, CLOSE, COMMA}
 use Rattle.format.specs.Pairs.{plain, mark}
 use Rattle.format.specs.Words.{trimFront, trimEnd}
 use Rattle.format.specs.Fields.{fieldAt, dimension, type, encoding, endian, sizes, space, spaceDimension, spaceOrigin, spaceDirections, measurementFrame}
@@ -18,9 +18,9 @@ use Rattle.format.specs.Spaces.{spaceAt, spaceCount}
 use Rattle.format.specs.Vectors.{Direction, without, along}
 use Rattle.format.specs.Writer.{signedDecimal}
 use Rattle.format.specs.HeaderWriter.{componentText, joined, vectorText, directionText, spaceText, directionsText, frameText}
-use Rattle.format.proofs.Bytes.{and-both, every-append}
+use Rattle.format.proofs.Bytes.{and-both, every-append, every-below}
 use Rattle.format.proofs.Judged.{judge-by-text}
-use Rattle.theorem_roundtrip.proofs.Names.{everyBelow, every-below, Text, textTest, text-by-test}
+use Rattle.theorem_roundtrip.proofs.Names.{Text, textTest, text-by-test}
 use Rattle.theorem_roundtrip.proofs.Numbers.{decimal-plain, trim-back-after}
 use Rattle.theorem_roundtrip.proofs.Written.{names}
 use Rattle.theorem_orientation.proofs.Components.{every-if}

@@ -9,30 +9,15 @@ use mathlib.Core.List.{List, _++_, map}
 use mathlib.Core.Option.{Option, none, some}
 use lib.Dec.{eqb, leb}
 use lib.ListN.{length}
-use borrow.Author.Tests.{eqb-true, eqb-false, leb-true}
-use Rattle.format.specs.Bytes.{bytes, every, same, alike, isAny, rowFrom, rowOf}
+use borrow.Author.Tests.{eqb-true, leb-true}
+use Rattle.format.specs.Bytes.{bytes, every, everyBelow, same, alike, isAny, rowFrom, rowOf}
 use Rattle.format.specs.Limits.{maxVersion}
 use Rattle.format.specs.Pairs.{plain}
 use Rattle.format.specs.Words.{trimFront, trimEnd}
 use Rattle.format.specs.Descriptors.{types, typeAt, typeName, typeNames, encodings, endians, sampleBytes}
 use Rattle.format.specs.Header.{magicVersion}
 use Rattle.format.specs.Writer.{decimalFrom, decimal, nameAt}
-use Rattle.format.proofs.Bytes.{and-left, and-right, same-true}
-
--- ---- a test of every number below n
-
-unfoldable pub everyBelow : (ℕ → Bool) → ℕ → Bool
-everyBelow p zero = true
-everyBelow p (suc n) = p n && everyBelow p n
-
-pub every-below : (p : ℕ → Bool) (n : ℕ) → everyBelow p n ≡ true → (i : ℕ) → i < n → p i ≡ true
-unfolding everyBelow
-every-below p zero h i l = absurd (omega arith)
-every-below p (suc n) h i l = go (eqb i n) refl (λ k. every-below p n (and-right (p n) (everyBelow p n) h) i k)
-  where
-    go : (x : Bool) → eqb i n ≡ x → (i < n → p i ≡ true) → p i ≡ true
-    go true q on = rw (eqb-true i n q) (and-left (p n) (everyBelow p n) h)
-    go false q on = on (omega (arith, eqb-false i n q))
+use Rattle.format.proofs.Bytes.{and-left, and-right, every-below, same-true}
 
 -- the answer is the number i
 abbrev isNumber : ℕ → Option ℕ → Bool

@@ -1,36 +1,45 @@
 -- `copy` meets its contract. The invariant: what is stored are the digits of the bytes passed.
 -- Assumes nothing.
-use Prim.Native.Nat.{_+_, _-_, _≤_}
+use Prim.Native.Nat.{_+_, _*_, _-_, _≤_}
 use native.Mathlib.Omega.{arith}
 use mathlib.Core.Path.{_≡_, refl}
 use denote.Ref.{now}
 use lib.ListN.{length}
 use Rattle.data_hex.specs.Forms.{Moved}
-use Rattle.data_hex.proofs.BlockLaws.{copy-none, copy-more}
+use Rattle.data_hex.proofs.BlockLaws.{copy-none}
+use Rattle.data_hex.proofs.RunLaws.{copy-more}
 use borrow.Author.Needs.{needs}
 use Rattle.data_hex.proofs.bytes.copy.Statement.{statement}
 use Rattle.data_hex.proofs.bytes.copy.Tie as tie
 
 abbrev Inv-loop : tie.InvT-loop
-Inv-loop s at d₀ o j₀ d j = (j ≤ 32) × ((length d ≡ length d₀) × Moved s at (at + j) d₀ o d (o + j))
+Inv-loop s at d₀ o j₀ d j = (j ≤ 4) × ((length d ≡ length d₀) × Moved s at (at + 8 * j) d₀ o d (o + 8 * j))
 
 abbrev μ-loop : tie.MeasureT-loop
-μ-loop s at d₀ o j₀ d j = 32 - j
+μ-loop s at d₀ o j₀ d j = 4 - j
 
 loop-holds : tie.Need-loop-holds Inv-loop μ-loop
-loop-holds c = (search needs, (refl, copy-none (now (c .args .s)) (c .args .at) (now (c .args .d)) (c .args .o)))
+loop-holds c =
+    let a = c .before .before .args in
+    (search needs, (refl, copy-none (now (a .s)) (a .at) (now (a .d)) (a .o)))
 
-add-d : tie.Need-add-d Inv-loop μ-loop
-add-d c = search needs
+mul-store8 : tie.Need-mul-store8 Inv-loop μ-loop
+mul-store8 c = search needs
 
-shared-slice-read-d : tie.Need-shared-slice-read-d Inv-loop μ-loop
-shared-slice-read-d c = search needs
+add-store8 : tie.Need-add-store8 Inv-loop μ-loop
+add-store8 c = search needs
 
-add-d-2 : tie.Need-add-d-2 Inv-loop μ-loop
-add-d-2 c = search needs
+mul-load8 : tie.Need-mul-load8 Inv-loop μ-loop
+mul-load8 c = search needs
 
-slice-write-d : tie.Need-slice-write-d Inv-loop μ-loop
-slice-write-d c = search needs
+add-load8 : tie.Need-add-load8 Inv-loop μ-loop
+add-load8 c = search needs
+
+load8-requires : tie.Need-load8-requires Inv-loop μ-loop
+load8-requires c κs = search needs
+
+store8-requires : tie.Need-store8-requires Inv-loop μ-loop
+store8-requires c κs = search needs
 
 add-j : tie.Need-add-j Inv-loop μ-loop
 add-j c = search needs
@@ -40,9 +49,11 @@ loop-less c = search needs
 
 loop-again : tie.Need-loop-again Inv-loop μ-loop
 loop-again c =
-    let a = c .before .before .before .args in
-    let i = c .before .before .loop in
-    (search needs, (search needs, copy-more (now (a .s)) (a .at) (now (a .d)) (a .o) (i .d) (i .j) (i .inv .1 .1) (omega arith) (omega arith) (c .before .before .before .pre .1 .1 (i .j) (omega arith))))
+    let i = c .before .before .before .before .before .before .loop in
+    let b = c .before .before .before .before .before .before .before .before in
+    let k = b .before in
+    let a = k .args in
+    (search needs, (search needs, copy-more (now (a .s)) (λ n. b .shared-slice-known .given n .fits) (a .at) (k .pre .0) (k .pre .1 .1) (now (a .d)) (a .o) (i .d) (i .j) (i .inv .1 .1) (omega arith) (omega arith) _ (c .before .before .before .load8 .ensures .is) _ (c .before .before .store8 .ensures)))
 
 same-length : tie.Need-same-length Inv-loop μ-loop
 same-length c = search needs
@@ -50,7 +61,7 @@ same-length c = search needs
 returns : tie.Need-returns Inv-loop μ-loop
 returns c =
     let i = c .before .loop in
-    let j : i .j ≡ 32 = omega arith in
+    let j : i .j ≡ 4 = omega arith in
     rw j at (i .inv .1 .1)
 
 pub copy-spec : {M : Type 1} → statement M
@@ -60,10 +71,12 @@ copy-spec =
     Inv-loop
     μ-loop
     loop-holds
-    add-d
-    shared-slice-read-d
-    add-d-2
-    slice-write-d
+    mul-store8
+    add-store8
+    mul-load8
+    add-load8
+    load8-requires
+    store8-requires
     add-j
     loop-less
     loop-again

@@ -1,18 +1,18 @@
--- `copy_pairs` meets its contract. The invariant: what is stored are the digits of the bytes passed.
+-- `copy_pairs` meets its contract. The invariant: where the digits are good, what is stored are those of the bytes passed.
 -- Assumes nothing.
 use Prim.Native.Nat.{_+_, _*_, _-_, _≤_}
 use native.Mathlib.Omega.{arith}
 use mathlib.Core.Path.{_≡_, refl}
 use denote.Ref.{now}
 use lib.ListN.{length}
-use Rattle.data_hex.specs.Forms.{Moved}
+use Rattle.data_hex.specs.Forms.{digitsAt, digitsRefusal, Moved}
 use Rattle.data_hex.proofs.BlockLaws.{copy-none, pairs-more}
 use borrow.Author.Needs.{needs}
 use Rattle.data_hex.proofs.bytes.copy_pairs.Statement.{statement}
 use Rattle.data_hex.proofs.bytes.copy_pairs.Tie as tie
 
 abbrev Inv-loop : tie.InvT-loop
-Inv-loop s at d₀ o j₀ d j = (j ≤ 16) × ((length d ≡ length d₀) × Moved s at (at + 3 * j) d₀ o d (o + 2 * j))
+Inv-loop s at d₀ o j₀ d j = (j ≤ 16) × ((length d ≡ length d₀) × (digitsRefusal 32 (digitsAt s at) ≡ 0 → Moved s at (at + 3 * j) d₀ o d (o + 2 * j)))
 
 abbrev μ-loop : tie.MeasureT-loop
 μ-loop s at d₀ o j₀ d j = 16 - j
@@ -20,7 +20,7 @@ abbrev μ-loop : tie.MeasureT-loop
 loop-holds : tie.Need-loop-holds Inv-loop μ-loop
 loop-holds c =
     let a = c .before .before .args in
-    (search needs, (refl, copy-none (now (a .s)) (a .at) (now (a .d)) (a .o)))
+    (search needs, (refl, λ f. copy-none (now (a .s)) (a .at) (now (a .d)) (a .o)))
 
 mul-load-pair : tie.Need-mul-load-pair Inv-loop μ-loop
 mul-load-pair c = search needs
@@ -52,7 +52,7 @@ loop-again c =
     let a = k .args in
     let i = c .before .before .before .before .before .before .loop in
     let x = c .before .before .before .before .load-pair .ensures in
-    (search needs, (search needs, pairs-more (now (a .s)) (a .at) (now (a .d)) (a .o) (i .d) (i .j) (i .inv .1 .1) (omega arith) (omega arith) (omega arith) (k .pre .1 .1) _ x _ (c .before .before .store-pair .ensures)))
+    (search needs, (search needs, λ f. pairs-more (now (a .s)) (a .at) (now (a .d)) (a .o) (k .pre .0) (omega arith) f (k .pre .1 .1 .0) (k .pre .1 .1 .1) (i .d) (i .j) (i .inv .1 .1 f) (omega arith) (omega arith) _ x _ (c .before .before .store-pair .ensures)))
 
 same-length : tie.Need-same-length Inv-loop μ-loop
 same-length c = search needs

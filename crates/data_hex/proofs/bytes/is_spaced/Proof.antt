@@ -2,6 +2,7 @@
 -- Assumes nothing.
 use Prim.Native.Nat.{_-_}
 use native.Mathlib.Omega.{arith}
+use mathlib.Core.Path.{sym, _∙_}
 use mathlib.Core.Bool.{false≢true}
 use denote.Ref.{now}
 use lib.ListN.{length}
@@ -40,7 +41,7 @@ returns c =
     let t = c .before .before .before .before in
     let a = t .before .before .args in
     let p = two-true 48 (length (now (a .s)) - a .at) 32 (a .room) (t .if1 .taken) in
-    λ e. (omega arith, (p .1, c .blanks-third .ensures e))
+    λ e. (omega arith, (p .1, (c .blanks-third .ensures e, sym (c .before .before .is-blank .ensures) ∙ c .before .if2 .taken)))
 
 returns-2 : tie.Need-returns-2
 returns-2 c = λ e. absurd (false≢true e)

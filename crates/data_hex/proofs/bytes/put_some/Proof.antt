@@ -12,18 +12,18 @@ use borrow.Author.Needs.{needs}
 use Rattle.data_hex.proofs.bytes.put_some.Statement.{statement}
 use Rattle.data_hex.proofs.bytes.put_some.Tie as tie
 
-sub-is-run : tie.Need-sub-is-run
-sub-is-run c = le-of-lt (c .before .before .pre .1 .0)
+sub-is-spaced : tie.Need-sub-is-spaced
+sub-is-spaced c = le-of-lt (c .before .before .pre .1 .0)
 
-is-run-requires : tie.Need-is-run-requires
-is-run-requires c κs = search needs
+is-spaced-requires : tie.Need-is-spaced-requires
+is-spaced-requires c κs = search needs
 
-copy-requires : tie.Need-copy-requires
-copy-requires c κs =
+copy-pairs-requires : tie.Need-copy-pairs-requires
+copy-pairs-requires c κs =
     let z = c .before .before .before .before .before in
     let a = z .args in
-    let p = c .before .before .is-run .ensures (c .before .if1 .taken) in
-    (p .0, (more-fit (length (now (a .s))) (a .at) 31 _ (a .m) (a .o) (p .0) (p .1 .0) (z .pre .1 .1), p .1 .1))
+    let p = c .before .before .is-spaced .ensures (c .before .if1 .taken) in
+    (p .0, (more-fit (length (now (a .s))) (a .at) 47 _ (a .m) (a .o) (p .0) (p .1 .0) (z .pre .1 .1), p .1 .1))
 
 add-t13 : tie.Need-add-t13
 add-t13 c = omega arith
@@ -37,49 +37,50 @@ same-length c = search needs
 returns : tie.Need-returns
 returns c =
     let a = c .before .before .before .before .before .before .before .before .args in
-    let p = c .before .before .before .before .before .is-run .ensures (c .before .before .before .before .if1 .taken) in
-    (more-end (length (now (a .s))) (a .at) 31 (length (now (a .d))) (a .m) (a .o) (p .0) (p .1 .0), λ f. c .before .before .copy .ensures)
-
-shared-slice-read-if2 : tie.Need-shared-slice-read-if2
-shared-slice-read-if2 c = omega arith
-
-add-t18 : tie.Need-add-t18
-add-t18 c = omega arith
-
-returns-2 : tie.Need-returns-2
-returns-2 c =
-    let a = c .before .before .before .before .before .before .args in
     let s = now (a .s) in
-    let one : 1 ≤ a .m - a .o = omega arith in
-    (search needs, λ f. blank-passed s (a .at) (omega arith) (now (a .d)) (a .o) (c .if2 .taken) (refusal-first (digitsAt s (a .at)) one f))
+    let p = c .before .before .before .before .before .is-spaced .ensures (c .before .before .before .before .if1 .taken) in
+    (more-end (length s) (a .at) 47 (length (now (a .d))) (a .m) (a .o) (p .0) (p .1 .0), λ f. c .before .before .copy-pairs .ensures (refusal-first (digitsAt s (a .at)) (p .1 .0) f))
 
-sub-is-spaced : tie.Need-sub-is-spaced
-sub-is-spaced c = le-of-lt (c .before .before .before .before .before .before .pre .1 .0)
+sub-is-run : tie.Need-sub-is-run
+sub-is-run c = le-of-lt (c .before .before .before .before .pre .1 .0)
 
-is-spaced-requires : tie.Need-is-spaced-requires
-is-spaced-requires c κs = search needs
+is-run-requires : tie.Need-is-run-requires
+is-run-requires c κs = search needs
 
-copy-pairs-requires : tie.Need-copy-pairs-requires
-copy-pairs-requires c κs =
-    let z = c .before .before .before .before .before .before .before .before .before in
+copy-requires : tie.Need-copy-requires
+copy-requires c κs =
+    let z = c .before .before .before .before .before .before .before in
     let a = z .args in
-    let p = c .before .before .is-spaced .ensures (c .before .if3 .taken) in
-    (p .0, (more-fit (length (now (a .s))) (a .at) 47 _ (a .m) (a .o) (p .0) (p .1 .0) (z .pre .1 .1), p .1 .1))
+    let p = c .before .before .is-run .ensures (c .before .if2 .taken) in
+    (p .0, (more-fit (length (now (a .s))) (a .at) 31 _ (a .m) (a .o) (p .0) (p .1 .0) (z .pre .1 .1), p .1 .1))
 
-add-t23 : tie.Need-add-t23
-add-t23 c = omega arith
+add-t19 : tie.Need-add-t19
+add-t19 c = omega arith
 
-add-t24 : tie.Need-add-t24
-add-t24 c = omega arith
+add-t20 : tie.Need-add-t20
+add-t20 c = omega arith
 
 same-length-2 : tie.Need-same-length-2
 same-length-2 c = search needs
 
+returns-2 : tie.Need-returns-2
+returns-2 c =
+    let a = c .before .before .before .before .before .before .before .before .before .before .args in
+    let p = c .before .before .before .before .before .is-run .ensures (c .before .before .before .before .if2 .taken) in
+    (more-end (length (now (a .s))) (a .at) 31 (length (now (a .d))) (a .m) (a .o) (p .0) (p .1 .0), λ f. c .before .before .copy .ensures)
+
+shared-slice-read-if3 : tie.Need-shared-slice-read-if3
+shared-slice-read-if3 c = omega arith
+
+add-t24 : tie.Need-add-t24
+add-t24 c = omega arith
+
 returns-3 : tie.Need-returns-3
 returns-3 c =
-    let a = c .before .before .before .before .before .before .before .before .before .before .before .before .args in
-    let p = c .before .before .before .before .before .is-spaced .ensures (c .before .before .before .before .if3 .taken) in
-    (more-end (length (now (a .s))) (a .at) 47 (length (now (a .d))) (a .m) (a .o) (p .0) (p .1 .0), λ f. c .before .before .copy-pairs .ensures)
+    let a = c .before .before .before .before .before .before .before .before .args in
+    let s = now (a .s) in
+    let one : 1 ≤ a .m - a .o = omega arith in
+    (search needs, λ f. blank-passed s (a .at) (omega arith) (now (a .d)) (a .o) (c .if3 .taken) (refusal-first (digitsAt s (a .at)) one f))
 
 sub-least : tie.Need-sub-least
 sub-least c = le-of-lt (c .before .before .before .before .before .before .before .before .pre .0)
@@ -122,22 +123,22 @@ pub put-some-spec : {M : Type 1} → statement M
 put-some-spec =
     tie.close
     (tie.spec
-    sub-is-run
-    is-run-requires
-    copy-requires
+    sub-is-spaced
+    is-spaced-requires
+    copy-pairs-requires
     add-t13
     add-t14
     same-length
     returns
-    shared-slice-read-if2
-    add-t18
-    returns-2
-    sub-is-spaced
-    is-spaced-requires
-    copy-pairs-requires
-    add-t23
-    add-t24
+    sub-is-run
+    is-run-requires
+    copy-requires
+    add-t19
+    add-t20
     same-length-2
+    returns-2
+    shared-slice-read-if3
+    add-t24
     returns-3
     sub-least
     sub-least-2

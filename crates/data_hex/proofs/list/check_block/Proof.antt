@@ -1,9 +1,8 @@
 -- `check_block` meets its contract: the samples of the bytes that were taken.
 -- Assumes nothing.
 use native.Mathlib.Omega.{arith}
-use mathlib.Core.Path.{ap, _∙_}
+use mathlib.Core.Path.{refl, ap, _∙_}
 use mathlib.Core.Logic.{inr}
-use mathlib.Core.Path.{refl}
 use denote.Ref.{now}
 use Rattle.format.specs.Descriptors.{unsigned}
 use Rattle.format.specs.Samples.{Decoded}
@@ -17,31 +16,25 @@ use Rattle.data_hex.proofs.list.check_block.Tie as tie
 mul-next-bytes : tie.Need-mul-next-bytes
 mul-next-bytes c = search needs
 
-slice-aggregate-next-bytes : tie.Need-slice-aggregate-next-bytes
-slice-aggregate-next-bytes c = search needs
-
 next-bytes-requires : tie.Need-next-bytes-requires
 next-bytes-requires c κs = search needs
-
-slice-aggregate-check : tie.Need-slice-aggregate-check
-slice-aggregate-check c = search needs
 
 check-requires : tie.Need-check-requires
 check-requires c κs = search needs
 
+same-length : tie.Need-same-length
+same-length c = search needs
+
+same-length-2 : tie.Need-same-length-2
+same-length-2 c = search needs
+
 returns : tie.Need-returns
 returns c =
-    let a = c .before .before .before .before .before .before .args in
-    let n = c .before .before .before .next-bytes .ensures in
+    let a = c .before .before .before .before .before .before .before .before .before .before .before .before .args in
+    let n = c .before .before .before .before .before .before .next-bytes .ensures in
     (n .0, λ f. (n .1 f .rest, told-is (c .check .ensures) (enough-is 8 (a .m) _ (inr (inr (inr refl))) (omega arith)) ∙ ap (λ (d : Decoded). d .number) (taken-samples unsigned 8 (endianBy (a .big)) (now (a .s)) (a .m) (a .at) _ _ (omega arith) f (n .1 f))))
 
 pub check-block-spec : {M : Type 1} → statement M
 check-block-spec =
     tie.close
-    (tie.spec
-    mul-next-bytes
-    slice-aggregate-next-bytes
-    next-bytes-requires
-    slice-aggregate-check
-    check-requires
-    returns)
+    (tie.spec mul-next-bytes next-bytes-requires check-requires same-length same-length-2 returns)

@@ -45,7 +45,7 @@ loop-less c = search needs
 loop-again : tie.Need-loop-again Inv-loop μ-loop
 loop-again c =
     let a = c .before .before .before .before .before .before .before .args in
-    (search needs, counting-more (now (a .s)) (a .at) (c .before .before .before .before .before .loop .inv .1) (omega arith) _ _ (c .before .before .is-digit .ensures) (c .is-blank .ensures) _ (c .before .one-if .ensures))
+    (search needs, counting-more (now (a .s)) (a .at) (c .before .before .before .before .before .loop .inv .1) (omega arith) _ _ (c .before .before .is-digit .ensures .0) (c .is-blank .ensures) _ (c .before .one-if .ensures))
 
 returns : tie.Need-returns Inv-loop μ-loop
 returns c =

@@ -41,7 +41,7 @@ returns-2 : tie.Need-returns-2 Inv-loop μ-loop
 returns-2 c =
     let a = c .before .before .before .before .before .before .before .before .before .args in
     let i = c .before .before .before .before .before .before .loop in
-    reached-bad (now (a .s)) (a .need) (i .at) (i .digits) (i .inv) (c .before .before .before .before .before .loop-test .taken) (c .before .before .before .before .if1 .left) _ _ (c .before .before .is-digit .ensures) (c .before .is-blank .ensures) (not-true _ (c .if2 .taken))
+    reached-bad (now (a .s)) (a .need) (i .at) (i .digits) (i .inv) (c .before .before .before .before .before .loop-test .taken) (c .before .before .before .before .if1 .left) _ _ (c .before .before .is-digit .ensures .0) (c .before .is-blank .ensures) (not-true _ (c .if2 .taken))
 
 one-if-requires : tie.Need-one-if-requires Inv-loop μ-loop
 one-if-requires c κs = search needs
@@ -62,7 +62,7 @@ loop-again : tie.Need-loop-again Inv-loop μ-loop
 loop-again c =
     let a = c .before .before .before .before .before .before .before .before .before .before .args in
     let i = c .before .before .before .before .before .before .before .loop in
-    reached-more (now (a .s)) (a .need) (i .at) (i .digits) (i .inv) (c .before .before .before .before .before .before .loop-test .taken) (c .before .before .before .before .before .if1 .left) _ _ (c .before .before .before .is-digit .ensures) (c .before .before .is-blank .ensures) (not-false _ (c .before .if2 .left)) _ (c .one-if .ensures)
+    reached-more (now (a .s)) (a .need) (i .at) (i .digits) (i .inv) (c .before .before .before .before .before .before .loop-test .taken) (c .before .before .before .before .before .if1 .left) _ _ (c .before .before .before .is-digit .ensures .0) (c .before .before .is-blank .ensures) (not-false _ (c .before .if2 .left)) _ (c .one-if .ensures)
 
 returns-3 : tie.Need-returns-3 Inv-loop μ-loop
 returns-3 c =

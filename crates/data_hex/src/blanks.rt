@@ -1,16 +1,8 @@
-// One byte of hex data.
+// Blanks in hex data, and a test as a number. Digits are in `data_hex_digits`.
 ghost use mathlib.Core.Path.{_≡_};
 ghost use Prim.Native.Nat.{_≤_};
-ghost use Rattle.format.specs.Bytes.{isSome};
-ghost use Rattle.format.specs.Samples.{hexDigit, blank};
+ghost use Rattle.format.specs.Samples.{blank};
 ghost use Rattle.data_hex.specs.Forms.{oneIf};
-
-// Whether the byte is a hex digit.
-pub(crate) fn is_digit(b: u8) -> bool
-    ensures { λ r. ⌜ r ≡ isSome (hexDigit b) ⌝ }
-{
-    ((48 <= b) & (b <= 57)) | (((97 <= b) & (b <= 102)) | ((65 <= b) & (b <= 70)))
-}
 
 // Whether the byte is a blank.
 pub(crate) fn is_blank(b: u8) -> bool
