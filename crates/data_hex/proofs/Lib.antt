@@ -1,5 +1,6 @@
 pub mod BlockLaws
 pub mod DigitLaws
+pub mod HighLaws
 pub mod JoinLaws
 pub mod LoopLaws
 pub mod RunLaws

@@ -1,7 +1,7 @@
 -- Internal to this crate. Hex digits as the code reads them, for the contracts of the functions below the public ones.
 use Prim.Native.Nat.{ℕ, zero, suc, _+_, _*_, _/_, _%_, _≤_, _<_}
 use mathlib.Core.Path.{_≡_}
-use mathlib.Core.Bool.{Bool, true, false}
+use mathlib.Core.Bool.{Bool, true, false, _||_}
 use mathlib.Core.List.{List, [], _∷_, _++_, map}
 use lib.Dec.{eqb, leb}
 use lib.ListN.{length, take, drop, getD}
@@ -93,3 +93,15 @@ pub record Taken (s : List ℕ) (at j : ℕ) (b : List ℕ) (e : ℕ) : Type 0 w
 -- n samples of the bytes from a place on
 abbrev pub samplesAt : NumberKind → ℕ → ℕ → ℕ → List ℕ → ℕ → Decoded
 samplesAt k w e n s at = rawSamples k w e n (bytesOf (digitsAt s at))
+
+-- ---- samples past the largest one
+
+-- the place of the highest byte of a sample of 8 bytes
+abbrev pub topPlace : Bool → ℕ
+topPlace true = 0
+topPlace false = 7
+
+-- one of m samples of 8 bytes has a byte from 128 on at a place
+unfoldable pub hasHigh : ℕ → ℕ → List ℕ → Bool
+hasHigh zero top b = false
+hasHigh (suc m) top b = hasHigh m top b || leb 128 (getD b (8 * m + top) 0)

@@ -1,13 +1,13 @@
 // Hex samples into a list, block by block: the bytes that the digits write, and these as raw samples.
 ghost use mathlib.Core.Path.{_≡_};
 ghost use mathlib.Core.Bool.{false, _&&_};
-ghost use Prim.Native.Nat.{_*_, _≤_};
+ghost use Prim.Native.Nat.{_*_, _≤_, _<_};
 ghost use lib.Dec.{leb};
 ghost use lib.ListN.{length};
 ghost use Rattle.format.specs.Bytes.{over, if_then_else_};
 ghost use Rattle.format.specs.Descriptors.{unsigned};
-ghost use Rattle.format.specs.Samples.{hexSamples, withoutBlanks};
-ghost use Rattle.data_hex.specs.Forms.{Enough, Past, samplesAt};
+ghost use Rattle.format.specs.Samples.{hexSamples, rawSamples, withoutBlanks};
+ghost use Rattle.data_hex.specs.Forms.{Enough, Past, samplesAt, topPlace, hasHigh};
 ghost use Rattle.lent_numbers.specs.Widths.{Width, isWidth, kindBy, endianBy};
 use crate::bytes;
 use crate::scan;
@@ -18,7 +18,41 @@ struct Checked {
     next: usize,
 }
 
-// The refusal of the next m unsigned samples of 8 bytes, for their values.
+// The place of the highest byte of a sample of 8 bytes.
+fn top_place(big: bool) -> usize
+    ensures { λ r. ⌜ (r ≡ topPlace big) × (r < 8) ⌝ }
+{
+    if big { 0 } else { 7 }
+}
+
+// Whether one of m samples of 8 bytes has its highest byte, the one at `top`, from 128 on. As an unsigned number it is then past the largest sample.
+fn has_high(bytes: &[u8], m: usize, top: usize) -> bool
+    requires { ⌜ 8 * m ≤ length (now bytes) ⌝ }
+    requires { ⌜ top < 8 ⌝ }
+    ensures { λ r. ⌜ r ≡ hasHigh m top (now (bytes .entry)) ⌝ }
+{
+    let mut high = false;
+    let mut i: usize = 0;
+    while i < m {
+        high = high | (128 <= bytes[8 * i + top]);
+        i += 1;
+    }
+    high
+}
+
+// The refusal of m unsigned samples of 8 bytes, for their values. One byte of each tells it.
+fn value_code(bytes: &[u8], m: usize, big: bool) -> u32
+    requires { ⌜ 8 * m ≤ length (now bytes) ⌝ }
+    ensures { λ r. ⌜ r ≡ rawSamples unsigned 8 (endianBy big) m (now (bytes .entry)) .number ⌝ }
+{
+    if has_high(bytes, m, top_place(big)) {
+        format::BAD_SAMPLE
+    } else {
+        0
+    }
+}
+
+// The refusal of the next m unsigned samples of 8 bytes, for their values. Their digits go to d, and what these write to bytes.
 fn check_block(s: &[u8], at: usize, m: usize, big: bool, d: &mut [u8], bytes: &mut [u8]) -> Checked
     requires { ⌜ at ≤ length (now s) ⌝ }
     requires { ⌜ m ≤ 16 ⌝ }
@@ -28,7 +62,7 @@ fn check_block(s: &[u8], at: usize, m: usize, big: bool, d: &mut [u8], bytes: &m
     ensures { λ r. ⌜ (Enough (now (s .entry)) at (m * 8) → Past (now (s .entry)) at (m * 8) (r .next) × (r .code ≡ samplesAt unsigned 8 (endianBy big) m (now (s .entry)) at .number)) ⌝ }
 {
     let next = bytes::next_bytes(s, at, m * 8, d, bytes);
-    let code = data_raw::list::check(bytes, m, 8, false, big);
+    let code = value_code(bytes, m, big);
     Checked { code, next }
 }
 
@@ -74,7 +108,7 @@ pub fn check(s: &[u8], n: usize, w: usize, signed: bool, big: bool) -> u32
     c.code
 }
 
-// The next m samples to the front of dst, and the place after their digits.
+// The next m samples to the front of dst, and the place after their digits. The digits go to d, and what they write to bytes.
 fn fill_block(
     s: &[u8],
     at: usize,

@@ -12,7 +12,7 @@ ghost use Rattle.lent_numbers.specs.Widths.{Width, isWidth, kindBy, endianBy};
 ghost use Rattle.data_hex.specs.Forms.{Enough, Past, samplesAt};
 use crate::bytes;
 
-// The next m samples to the front of dst, and the place after their digits.
+// The next m samples to the front of dst, and the place after their digits. The digits go to d, and what they write to bytes.
 fn fill_block(
     s: &[u8],
     at: usize,

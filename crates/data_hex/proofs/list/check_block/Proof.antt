@@ -1,13 +1,11 @@
 -- `check_block` meets its contract: the samples of the bytes that were taken.
 -- Assumes nothing.
 use native.Mathlib.Omega.{arith}
-use mathlib.Core.Path.{refl, ap, _∙_}
-use mathlib.Core.Logic.{inr}
+use mathlib.Core.Path.{ap, _∙_}
 use denote.Ref.{now}
 use Rattle.format.specs.Descriptors.{unsigned}
 use Rattle.format.specs.Samples.{Decoded}
 use Rattle.lent_numbers.specs.Widths.{endianBy}
-use Rattle.lent_numbers.proofs.WidthLaws.{enough-is, told-is}
 use Rattle.data_hex.proofs.LoopLaws.{taken-samples}
 use borrow.Author.Needs.{needs}
 use Rattle.data_hex.proofs.list.check_block.Statement.{statement}
@@ -19,8 +17,8 @@ mul-next-bytes c = search needs
 next-bytes-requires : tie.Need-next-bytes-requires
 next-bytes-requires c κs = search needs
 
-check-requires : tie.Need-check-requires
-check-requires c κs = search needs
+value-code-requires : tie.Need-value-code-requires
+value-code-requires c κs = search needs
 
 same-length : tie.Need-same-length
 same-length c = search needs
@@ -32,9 +30,9 @@ returns : tie.Need-returns
 returns c =
     let a = c .before .before .before .before .before .before .before .before .before .before .before .before .args in
     let n = c .before .before .before .before .before .before .next-bytes .ensures in
-    (n .0, λ f. (n .1 f .rest, told-is (c .check .ensures) (enough-is 8 (a .m) _ (inr (inr (inr refl))) (omega arith)) ∙ ap (λ (d : Decoded). d .number) (taken-samples unsigned 8 (endianBy (a .big)) (now (a .s)) (a .m) (a .at) _ _ (omega arith) f (n .1 f))))
+    (n .0, λ f. (n .1 f .rest, c .value-code .ensures ∙ ap (λ (d : Decoded). d .number) (taken-samples unsigned 8 (endianBy (a .big)) (now (a .s)) (a .m) (a .at) _ _ (omega arith) f (n .1 f))))
 
 pub check-block-spec : {M : Type 1} → statement M
 check-block-spec =
     tie.close
-    (tie.spec mul-next-bytes next-bytes-requires check-requires same-length same-length-2 returns)
+    (tie.spec mul-next-bytes next-bytes-requires value-code-requires same-length same-length-2 returns)
