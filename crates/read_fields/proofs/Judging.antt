@@ -1,43 +1,110 @@
 -- Laws of what a line is: fields by number, the fields given, and the judgement along its tests.
 -- Assumes nothing.
-use Prim.Native.Nat.{ℕ, _-_, _≤_, _<_}
+use Prim.Native.Nat.{ℕ, zero, suc, _-_, _≤_, _<_}
 use native.Mathlib.Omega.{arith}
-use mathlib.Core.Path.{_≡_, refl, ap, _∙_}
-use mathlib.Core.Bool.{Bool, true, false, not, _&&_, _||_}
+use mathlib.Core.Path.{_≡_, refl, sym, ap, _∙_}
+use mathlib.Core.Bool.{Bool, true, false, not, _&&_, _||_, and-true}
 use mathlib.Core.List.{List, [], _∷_}
 use mathlib.Core.Option.{Option, none, some}
-use lib.Dec.{ltb}
+use lib.Dec.{ltb, eqb}
 use lib.ListN.{length, take, drop, getD, length-drop}
-use lib.Seq.{take-length}
-use borrow.Author.Tests.{lt-ltb, le-ltb}
+use lib.Seq.{take-length, getD-take}
+use borrow.Author.Tests.{lt-ltb, le-ltb, ltb-true, eqb-true, eqb-false, ne-eqb}
 use Rattle.format.specs.Bytes.{if_then_else_, every, isSome}
 use Rattle.format.specs.Limits.{maxAxes, maxHeader}
 use Rattle.format.specs.Spaces.{maxSpace}
 use Rattle.format.specs.Refusals.{badByte, noMark, notInVersion, repeatedField, outOfOrder, badBackslash}
 use Rattle.format.specs.Pairs.{plain, unmarked, pairMark, LineKind, otherLine, kindOf, unescape}
-use Rattle.format.specs.Fields.{pairsSince, fieldSince, fieldCount, Given, otherField, isRepeated, needsDimension, needsSpace, inOrder}
-use Rattle.format.specs.Descriptors.{descriptor, dimensionOf, spaceSizeOf}
+use Rattle.format.specs.Fields.{FieldRow, fieldTable, noField, fieldAt, spaceBefore, pairsSince, fieldSince, fieldCount, Given, isGiven, dimension, space, spaceDimension, spaceOrigin, spaceDirections, measurementFrame, otherField, isRepeated, needsDimension, needsSpace, inOrder}
+use Rattle.format.specs.Descriptors.{descriptor, mayDescribe, dimensionOf, spaceSizeOf}
 use Rattle.format.specs.Header.{Judged, wrong, right, unescaped, onPair, onField, onKind, judge}
 use Rattle.format.proofs.Descriptors.{descriptor-le}
 use Rattle.read_fields.specs.declared.state.Step.{Step}
-use Rattle.read_fields.specs.States.{flags, described, stepOf, stepped, wrongOf}
+use Rattle.read_fields.specs.States.{flags, spaceFor, described, stepOf, stepped, wrongOf}
 use Rattle.read_fields.proofs.States.{flags-at}
 
 -- ---- the fields given, by number
 
--- the order by the flags
-pub order-by-flags : (f : ℕ) (gs : List Given) {g : List Bool} {axes space : Bool}
-    → axes ≡ needsDimension f → space ≡ needsSpace f → g ≡ flags gs
-    → ((not axes || getD g 0 false) && (not space || (getD g 16 false || getD g 17 false))) ≡ inOrder f gs
-unfolding inOrder
-order-by-flags f gs p q e =
-    rw (e, p, q, flags-at gs 0 (omega arith), flags-at gs 16 (omega arith), flags-at gs 17 (omega arith))
+-- none of these rows is of a field that lies in a space
+abbrev Apart : List FieldRow → Type 0
+Apart [] = Unit
+Apart (r ∷ rs) = (spaceBefore r ≡ false) × Apart rs
 
--- whether a field or its other is given, by the flags
-pub repeated-by-flags : (f : ℕ) (gs : List Given) {g : List Bool} {other : ℕ} → f < fieldCount → other < fieldCount → other ≡ otherField f → g ≡ flags gs
-    → (getD g f false || getD g other false) ≡ isRepeated f gs
+apart-at : (rs : List FieldRow) → Apart rs → (i : ℕ) → spaceBefore (getD rs i noField) ≡ false
+apart-at [] h i = refl
+apart-at (r ∷ rs) h zero = h .0
+apart-at (r ∷ rs) h (suc i) = apart-at rs (h .1) i
+
+-- no field before space does
+pub needs-no-space : (f : ℕ) → f < space → needsSpace f ≡ false
+unfolding fieldAt
+needs-no-space f l =
+    rw (getD-take 16 fieldTable f noField l) at (apart-at (take 16 fieldTable) (refl, (refl, (refl, (refl, (refl, (refl, (refl, (refl, (refl, (refl, (refl, (refl, (refl, (refl, (refl, (refl, tt)))))))))))))))) f)
+
+-- whether dimension is given where the field comes after it
+pub axes-by-flags : (f : ℕ) (gs : List Given) {g : List Bool} {axes : Bool} → axes ≡ needsDimension f → g ≡ flags gs
+    → (not axes || getD g dimension false) ≡ (not (needsDimension f) || isGiven dimension gs)
+axes-by-flags f gs p e = rw (e, p, flags-at gs dimension (omega arith))
+
+-- the order of a field that lies in no space, and of one that does
+module _ (f : ℕ) (gs : List Given) {after : Bool} (a : after ≡ (not (needsDimension f) || isGiven dimension gs)) where
+  pub order-apart : needsSpace f ≡ false → after ≡ inOrder f gs
+  unfolding inOrder
+  order-apart n = a ∙ rw n (sym (and-true (not (needsDimension f) || isGiven dimension gs)))
+
+  pub order-in-space : {g : List Bool} → needsSpace f ≡ true → g ≡ flags gs → (after && (getD g space false || getD g spaceDimension false)) ≡ inOrder f gs
+  unfolding inOrder
+  order-in-space n e = rw (a, n, e, flags-at gs space (omega arith), flags-at gs spaceDimension (omega arith))
+
+-- whether a field or one that says the same is given, by the flags: of a field that is neither space nor space dimension, and of these
+or-same : (x : Bool) → x ≡ (x || x)
+or-same true = refl
+or-same false = refl
+
+pub repeated-alone : (f : ℕ) (gs : List Given) {g : List Bool} → f < fieldCount → (f ≡ space → ⊥) → (f ≡ spaceDimension → ⊥) → g ≡ flags gs
+    → getD g f false ≡ isRepeated f gs
 unfolding isRepeated
-repeated-by-flags f gs {g} {other} l k o e = rw (e, flags-at gs f l, flags-at gs other k, o)
+repeated-alone f gs l n m e = rw (e, flags-at gs f l, ne-eqb f space n, ne-eqb f spaceDimension m) (or-same (isGiven f gs))
+
+pub repeated-either : (f : ℕ) (gs : List Given) {g : List Bool} → space ≤ f → f ≤ spaceDimension → g ≡ flags gs
+    → (getD g space false || getD g spaceDimension false) ≡ isRepeated f gs
+unfolding isRepeated
+repeated-either f gs l m e = rw (e, flags-at gs space (omega arith), flags-at gs spaceDimension (omega arith)) (go (eqb f space) refl)
+  where
+    swap : (x y : Bool) → (x || y) ≡ (y || x)
+    swap true true = refl
+    swap true false = refl
+    swap false true = refl
+    swap false false = refl
+
+    go : (b : Bool) → eqb f space ≡ b → (isGiven space gs || isGiven spaceDimension gs) ≡ (isGiven f gs || isGiven (otherField f) gs)
+    go true q = rw (eqb-true f space q)
+    go false q =
+        let n = eqb-false f space q in
+        let i : f ≡ spaceDimension = omega arith in
+        rw i (swap (isGiven space gs) (isGiven spaceDimension gs))
+
+-- ---- the space as it is handed on
+
+-- it has no more dimensions than the space
+pub space-for-le : (f : ℕ) {m : ℕ} → m ≤ maxSpace → spaceFor f m ≤ maxSpace
+unfolding spaceFor
+space-for-le f {m} h = go (ltb f space)
+  where
+    go : (b : Bool) → (if b then 0 else m) ≤ maxSpace
+    go true = omega arith
+    go false = h
+
+-- a descriptor is judged by it as by the space
+pub described-for : (n m f : ℕ) (t : List ℕ) → described n (spaceFor f m) f t ≡ described n m f t
+unfolding mayDescribe spaceFor
+described-for n m f t = go (ltb f space) refl
+  where
+    go : (b : Bool) → ltb f space ≡ b → described n (if b then 0 else m) f t ≡ described n m f t
+    go true e =
+        let l = ltb-true f space e in
+        rw (ne-eqb f spaceOrigin (λ q. let z : ⊥ = omega arith in z), ne-eqb f spaceDirections (λ q. let z : ⊥ = omega arith in z), ne-eqb f measurementFrame (λ q. let z : ⊥ = omega arith in z))
+    go false e = refl
 
 -- ---- a pair along its tests
 
@@ -124,15 +191,15 @@ module _ (version : ℕ) (gs : List Given) (f : ℕ) (rest : List ℕ) where
     unfolding onField
     field-here g o = rw (le-ltb version (fieldSince f) n, g, o)
 
--- a field that comes here, by what `take_field` answers of its descriptor t in a header of dimension k and a space of dimension m
+-- a field that comes here, by what `take_field` answers of its descriptor t in a header of dimension k, with m handed on for the space
 pub take-known : (version : ℕ) (gs : List Given) (f : ℕ) (rest ns : List ℕ) {k m : ℕ} {t : List ℕ} {x : Step × List ℕ}
-    → k ≡ dimensionOf gs → m ≡ spaceSizeOf gs → t ≡ descriptor f rest → length rest ≤ maxHeader → dimensionOf gs ≤ maxAxes → spaceSizeOf gs ≤ maxSpace
+    → k ≡ dimensionOf gs → m ≡ spaceFor f (spaceSizeOf gs) → t ≡ descriptor f rest → length rest ≤ maxHeader → dimensionOf gs ≤ maxAxes → spaceSizeOf gs ≤ maxSpace
     → onField version gs (some f) rest ≡ described (dimensionOf gs) (spaceSizeOf gs) f (descriptor f rest)
     → (k ≤ maxAxes → m ≤ maxSpace → length t ≤ maxHeader → x ≡ stepped (described k m f t) ns) → x ≡ stepped (onField version gs (some f) rest) ns
 take-known version gs f rest ns {k} {m} {t} p q d l a s here taken =
     let short = descriptor-le f rest in
     let size : length t ≤ maxHeader = rw d (omega arith) in
-    rw here (rw (p, q, d) at (taken (rw p a) (rw q s) size))
+    rw here (rw (p, q, d, described-for (dimensionOf gs) (spaceSizeOf gs) f (descriptor f rest)) at (taken (rw p a) (rw q (space-for-le f s)) size))
 
 -- ---- a line by its text
 

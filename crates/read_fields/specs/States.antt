@@ -11,7 +11,7 @@ use Rattle.format.specs.Bytes.{if_then_else_}
 use Rattle.format.specs.Limits.{maxAxes, maxExtent}
 use Rattle.format.specs.Spaces.{maxSpace}
 use Rattle.format.specs.Refusals.{badDescriptor, missingField, extentTooLarge, refusal, fine}
-use Rattle.format.specs.Fields.{Given, given, fieldCount, isGiven, dimension, sizes}
+use Rattle.format.specs.Fields.{Given, given, fieldCount, isGiven, dimension, sizes, space}
 use Rattle.format.specs.Descriptors.{isFromEnd, numberSaid, numberOf, dimensionOf, spaceSizeOf, byteSkipOf, sizesOf, mayDescribe, hasNeeded, endIsRaw, extentOf}
 use Rattle.format.specs.Header.{Judged, wrong, right, field, fieldOf, closes, Outcome, refused, accepted, headerLength}
 use Rattle.format.specs.Calls.{noReading, padded, readingAt}
@@ -30,6 +30,10 @@ flags gs = each (λ f. isGiven f gs) 0 fieldCount
 -- the number of each field
 abbrev pub numbersOf : List Given → List ℕ
 numbersOf gs = each (λ f. numberOf f gs) 0 fieldCount
+
+-- the dimension m of the space as it is handed on for the field f: no field before space lies in one
+unfoldable pub spaceFor : ℕ → ℕ → ℕ
+spaceFor f m = if ltb f space then 0 else m
 
 -- what the walk keeps of the fields given: the dimensions are in their ranges, sizes come after dimension, and there is a size for each axis
 pub record Kept (gs : List Given) : Type 0 where

@@ -4,6 +4,7 @@ use format::field;
 use read_text::lines::Kind;
 use read_text::words::Row;
 ghost use mathlib.Core.Path.{_≡_};
+ghost use mathlib.Core.Bool.{not, _||_};
 ghost use mathlib.Core.List.{List};
 ghost use mathlib.Core.Option.{some};
 ghost use Prim.Native.Nat.{ℕ, _+_, _≤_, _<_};
@@ -13,10 +14,11 @@ ghost use Rattle.format.specs.Limits.{maxAxes, maxHeader};
 ghost use Rattle.format.specs.Spaces.{maxSpace};
 ghost use Rattle.format.specs.Refusals.{badByte};
 ghost use Rattle.format.specs.Pairs.{plain, fieldMark, otherLine};
-ghost use Rattle.format.specs.Fields.{Given, fieldCount, otherField, isRepeated, inOrder};
+ghost use Rattle.format.specs.Fields.{Given, fieldCount, isGiven, dimension, isRepeated, needsDimension, inOrder};
+ghost use Rattle.format.specs.Descriptors.{spaceSizeOf};
 ghost use Rattle.format.specs.Header.{wrong, onPair, onField, onKind, judge};
 ghost use Rattle.read_fields.specs.declared.state.Step.{Step};
-ghost use Rattle.read_fields.specs.States.{wrongOf, flags, Known, described, stepOf, stepped};
+ghost use Rattle.read_fields.specs.States.{wrongOf, flags, numbersOf, spaceFor, Known, described, stepOf, stepped};
 
 // A pair: the number of its refusal, or 0.
 fn on_pair(version: u32, key: &[u8], value: &[u8]) -> u32
@@ -37,34 +39,49 @@ fn on_pair(version: u32, key: &[u8], value: &[u8]) -> u32
     0
 }
 
-// Whether the field may come here, by the fields given.
+// Whether dimension is given where the field comes after it.
+fn is_after_dimension(f: usize, given: &[bool; field::COUNT]) -> bool
+    ensures { λ r. ⌜ ((gs : List Given) → now (given .entry) ≡ flags gs → r ≡ (not (needsDimension f) || isGiven dimension gs)) ⌝ }
+{
+    !format_values::fields::needs_dimension(f) | given[field::DIMENSION]
+}
+
+// Whether the field may come here, by the fields given. No field before space lies in a space.
 fn is_in_order(f: usize, given: &[bool; field::COUNT]) -> bool
     ensures { λ r. ⌜ ((gs : List Given) → now (given .entry) ≡ flags gs → r ≡ inOrder f gs) ⌝ }
 {
-    (!format_values::fields::needs_dimension(f) | given[field::DIMENSION])
-        & (!format_values::fields::needs_space(f)
-            | (given[field::SPACE] | given[field::SPACE_DIMENSION]))
-}
-
-// The field that says the same: of space and space dimension the other one, of any other the field itself.
-fn other_field(f: usize) -> usize
-    ensures { λ r. ⌜ r ≡ otherField f ⌝ }
-    ensures below { λ r. ⌜ (f < fieldCount → r < fieldCount) ⌝ }
-{
-    match f {
-        field::SPACE => field::SPACE_DIMENSION,
-        field::SPACE_DIMENSION => field::SPACE,
-        _ => f,
+    if f < field::SPACE {
+        return is_after_dimension(f, given);
     }
+    if format_values::fields::needs_space(f) {
+        return is_after_dimension(f, given) & (given[field::SPACE] | given[field::SPACE_DIMENSION]);
+    }
+    is_after_dimension(f, given)
 }
 
-// Whether the field is given already, or one that says the same.
+// Whether the field is given already, or one that says the same: space and space dimension do.
+// The fields before space, which every header has, come first here, in `is_in_order` and in `space_for`: the compiler then tests once for all three.
 fn is_repeated(f: usize, given: &[bool; field::COUNT]) -> bool
     requires { ⌜ f < fieldCount ⌝ }
     ensures { λ r. ⌜ ((gs : List Given) → now (given .entry) ≡ flags gs → r ≡ isRepeated f gs) ⌝ }
 {
-    let other = other_field(f);
-    given[f] | given[other]
+    if f < field::SPACE {
+        return given[f];
+    }
+    if f <= field::SPACE_DIMENSION {
+        return given[field::SPACE] | given[field::SPACE_DIMENSION];
+    }
+    given[f]
+}
+
+// The dimension of the space for the field: 0 for a field before space, whose descriptor does not depend on it.
+fn space_for(f: usize, given: &[bool; field::COUNT], numbers: &[u32; field::COUNT]) -> u32
+    ensures { λ r. ⌜ ((gs : List Given) → now (given .entry) ≡ flags gs → now (numbers .entry) ≡ numbersOf gs → r ≡ spaceFor f (spaceSizeOf gs)) ⌝ }
+{
+    if f < field::SPACE {
+        return 0;
+    }
+    crate::state::space_size(given, numbers)
 }
 
 // The step of a line that gives no field and does not close: the number of its refusal, 0 where it is right.
@@ -125,7 +142,7 @@ fn on_known(
         return without_field(format::OUT_OF_ORDER);
     }
     let dimension = numbers[field::DIMENSION];
-    let space = crate::state::space_size(given, numbers);
+    let space = space_for(f, given, numbers);
     take_field(
         f,
         read_descriptors::place::descriptor_of(f, rest),

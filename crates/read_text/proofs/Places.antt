@@ -5,16 +5,17 @@ use native.Mathlib.Nat.{zero-add, add-zero, le-of-suc-le-suc, not-suc-le-zero}
 use native.Mathlib.Numerals.{add-one, one-add}
 use native.Mathlib.Omega.{arith}
 use mathlib.Core.Path.{_≡_, refl, sym, ap, _∙_, subst}
-use mathlib.Core.Bool.{Bool, true, false, _&&_, _||_, and-assoc, false≢true}
+use mathlib.Core.Bool.{Bool, true, false, _&&_, _||_, and-assoc, and-true, false≢true}
 use mathlib.Core.List.{List, [], _∷_, _++_}
 use lib.Dec.{eqb}
 use lib.ListN.{length, take, drop, getD, length-append, length-drop, take-append-drop, drop-of-length-le}
-use lib.Seq.{drop-cons, take-length, length-take-le, take-suc, take-at, drop-append-add}
+use lib.Seq.{drop-cons, drop-drop, take-length, length-take-le, take-suc, take-at, drop-append-add}
 use borrow.Author.Tests.{eq-eqb, ne-eqb, eqb-true}
 use Rattle.format.specs.Bytes.{LF, CR, TAB, SPACE, COLON, EQUALS, spaceOrTab, every, same, beginsWith, if_then_else_}
 use Rattle.format.specs.Lines.{lf, crlf, eof, line, size, extend, lines}
 use Rattle.format.specs.Pairs.{Marked, unmarked, fieldMark, pairMark, moreBefore, firstMark, mark, LineKind, emptyLine, commentLine, otherLine, kindOf}
 use Rattle.format.specs.Words.{trimFront, trimByte, trimEnd}
+use Rattle.format.proofs.Bytes.{and-right}
 use Rattle.format.proofs.Lines.{NoLF, no-lf-nil, no-lf-cons, no-lf-head, no-lf-tail, lines-eof}
 use Rattle.format.proofs.Marks.{Parts, mark-parts, mark-of-kind}
 use Rattle.read_text.specs.declared.lines.Kind.{Kind}
@@ -115,6 +116,52 @@ module _ (p : ℕ → Bool) (s : List ℕ) (i : ℕ) where
   pub every-step : (fine r : Bool) → i < length s → r ≡ p (getD s i 0)
       → every p s ≡ (fine && every p (drop i s)) → every p s ≡ (fine && r && every p (drop (i + 1) s))
   every-step fine r l e h = h ∙ rw (every-next l, e, and-assoc)
+
+module _ (p : ℕ → Bool) where
+  -- a turn of a loop over the bytes from `at` on: `fine` says that j of them pass, `r` that the next one does
+  pub block-step : (s : List ℕ) (at j : ℕ) (fine r : Bool) → at + j < length s → r ≡ p (getD s (at + j) 0)
+      → every p (drop at s) ≡ (fine && every p (drop (at + j) s)) → every p (drop at s) ≡ (fine && r && every p (drop (at + (j + 1)) s))
+  block-step s at j fine r l e h =
+      let q : at + (j + 1) ≡ at + j + 1 = omega arith in
+      h ∙ rw (every-next p s (at + j) l, e, q, and-assoc)
+
+  -- where all bytes pass, those from i on do
+  every-drop : (s : List ℕ) (i : ℕ) → every p s ≡ true → every p (drop i s) ≡ true
+  unfolding every
+  every-drop s zero h = h
+  every-drop [] (suc i) h = refl
+  every-drop (b ∷ s) (suc i) h = every-drop s i (and-right (p b) (every p s) h)
+
+  -- where all pass if those from i on do, the same goes for those from an earlier place on
+  every-from : (s : List ℕ) (k i : ℕ) → k ≤ i → every p s ≡ every p (drop i s) → every p (drop k s) ≡ every p s
+  every-from s k i l h = go (every p s) (every p (drop k s)) refl refl
+    where
+      later : every p (drop k s) ≡ true → every p s ≡ true
+      later e =
+          let q : k + (i - k) ≡ i = omega arith in
+          h ∙ rw (drop-drop (i - k) k s, q) at (every-drop (drop k s) (i - k) e)
+
+      go : (x y : Bool) → every p s ≡ x → every p (drop k s) ≡ y → y ≡ x
+      go true y e f = sym f ∙ every-drop s k e
+      go false true e f = sym (later f) ∙ e
+      go false false e f = refl
+
+  -- two blocks of 8 bytes, one after the other
+  pub blocks-both : (s : List ℕ) (at : ℕ) (a b : Bool)
+      → every p (drop at s) ≡ (a && every p (drop (at + 8) s)) → every p (drop (at + 8) s) ≡ (b && every p (drop (at + 8 + 8) s))
+      → every p (drop at s) ≡ ((a && b) && every p (drop (at + 16) s))
+  blocks-both s at a b h k = let q : at + 8 + 8 ≡ at + 16 = omega arith in h ∙ rw (k, q, and-assoc)
+
+  -- the last block of a text, which starts at k: those before i pass, and k is not past it; the same with a block at i before it
+  module _ (s : List ℕ) (k : ℕ) (r : Bool) (l : length s ≤ k + 8) (e : every p (drop k s) ≡ (r && every p (drop (k + 8) s))) where
+    pub last-block : (i : ℕ) → k ≤ i → every p s ≡ every p (drop i s) → r ≡ every p s
+    last-block i m h =
+        let q : every p (drop k s) ≡ r = e ∙ rw (every-end p s (k + 8) l) (and-true r) in
+        sym q ∙ every-from s k i m h
+
+    pub last-blocks : (i : ℕ) (a : Bool) → k ≤ i + 8 → every p s ≡ every p (drop i s) → every p (drop i s) ≡ (a && every p (drop (i + 8) s)) → (a && r) ≡ every p s
+    last-blocks i true m h f = last-block (i + 8) m (h ∙ f)
+    last-blocks i false m h f = sym (h ∙ f)
 
 -- texts of different lengths are not the same
 pub same-lengths : (a b : List ℕ) → (length a ≡ length b → ⊥) → same a b ≡ false

@@ -1,6 +1,6 @@
 // Searches and tests over bytes.
 ghost use mathlib.Core.Path.{_≡_};
-ghost use mathlib.Core.Bool.{false};
+ghost use mathlib.Core.Bool.{false, _&&_};
 ghost use Prim.Native.Nat.{_+_, _≤_};
 ghost use lib.ListN.{length, drop};
 ghost use Rattle.format.specs.Bytes.{every, same, beginsWith};
@@ -54,8 +54,43 @@ pub fn is_plain_byte(b: u8) -> bool
     b <= 126
 }
 
-// Whether all bytes are plain. No early exit, so that the compiler makes vector code of the loop.
-pub fn is_plain(s: &[u8]) -> bool
+// Whether the 8 bytes from `at` on are plain. The compiler makes vector code of the loop.
+fn plain_block(s: &[u8], at: usize) -> bool
+    requires { ⌜ at + 8 ≤ length (now s) ⌝ }
+    ensures { λ r. ⌜ every plain (drop at (now (s .entry))) ≡ (r && every plain (drop (at + 8) (now (s .entry)))) ⌝ }
+{
+    let mut fine = true;
+    let mut j: usize = 0;
+    while j < 8 {
+        fine = fine & is_plain_byte(s[at + j]);
+        j += 1;
+    }
+    fine
+}
+
+// The same of 16 bytes: both halves are tested, with no branch between them.
+fn plain_pair(s: &[u8], at: usize) -> bool
+    requires { ⌜ at + 16 ≤ length (now s) ⌝ }
+    ensures { λ r. ⌜ every plain (drop at (now (s .entry))) ≡ (r && every plain (drop (at + 16) (now (s .entry)))) ⌝ }
+{
+    plain_block(s, at) & plain_block(s, at + 8)
+}
+
+// Whether all bytes are plain where those before i are and at most 16 are left. The last block ends with the last byte and may overlap the one before it, so that no bytes are left for a
+// slower loop.
+fn plain_end(s: &[u8], i: usize) -> bool
+    requires { ⌜ (8 ≤ length (now s)) × (i ≤ length (now s)) × (length (now s) ≤ i + 16) ⌝ }
+    ensures { λ r. ⌜ (every plain (now (s .entry)) ≡ every plain (drop i (now (s .entry))) → r ≡ every plain (now (s .entry))) ⌝ }
+{
+    let last = s.len() - 8;
+    if last <= i {
+        return plain_block(s, last);
+    }
+    plain_block(s, i) & plain_block(s, last)
+}
+
+// Whether all bytes of a short text are plain, one by one.
+fn plain_short(s: &[u8]) -> bool
     ensures { λ r. ⌜ r ≡ every plain (now (s .entry)) ⌝ }
 {
     let mut fine = true;
@@ -65,6 +100,24 @@ pub fn is_plain(s: &[u8]) -> bool
         i += 1;
     }
     fine
+}
+
+// Whether all bytes are plain.
+pub fn is_plain(s: &[u8]) -> bool
+    ensures { λ r. ⌜ r ≡ every plain (now (s .entry)) ⌝ }
+{
+    let n = s.len();
+    if n < 8 {
+        return plain_short(s);
+    }
+    let mut i: usize = 0;
+    while 16 < n - i {
+        if !plain_pair(s, i) {
+            return false;
+        }
+        i += 16;
+    }
+    plain_end(s, i)
 }
 
 // Whether the two hold the same bytes.

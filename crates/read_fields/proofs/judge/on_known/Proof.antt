@@ -52,8 +52,8 @@ returns-3 c gs h l =
 element-copy-out-dimension : tie.Need-element-copy-out-dimension
 element-copy-out-dimension c = search needs
 
-space-size-requires : tie.Need-space-size-requires
-space-size-requires c κs = search needs
+space-for-requires : tie.Need-space-for-requires
+space-for-requires c κs = search needs
 
 descriptor-of-requires : tie.Need-descriptor-of-requires
 descriptor-of-requires c κs = search needs
@@ -69,7 +69,7 @@ returns-4 c gs h l =
     let new = sym (c .before .before .before .before .before .before .before .before .is-repeated .ensures gs (h .marks-are)) ∙ c .before .before .before .before .before .before .before .if2 .left in
     let order = sym (c .before .before .before .before .before .before .is-in-order .ensures gs (h .marks-are)) ∙ not-false _ (c .before .before .before .before .before .if3 .left) in
     let axes = number-of gs (h .numbers-are) dimension (omega arith) in
-    let size = c .before .before .before .space-size .ensures gs (h .marks-are) (h .numbers-are) in
+    let size = c .before .before .before .space-for .ensures gs (h .marks-are) (h .numbers-are) in
     let d = c .before .before .descriptor-of .ensures in
     take-known (a .version) gs (a .f) (a .rest .now) ns axes size d l (h .axes) (h .spaces) (field-here (a .version) gs (a .f) (a .rest .now) n new order) (c .take-field .ensures)
 
@@ -87,7 +87,7 @@ on-known-spec =
     without-field-requires-3
     returns-3
     element-copy-out-dimension
-    space-size-requires
+    space-for-requires
     descriptor-of-requires
     take-field-requires
     returns-4)

@@ -1,32 +1,39 @@
 -- `read_text::bytes::is_plain` meets its contract.
--- The loop's invariant: all bytes are plain if and only if `fine` holds and those from i on are plain.
+-- The loop's invariant: all bytes are plain if and only if those from i on are.
 -- Assumes nothing.
 use borrow.Author.Needs.{needs}
 use mathlib.Core.Path.{_≡_, sym, _∙_}
-use mathlib.Core.Bool.{_&&_, and-true}
 use Prim.Native.Nat.{_≤_, _-_}
-use native.Mathlib.Omega.{arith}
 use lib.ListN.{length, drop}
+use borrow.Author.Tests.{not-true, not-false}
 use Rattle.format.specs.Bytes.{every}
 use Rattle.format.specs.Pairs.{plain}
-use Rattle.read_text.proofs.Places.{every-step, every-end}
 use Rattle.read_text.proofs.bytes.is_plain.Statement.{statement}
 use Rattle.read_text.proofs.bytes.is_plain.Tie as tie
 
 abbrev Inv-loop : tie.InvT-loop
-Inv-loop s fine₀ i₀ fine i = (i ≤ length s) × (every plain s ≡ (fine && every plain (drop i s)))
+Inv-loop s n i₀ i = (i ≤ length s) × (every plain s ≡ every plain (drop i s))
 
 abbrev μ-loop : tie.MeasureT-loop
-μ-loop s fine₀ i₀ fine i = length s - i
+μ-loop s n i₀ i = length s - i
+
+plain-short-requires : tie.Need-plain-short-requires Inv-loop μ-loop
+plain-short-requires c κs = search needs
+
+returns : tie.Need-returns Inv-loop μ-loop
+returns c = search needs
 
 loop-holds : tie.Need-loop-holds Inv-loop μ-loop
 loop-holds c = search needs
 
-shared-slice-read-is-plain-byte : tie.Need-shared-slice-read-is-plain-byte Inv-loop μ-loop
-shared-slice-read-is-plain-byte c = search needs
+sub-loop : tie.Need-sub-loop Inv-loop μ-loop
+sub-loop c = search needs
 
-is-plain-byte-requires : tie.Need-is-plain-byte-requires Inv-loop μ-loop
-is-plain-byte-requires c κs = search needs
+plain-pair-requires : tie.Need-plain-pair-requires Inv-loop μ-loop
+plain-pair-requires c κs = search needs
+
+returns-2 : tie.Need-returns-2 Inv-loop μ-loop
+returns-2 c = sym (c .before .before .before .loop .inv .1 ∙ c .before .plain-pair .ensures ∙ rw (not-true (c .before .plain-pair .result) (c .if2 .taken)))
 
 add-i : tie.Need-add-i Inv-loop μ-loop
 add-i c = search needs
@@ -36,16 +43,14 @@ loop-less c = search needs
 
 loop-again : tie.Need-loop-again Inv-loop μ-loop
 loop-again c =
-    let l = c .before .before .before .loop in
-    let s = c .before .before .before .before .before .args .s .now in
-    let p = c .is-plain-byte in
-    (search needs, every-step plain s (l .i) (l .fine) (p .result) (omega arith) (p .ensures) (l .inv .1))
+    let b = c .before .plain-pair in
+    (search needs, c .before .before .before .loop .inv .1 ∙ b .ensures ∙ rw (not-false (b .result) (c .if2 .left)))
 
-returns : tie.Need-returns Inv-loop μ-loop
-returns c =
-    let l = c .before .loop in
-    let s = c .before .before .before .args .s .now in
-    sym (l .inv .1 ∙ rw (every-end plain s (l .i) (omega arith)) (and-true (l .fine)))
+plain-end-requires : tie.Need-plain-end-requires Inv-loop μ-loop
+plain-end-requires c κs = search needs
+
+returns-3 : tie.Need-returns-3 Inv-loop μ-loop
+returns-3 c = c .plain-end .ensures (c .before .before .loop .inv .1)
 
 pub is-plain-spec : {M : Type 1} → statement M
 is-plain-spec =
@@ -53,10 +58,14 @@ is-plain-spec =
     (tie.spec
     Inv-loop
     μ-loop
+    plain-short-requires
+    returns
     loop-holds
-    shared-slice-read-is-plain-byte
-    is-plain-byte-requires
+    sub-loop
+    plain-pair-requires
+    returns-2
     add-i
     loop-less
     loop-again
-    returns)
+    plain-end-requires
+    returns-3)
