@@ -73,9 +73,9 @@ $(BUILD)/tokens: tests/tokens.c $(TESTS)
 	@mkdir -p $(BUILD)
 	$(CC) $(STRICT) $(CFLAGS) -pthread -Iinclude tests/tokens.c $(ARCHIVE) -o $@
 
-$(BUILD)/empty: tests/empty.c $(TESTS)
+$(BUILD)/empty $(BUILD)/digits: $(BUILD)/%: tests/%.c $(TESTS)
 	@mkdir -p $(BUILD)
-	$(CC) $(STRICT) $(SANITIZE) -Iinclude tests/empty.c $(ARCHIVE) -o $@
+	$(CC) $(STRICT) $(SANITIZE) -Iinclude $< $(ARCHIVE) -o $@
 
 # the input of the programs that the gate runs
 $(BUILD)/inputs: $(wildcard tests/frames/*.c) tests/bytes.c tests/json.c tests/model.c $(wildcard tests/frames/*.h) $(HEADERS)
@@ -93,7 +93,7 @@ $(BUILD)/%: examples/%.c examples/files.h include/craneholt.h $(ARCHIVE)
 	@mkdir -p $(BUILD)
 	$(CC) $(STRICT) $(CFLAGS) -Iinclude $< $(ARCHIVE) -o $@
 
-check: $(BUILD)/vectors $(BUILD)/vectors_model $(BUILD)/inputs $(BUILD)/listing $(LISTING) $(BUILD)/peers $(BUILD)/empty $(BUILD)/random $(BUILD)/strtod $(BUILD)/tokens $(BUILD)/correct $(BUILD)/merge $(BUILD)/poses
+check: $(BUILD)/vectors $(BUILD)/vectors_model $(BUILD)/inputs $(BUILD)/listing $(LISTING) $(BUILD)/peers $(BUILD)/empty $(BUILD)/digits $(BUILD)/random $(BUILD)/strtod $(BUILD)/tokens $(BUILD)/correct $(BUILD)/merge $(BUILD)/poses
 	$(BUILD)/vectors tests/vectors
 	$(BUILD)/vectors tests/vectors/w1 before-w2
 	$(BUILD)/vectors tests/vectors/base before-w1
@@ -104,6 +104,7 @@ check: $(BUILD)/vectors $(BUILD)/vectors_model $(BUILD)/inputs $(BUILD)/listing 
 	$(BUILD)/listing $(LISTING) $(BUILD)
 	$(BUILD)/peers tests/peers
 	$(BUILD)/empty
+	$(BUILD)/digits
 	$(BUILD)/random
 	$(BUILD)/strtod
 	$(BUILD)/tokens

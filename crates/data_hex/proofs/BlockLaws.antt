@@ -311,7 +311,7 @@ first-of j m t c d h l e = ap (take j) e ∙ take-append-le j (take m t) (drop m
 length-of : (m : ℕ) (t c d : List ℕ) → m ≤ length t → length t ≡ length c → d ≡ take m t ++ drop m c → length d ≡ length c
 length-of m t c d l n e = ap length e ∙ omega (arith, length-append (take m t) (drop m c), length-take-le m t l, length-drop m c)
 
--- the bytes of the digits that are gathered, as many 16 bytes as k says
+-- the bytes of the digits that are gathered, k blocks of 16
 pub taken :
     (s : List ℕ) (at j e : ℕ) (d v c b : List ℕ) (k : ℕ) → j ≤ 16 * k → 32 * k ≤ length d → Moved s at e [] 0 d (2 * j) → v ≡ take (32 * k) (map digitValue d) ++ drop (32 * k) d
     → b ≡ take (16 * k) (pairsOf v) ++ drop (16 * k) c → Taken s at j b e

@@ -34,7 +34,7 @@ fn is_run(s: &[u8], at: usize, room: usize) -> bool
     false
 }
 
-// 32 digits with no blank between them, 8 at a time. The compiler makes one load and one store of each turn.
+// 32 digits with no blank between them, 8 at a time, of which the compiler makes moves of 16 bytes.
 fn copy(s: &[u8], at: usize, d: &mut [u8], o: usize)
     requires { ⌜ at + 32 ≤ length (now s) ⌝ }
     requires { ⌜ o + 32 ≤ length (now d) ⌝ }
@@ -49,7 +49,7 @@ fn copy(s: &[u8], at: usize, d: &mut [u8], o: usize)
 }
 
 // Whether the 48 bytes from a place on are two above 32 and one of at most 32, 16 times.
-// The shorter test is enough where the next wanted byte that is no blank is a digit: a byte of at most 32 before it is a blank.
+// That is enough where all digits that are wanted are there: a byte of at most 32 before one of them is a blank.
 fn blanks_third(s: &[u8], at: usize) -> bool
     requires { ⌜ at + 48 ≤ length (now s) ⌝ }
     ensures { λ r. ⌜ (r ≡ true → Spaced (now (s .entry)) at 48) ⌝ }
@@ -247,7 +247,7 @@ pub(crate) fn next_bytes(s: &[u8], at: usize, j: usize, d: &mut [u8], bytes: &mu
     ensures { λ r. ⌜ (Enough (now (s .entry)) at j → Taken (now (s .entry)) at j (now (bytes .exit)) r) ⌝ }
 {
     let next = gather(s, at, 2 * j, d);
-    // as many 16 bytes as have these j
+    // how many blocks of 16 bytes hold these j
     let k = (j + 15) / 16;
     make_values(d, k);
     make_bytes(d, bytes, k);

@@ -60,7 +60,7 @@ fn is_in_order(f: usize, given: &[bool; field::COUNT]) -> bool
 }
 
 // Whether the field is given already, or one that says the same: space and space dimension do.
-// The fields before space, which every header has, come first here, in `is_in_order` and in `space_for`: the compiler then tests once for all three.
+// The fields before space, of which every header has some, come first here, in `is_in_order` and in `space_for`: the compiler then tests once for all three.
 fn is_repeated(f: usize, given: &[bool; field::COUNT]) -> bool
     requires { ⌜ f < fieldCount ⌝ }
     ensures { λ r. ⌜ ((gs : List Given) → now (given .entry) ≡ flags gs → r ≡ isRepeated f gs) ⌝ }

@@ -89,7 +89,7 @@ fn plain_end(s: &[u8], i: usize) -> bool
     plain_block(s, i) & plain_block(s, last)
 }
 
-// Whether all bytes of a short text are plain, one by one.
+// Whether all bytes are plain, one by one, for a text too short for a block.
 fn plain_short(s: &[u8]) -> bool
     ensures { λ r. ⌜ r ≡ every plain (now (s .entry)) ⌝ }
 {
