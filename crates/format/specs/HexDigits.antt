@@ -24,7 +24,7 @@ sameValue none (some w) = false
 sameValue (some v) none = false
 sameValue (some v) (some w) = eqb v w
 
--- The ranges give each digit its value, and no other byte one.
+-- By the ranges exactly the digits have a value, each the one that the text gives it.
 pub record HexDigits : Type 0 where
   -- a test that is computed over all 256 bytes
   pub over-all : everyBelow (λ b. sameValue (hexDigit b) (digitNamed b)) 256 ≡ true

@@ -393,7 +393,7 @@ pub fn definition_laws() -> u64
     0
 }
 
-// The three ranges of hex digits give each digit its value, and no other of the 256 bytes one.
+// Of the 256 bytes exactly the hex digits have a value by the three ranges, and each the right one.
 pub fn hex_digits() -> u64
     ensures { λ r. ⌜ HexDigits ⌝ }
 {
