@@ -1,10 +1,10 @@
-# make            proves the library and makes its archive, target/staticlib/libcraneholt.a
+# make            proves the library and makes its archives, libcraneholt.a and, for the roof rig, libcraneholt_roof.a, in target/staticlib
 # make list FILE=examples/sweep.nrrd   lists a file
-# make check      the tests from C, over the archive
+# make check      the tests from C, over the archives
 # make inputs     makes the input of the programs that the gate runs, and what they must print
 # make peers      lets teem-unu, where it is installed, read files that we write
-# make install    header, archive and pkg-config file under PREFIX
-# make size       the bytes of the archive's code and read-only data, by crate
+# make install    header, archives and pkg-config file under PREFIX
+# make size       the bytes of the library's code and read-only data, by crate
 # make bench      times the calls beside plain C, and beside libteem where it is installed; RUNS=5: the median of five runs; ONLY=hex: these tables
 
 PREFIX  ?= /usr/local
@@ -18,6 +18,8 @@ ONLY    ?=
 
 VERSION = $(shell sed -n 's/^.define CRANEHOLT_VERSION "\(.*\)"/\1/p' include/craneholt.h)
 ARCHIVE = target/staticlib/libcraneholt.a
+ROOF    = target/staticlib/libcraneholt_roof.a
+ARCHIVES = $(ROOF) $(ARCHIVE)
 LISTING = target/bin/listing
 BUILD   = build
 STRICT  = -std=c99 -Wall -Wextra -pedantic -Werror
@@ -25,10 +27,14 @@ SANITIZE = -O1 -g -fsanitize=address,undefined -fno-sanitize-recover=all
 SOURCES = crates.txt $(shell find crates -name '*.rt' -o -name '*.antt')
 
 .PHONY: all list check inputs peers teem-unu install uninstall size bench clean
-all: $(ARCHIVE)
+all: $(ARCHIVES)
 
 $(ARCHIVE): $(SOURCES)
 	@sh tools/prove.sh $(BUILD) staticlib craneholt
+
+# after the library's, since rt works in one folder
+$(ROOF): $(SOURCES) | $(ARCHIVE)
+	@sh tools/prove.sh $(BUILD) staticlib craneholt_roof
 
 $(LISTING): $(SOURCES)
 	@sh tools/prove.sh $(BUILD) check listing
@@ -40,7 +46,7 @@ list: $(LISTING)
 # ---- Tests from C
 
 HEADERS = include/craneholt.h $(wildcard tests/*.h)
-TESTS = $(HEADERS) $(ARCHIVE)
+TESTS = $(HEADERS) $(ARCHIVES)
 
 $(BUILD)/vectors: tests/vectors.c tests/bytes.c tests/json.c tests/model.c $(TESTS)
 	@mkdir -p $(BUILD)
@@ -63,7 +69,7 @@ $(BUILD)/peers $(BUILD)/written: $(BUILD)/%: tests/%.c tests/said.c tests/bytes.
 
 $(BUILD)/random: tests/random.c tests/generate.c tests/model.c $(TESTS)
 	@mkdir -p $(BUILD)
-	$(CC) $(STRICT) $(SANITIZE) -Iinclude tests/random.c tests/generate.c tests/model.c $(ARCHIVE) -o $@
+	$(CC) $(STRICT) $(SANITIZE) -Iinclude tests/random.c tests/generate.c tests/model.c $(ARCHIVES) -o $@
 
 $(BUILD)/strtod: tests/strtod.c tests/generate.c tests/model.c $(TESTS)
 	@mkdir -p $(BUILD)
@@ -71,11 +77,11 @@ $(BUILD)/strtod: tests/strtod.c tests/generate.c tests/model.c $(TESTS)
 
 $(BUILD)/tokens: tests/tokens.c $(TESTS)
 	@mkdir -p $(BUILD)
-	$(CC) $(STRICT) $(CFLAGS) -pthread -Iinclude tests/tokens.c $(ARCHIVE) -o $@
+	$(CC) $(STRICT) $(CFLAGS) -pthread -Iinclude tests/tokens.c $(ARCHIVES) -o $@
 
-$(BUILD)/empty $(BUILD)/digits: $(BUILD)/%: tests/%.c $(TESTS)
+$(BUILD)/empty $(BUILD)/digits $(BUILD)/rows: $(BUILD)/%: tests/%.c $(TESTS)
 	@mkdir -p $(BUILD)
-	$(CC) $(STRICT) $(SANITIZE) -Iinclude $< $(ARCHIVE) -o $@
+	$(CC) $(STRICT) $(SANITIZE) -Iinclude $< $(ARCHIVES) -o $@
 
 # the input of the programs that the gate runs
 $(BUILD)/inputs: $(wildcard tests/frames/*.c) tests/bytes.c tests/json.c tests/model.c $(wildcard tests/frames/*.h) $(HEADERS)
@@ -84,20 +90,23 @@ $(BUILD)/inputs: $(wildcard tests/frames/*.c) tests/bytes.c tests/json.c tests/m
 
 # their answers are the model's, so that it has to agree with the vectors first
 inputs: $(BUILD)/vectors_model $(BUILD)/inputs
-	$(BUILD)/vectors_model tests/vectors
+	$(BUILD)/vectors_model tests/vectors/w4
+	$(BUILD)/vectors_model tests/vectors before-w4
 	$(BUILD)/vectors_model tests/vectors/w1 before-w2
 	$(BUILD)/vectors_model tests/vectors/base before-w1
 	$(BUILD)/inputs tests/vectors tests/frames crates
 
-$(BUILD)/%: examples/%.c examples/files.h include/craneholt.h $(ARCHIVE)
+$(BUILD)/%: examples/%.c examples/files.h include/craneholt.h $(ARCHIVES)
 	@mkdir -p $(BUILD)
-	$(CC) $(STRICT) $(CFLAGS) -Iinclude $< $(ARCHIVE) -o $@
+	$(CC) $(STRICT) $(CFLAGS) -Iinclude $< $(ARCHIVES) -o $@
 
-check: $(BUILD)/vectors $(BUILD)/vectors_model $(BUILD)/inputs $(BUILD)/listing $(LISTING) $(BUILD)/peers $(BUILD)/empty $(BUILD)/digits $(BUILD)/random $(BUILD)/strtod $(BUILD)/tokens $(BUILD)/correct $(BUILD)/merge $(BUILD)/poses
-	$(BUILD)/vectors tests/vectors
+check: $(BUILD)/vectors $(BUILD)/vectors_model $(BUILD)/inputs $(BUILD)/listing $(LISTING) $(BUILD)/peers $(BUILD)/empty $(BUILD)/digits $(BUILD)/rows $(BUILD)/random $(BUILD)/strtod $(BUILD)/tokens $(BUILD)/correct $(BUILD)/merge $(BUILD)/poses $(BUILD)/roof
+	$(BUILD)/vectors tests/vectors/w4
+	$(BUILD)/vectors tests/vectors before-w4
 	$(BUILD)/vectors tests/vectors/w1 before-w2
 	$(BUILD)/vectors tests/vectors/base before-w1
-	$(BUILD)/vectors_model tests/vectors
+	$(BUILD)/vectors_model tests/vectors/w4
+	$(BUILD)/vectors_model tests/vectors before-w4
 	$(BUILD)/vectors_model tests/vectors/w1 before-w2
 	$(BUILD)/vectors_model tests/vectors/base before-w1
 	sh tests/frames/compare.sh $(BUILD)
@@ -105,6 +114,7 @@ check: $(BUILD)/vectors $(BUILD)/vectors_model $(BUILD)/inputs $(BUILD)/listing 
 	$(BUILD)/peers tests/peers
 	$(BUILD)/empty
 	$(BUILD)/digits
+	$(BUILD)/rows
 	$(BUILD)/random
 	$(BUILD)/strtod
 	$(BUILD)/tokens
@@ -124,14 +134,14 @@ peers: teem-unu $(BUILD)/written $(BUILD)/peers
 
 # ---- Install
 
-install: $(ARCHIVE)
+install: $(ARCHIVES)
 	install -d $(DESTDIR)$(PREFIX)/include $(DESTDIR)$(LIBDIR)/pkgconfig
 	install -m 644 include/craneholt.h $(DESTDIR)$(PREFIX)/include/craneholt.h
-	install -m 644 $(ARCHIVE) $(DESTDIR)$(LIBDIR)/libcraneholt.a
+	install -m 644 $(ARCHIVES) $(DESTDIR)$(LIBDIR)
 	sed -e 's|@PREFIX@|$(PREFIX)|' -e 's|@LIBDIR@|$(LIBDIR)|' -e 's|@VERSION@|$(VERSION)|' craneholt.pc.in > $(DESTDIR)$(LIBDIR)/pkgconfig/craneholt.pc
 
 uninstall:
-	rm -f $(DESTDIR)$(PREFIX)/include/craneholt.h $(DESTDIR)$(LIBDIR)/libcraneholt.a
+	rm -f $(DESTDIR)$(PREFIX)/include/craneholt.h $(DESTDIR)$(LIBDIR)/libcraneholt.a $(DESTDIR)$(LIBDIR)/libcraneholt_roof.a
 	rm -f $(DESTDIR)$(LIBDIR)/pkgconfig/craneholt.pc
 
 # ---- Size
@@ -143,9 +153,9 @@ size: $(ARCHIVE)
 
 TEEM = $(shell printf '\043include <teem/nrrd.h>\n' | $(CC) -E -x c - > /dev/null 2>&1 && echo $(BUILD)/teem)
 
-$(BUILD)/bench: bench/bench.c bench/peers.c bench/peers.h bench/timing.h tests/model.c tests/model.h tests/calls.h include/craneholt.h $(ARCHIVE)
+$(BUILD)/bench: bench/bench.c bench/peers.c bench/peers.h bench/timing.h tests/model.c tests/model.h tests/calls.h include/craneholt.h $(ARCHIVES)
 	@mkdir -p $(BUILD)
-	$(CC) $(STRICT) -O3 -Iinclude bench/bench.c bench/peers.c tests/model.c $(ARCHIVE) -o $@
+	$(CC) $(STRICT) -O3 -Iinclude bench/bench.c bench/peers.c tests/model.c $(ARCHIVES) -o $@
 
 $(BUILD)/teem: bench/teem.c bench/timing.h include/craneholt.h $(ARCHIVE)
 	@mkdir -p $(BUILD)

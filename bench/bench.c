@@ -19,6 +19,7 @@ typedef struct {
     uint8_t *file;
     size_t length;
     size_t n; /* samples in a file */
+    size_t width; /* samples in a row of a sweep */
     size_t files;
     size_t starts[CACHED / 100 + 1]; /* of the files, one after the other in `file` */
     int apart; /* each file's result has a place of its own, to be compared; else all have one, which stays in the cache */
@@ -32,6 +33,13 @@ typedef struct {
 } bench;
 
 /* ---- Files ---- */
+
+/* Files of so many samples each. */
+static void set_length(bench *b, size_t n)
+{
+    b->n = n;
+    b->files = n < CACHED ? CACHED / n : 1;
+}
 
 static const char *const type_names[] = {"int8", "uint8", "int16", "uint16", "int32", "uint32", "int64", "uint64"};
 static const char *const encoding_names[] = {"raw", "txt", "hex"};
@@ -134,13 +142,13 @@ static size_t peer_files(void *on)
 
 /* ---- Decoding and writing ---- */
 
-/* Whether the job decodes all samples. */
-static int decodes(bench *b, job *j)
+/* Whether the job answers this, and decodes all samples. */
+static int decodes(bench *b, job *j, size_t answer)
 {
-    size_t total = b->files * b->n;
-    memset(b->list, 1, total * sizeof *b->list);
+    size_t bytes = b->files * b->n * sizeof *b->list;
+    memset(b->list, 1, bytes);
     b->apart = 1;
-    int right = j(b) == total && memcmp(b->list, b->samples, total * sizeof *b->list) == 0;
+    int right = j(b) == answer && memcmp(b->list, b->samples, bytes) == 0;
     b->apart = 0;
     return right;
 }
@@ -162,7 +170,8 @@ static void decode(bench *b, const char *name, size_t line)
         *to++ = 0;
     }
     b->starts[b->files] = (size_t)(to - b->file);
-    must_hold(decodes(b, our_samples) && decodes(b, peer_samples), name);
+    size_t total = b->files * b->n;
+    must_hold(decodes(b, our_samples, total) && decodes(b, peer_samples, total), name);
     compare(name, our_samples, peer_samples, b, b->files);
 }
 
@@ -298,6 +307,111 @@ static void settings(bench *b)
     compare("one byte longer, one shorter", set_twice, move_twice, b, 1);
 }
 
+/* ---- Sweeps ---- */
+
+enum { LARGEST_STEP = 1000 };
+
+/* Stamps that step by 1 to LARGEST_STEP; about halfway the counter runs through its end. */
+static void make_stamps(bench *b)
+{
+    size_t rows = b->n / b->width;
+    make_samples(b);
+    for (size_t i = 0; i < b->files; i++) {
+        uint32_t stamp = 0 - (uint32_t)(rows / 2 * LARGEST_STEP / 2);
+        for (size_t r = 0; r < rows; r++) {
+            b->samples[i * b->n + r * b->width] = stamp;
+            stamp += 1 + (uint32_t)((r + 1) * 7919 % LARGEST_STEP);
+        }
+    }
+}
+
+static size_t offset_of(size_t sweep)
+{
+    return sweep % 256;
+}
+
+static void make_sweeps(bench *b)
+{
+    uint8_t *to = b->file;
+    make_stamps(b);
+    for (size_t i = 0; i < b->files; i++) {
+        b->starts[i] = (size_t)(to - b->file);
+        to += sprintf((char *)to,
+                      "NRRD0004\ntype: uint32\ndimension: 2\nsizes: %zu %zu\nencoding: raw\nendian: little\nutc offset:=%zu\n\n",
+                      b->width, b->n / b->width, offset_of(i));
+        to += peer_data(b, b->samples + i * b->n, to);
+    }
+    b->starts[b->files] = (size_t)(to - b->file);
+}
+
+/* The job answers the samples of the sweeps that have no wrong step, and the sum of their offsets. */
+static size_t our_sweeps(void *on)
+{
+    bench *b = (bench *)on;
+    size_t total = 0;
+    for (size_t i = 0; i < b->files; i++) {
+        craneholt_sweep_answer a = craneholt_sweep(b->file + b->starts[i], b->starts[i + 1] - b->starts[i], list_of(b, i),
+                                                   b->n * sizeof *b->list, LARGEST_STEP);
+        if (a.refusal.number == 0 && !a.wrong)
+            total += b->n + a.offset;
+    }
+    return total;
+}
+
+/* The peer's reader is asked three times: for the sizes, the key and the data. */
+static size_t peer_sweep(const bench *b, const uint8_t *file, size_t length, int64_t *list)
+{
+    static const uint8_t key[] = "utc offset";
+    craneholt_reading r = model_read_header(file, length).reading;
+    craneholt_find_answer value = model_find_key(file, length, key, sizeof key - 1);
+    craneholt_data_answer data = model_data(file, length, NULL, 0);
+    int offset = peer_offset(file + value.start, value.length);
+    if (data.refusal.number != 0 || data.second || r.sampletype != CRANEHOLT_UINT32 || r.dimension != 2 || !value.found || offset < 0)
+        return 0;
+    peer_decode(b, file + data.start, data.length, list);
+    return peer_wrong_row(list, r.sizes[1], r.sizes[0], LARGEST_STEP) == r.sizes[1] ? b->n + (size_t)offset : 0;
+}
+
+static size_t peer_sweeps(void *on)
+{
+    bench *b = (bench *)on;
+    size_t total = 0;
+    for (size_t i = 0; i < b->files; i++)
+        total += peer_sweep(b, b->file + b->starts[i], b->starts[i + 1] - b->starts[i], list_of(b, i));
+    return total;
+}
+
+/* Of at least so many samples, in rows of a width. */
+static void sweep_row(bench *b, size_t samples, size_t width)
+{
+    char name[64];
+    snprintf(name, sizeof name, "rows of %zu", width);
+    b->width = width;
+    set_length(b, (samples + width - 1) / width * width);
+    make_sweeps(b);
+    size_t answer = b->files * b->n;
+    for (size_t i = 0; i < b->files; i++)
+        answer += offset_of(i);
+    must_hold(decodes(b, our_sweeps, answer) && decodes(b, peer_sweeps, answer), name);
+    compare(name, our_sweeps, peer_sweeps, b, b->files);
+}
+
+static void sweeps(bench *b, const char *only)
+{
+    static const size_t samples[] = {100, 100000}, widths[] = {1, 4, 64};
+    static const char *const names[] = {"sweep, 100", "sweep, 100,000"};
+    b->w = 4;
+    b->is_signed = b->big = 0;
+    b->encoding = CRANEHOLT_RAW;
+    for (size_t c = 0; c < sizeof samples / sizeof samples[0]; c++) {
+        if (!strstr(names[c], only))
+            continue;
+        heading(names[c], "C");
+        for (size_t i = 0; i < sizeof widths / sizeof widths[0]; i++)
+            sweep_row(b, samples[c], widths[i]);
+    }
+}
+
 /* The tables with a row for each type. */
 static const struct {
     const char *what, *peer;
@@ -335,11 +449,11 @@ int main(int argc, char **argv)
             if (!strstr(what, only))
                 continue;
             heading(what, parts[i].peer);
-            b.n = counts[c];
-            b.files = b.n < CACHED ? CACHED / b.n : 1;
+            set_length(&b, counts[c]);
             b.encoding = parts[i].encoding;
             each_type(&b, parts[i].make);
         }
+    sweeps(&b, only);
     if (strstr("settings", only))
         settings(&b);
     return EXIT_SUCCESS;

@@ -163,6 +163,32 @@ size_t peer_text(const char *data, size_t n, int w, int is_signed, int64_t *list
     return n;
 }
 
+/* ---- Sweeps ---- */
+
+int peer_offset(const uint8_t *text, size_t length)
+{
+    int offset = 0;
+    for (size_t i = 0; i < length; i++) {
+        if (text[i] < '0' || text[i] > '9' || offset > 25)
+            return -1;
+        offset = 10 * offset + (text[i] - '0');
+    }
+    return length == 0 || offset > 255 ? -1 : offset;
+}
+
+size_t peer_wrong_row(const int64_t *list, size_t rows, size_t width, uint32_t largest)
+{
+    uint32_t before = (uint32_t)list[0];
+    for (size_t r = 1; r < rows; r++) {
+        uint32_t now = (uint32_t)list[r * width];
+        uint32_t step = now - before;
+        if (step - 1 >= largest)
+            return r;
+        before = now;
+    }
+    return rows;
+}
+
 /* ---- Writing ---- */
 
 /* endian is NULL where it is not written */

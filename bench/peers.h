@@ -10,6 +10,12 @@ size_t peer_raw(const uint8_t *data, size_t n, int w, int is_signed, int big, in
 size_t peer_hex(const uint8_t *data, size_t length, size_t n, int w, int is_signed, int big, int64_t *list);
 size_t peer_text(const char *data, size_t n, int w, int is_signed, int64_t *list);
 
+/* The value of digits, 0 to 255; -1 where it is anything else. */
+int peer_offset(const uint8_t *text, size_t length);
+
+/* The first row whose stamp, its first sample, is not 1 to largest after that of the row before it, around the wrap; rows where there is none. */
+size_t peer_wrong_row(const int64_t *list, size_t rows, size_t width, uint32_t largest);
+
 /* The header of an attached file of one axis. Answers its length. */
 size_t peer_write_header(const char *type, size_t n, const char *encoding, const char *endian, uint8_t *out);
 

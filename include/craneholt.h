@@ -2,7 +2,8 @@
  *
  * It reads headers of versions 1 to 5, with their data in the same file (attached) or in a second one (detached), finds the
  * data and decodes integer samples (raw, text, hex). It tells how the array lies in space, in exact decimals. It writes
- * attached files, and headers that say how an array lies in space. It corrects the value of a key in place.
+ * attached files, and headers that say how an array lies in space. It corrects the value of a key in place. It checks the
+ * stamps of the roof rig's sweeps.
  *
  * How the calls work
  * - A call takes bytes and numbers and answers numbers, by value. It allocates nothing, keeps nothing, opens no file, and
@@ -35,7 +36,7 @@
 extern "C" {
 #endif
 
-#define CRANEHOLT_VERSION "1.2"
+#define CRANEHOLT_VERSION "1.3"
 
 /* ---- Limits ---- */
 
@@ -49,6 +50,7 @@ extern "C" {
 #define CRANEHOLT_HEADER_ROOM 512        /* bytes for a written file, with CRANEHOLT_SAMPLE_ROOM for each sample: */
 #define CRANEHOLT_SAMPLE_ROOM 22         /* so much room is always enough */
 #define CRANEHOLT_ORIENTED_ROOM 8192     /* bytes for what craneholt_write_header writes: so much room is always enough */
+#define CRANEHOLT_MAX_STEP   2147483647  /* the largest step that craneholt_sweep can be asked to allow */
 
 /* ---- Refusals ---- */
 
@@ -83,7 +85,9 @@ enum craneholt_refusal_number {
     CRANEHOLT_BAD_KEY          = 24, /* a key that no line can hold: empty, '#' first, bad byte, or with ": " or ":=" */
     CRANEHOLT_BAD_VALUE        = 25, /* a value with a byte that is neither tab, LF nor printable ASCII */
     CRANEHOLT_WRONG_TABLE      = 26, /* the lent line table is not that of the file */
-    CRANEHOLT_WRONG_COUNT      = 27  /* writer: there are not as many samples as the sizes ask for */
+    CRANEHOLT_WRONG_COUNT      = 27, /* writer: there are not as many samples as the sizes ask for */
+    CRANEHOLT_NO_SWEEP         = 28  /* the file is no sweep of the roof rig, its key "utc offset" is missing or is not
+                                        0 to 255 in digits alone, or the largest step is not 1 to CRANEHOLT_MAX_STEP */
 };
 
 /* The line is that of the header (from 1) for the numbers 2 to 12 of a reading, or of the reading that craneholt_write_header
@@ -361,6 +365,30 @@ craneholt_set_answer craneholt_set_key(uint8_t *buffer, size_t buffer_length, si
  * Refuses 22 if the text does not fit (CRANEHOLT_MAX_LISTING bytes are always enough). A file that is refused is no refusal of this call. */
 craneholt_write_answer craneholt_listing(const uint8_t *file, size_t file_length, uint8_t *out, size_t out_length);
 
+/* ---- The roof rig's sweeps ----
+ *
+ * A sweep is an attached file of two axes and type uint32, in any encoding. By the reading of its header it has
+ * `reading.sizes[1]` rows of `reading.sizes[0]` samples each. A row starts with a stamp of a counter that wraps from 4294967295
+ * to 0. The step to a row is its stamp less that of the row before it, around the wrap: `(uint32_t)(after - before)`, so that
+ * from 4294967295 to 0 it is 1. It is right from 1 to the largest step that the caller allows, and wrong otherwise; equal stamps
+ * are a step of 0, which is wrong. The first row has no step. The key `utc offset` has to say the offset: digits alone, zeros in
+ * front as one likes, 0 to 255. The call is in an archive of its own: link with `-lcraneholt_roof`, and with `-lcraneholt` for
+ * the other calls. */
+
+typedef struct craneholt_sweep_answer {
+    craneholt_refusal refusal;
+    uint32_t offset; /* the value of the key: 0 to 255 */
+    uint8_t wrong;   /* 1: a row has a wrong step; else 0 */
+    uint64_t row;    /* the first row that has one, counted from 0: its stamp is sample row * reading.sizes[0]; 0 if none has */
+} craneholt_sweep_answer;
+
+/* The offset of a sweep and the first row with a wrong step; all samples, as craneholt_samples has them, to the front of `list`,
+ * also where a step is wrong; what is past them stays. Refuses as craneholt_samples with no second file, in its order and with its
+ * lines; then 28 if the file is not a sweep, if the last line with the key says no offset or no line has it, or if `largest` is not
+ * 1 to CRANEHOLT_MAX_STEP. A list of as many samples as the product of the two sizes is always enough. */
+craneholt_sweep_answer craneholt_sweep(const uint8_t *file, size_t file_length, void *list, size_t list_length,
+                                       uint64_t largest);
+
 #ifdef __cplusplus
 }
 #endif
@@ -397,6 +425,9 @@ static inline const char *craneholt_sentence(uint32_t number)
     case CRANEHOLT_BAD_VALUE:        return "the value holds a byte that is neither tab, line feed nor printable ASCII";
     case CRANEHOLT_WRONG_TABLE:      return "the line table is not that of the file";
     case CRANEHOLT_WRONG_COUNT:      return "there are not as many samples as the sizes ask for";
+    case CRANEHOLT_NO_SWEEP:         return "the file is not a sweep (attached, uint32, two axes), its key 'utc offset' is "
+                                            "missing or is not 0 to 255 in digits alone, or the largest step is "
+                                            "not 1 to 2,147,483,647";
     default: return "no such refusal";
     }
 }

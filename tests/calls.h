@@ -24,6 +24,7 @@ struct calls {
     craneholt_set_answer (*set_key)(uint8_t *, size_t, size_t, void *, size_t, size_t,
                                     const uint8_t *, size_t, const uint8_t *, size_t);
     craneholt_write_answer (*listing)(const uint8_t *, size_t, uint8_t *, size_t);
+    craneholt_sweep_answer (*sweep)(const uint8_t *, size_t, void *, size_t, uint64_t);
 };
 
 /* the table of craneholt_ or model_ */
@@ -32,7 +33,8 @@ struct calls {
         prefix##_read_header, prefix##_read, prefix##_find_field, prefix##_find_key,        \
         prefix##_copy_value, prefix##_data, prefix##_check_samples, prefix##_samples,       \
         prefix##_sample_number, prefix##_write, prefix##_origin, prefix##_directions,       \
-        prefix##_frame, prefix##_write_header, prefix##_set_key, prefix##_listing           \
+        prefix##_frame, prefix##_write_header, prefix##_set_key, prefix##_listing,          \
+        prefix##_sweep                                                                      \
     }
 
 /* The structs as the archive has them: their sizes, and where members lie. What does not hold does not compile. */
@@ -59,6 +61,10 @@ STRUCT_IS(craneholt_count_answer, 16);
 STRUCT_IS(craneholt_number_answer, 16);
 STRUCT_IS(craneholt_write_answer, 16);
 STRUCT_IS(craneholt_set_answer, 24);
+STRUCT_IS(craneholt_sweep_answer, 24);
+MEMBER_IS(craneholt_sweep_answer, offset, 8);
+MEMBER_IS(craneholt_sweep_answer, wrong, 12);
+MEMBER_IS(craneholt_sweep_answer, row, 16);
 STRUCT_IS(craneholt_decimal, 16);
 MEMBER_IS(craneholt_decimal, power, 8);
 MEMBER_IS(craneholt_decimal, kind, 12);

@@ -38,6 +38,7 @@ int main(void)
     expect("set_key past the buffer", craneholt_set_key(NULL, 0, SIZE_MAX, NULL, 0, SIZE_MAX, NULL, 0, NULL, 0).refusal,
            CRANEHOLT_LENT_TOO_SHORT, 0);
     expect("listing", craneholt_listing(NULL, 0, NULL, 0).refusal, CRANEHOLT_LENT_TOO_SHORT, 0);
+    expect("sweep", craneholt_sweep(NULL, 0, NULL, 0, CRANEHOLT_MAX_STEP).refusal, CRANEHOLT_NO_MAGIC, 1);
     printf("empty: %d passed, %d failed\n", passed, failed);
     return failed != 0;
 }

@@ -70,4 +70,23 @@ last sample: 1 2 3.2999999999999998' \
     "$("$build/poses" poses.nrrd)"
 expect "no pose" "sweep.nrrd: has no space origin, or no space directions" "$("$build/poses" sweep.nrrd 2>&1 || true)"
 
+# the counter of the sample file runs through its end; one step is 500
+expect "steps right" \
+'utc offset: 37
+no row has a wrong step' \
+    "$("$build/roof" roof.nrrd 500)"
+expect "wrong row" \
+'utc offset: 37
+row 4 has a wrong step: 504 after 4, a step of 500' \
+    "$("$build/roof" roof.nrrd 499)"
+refused="the file is not a sweep (attached, uint32, two axes), its key 'utc offset' is missing or is not 0 to 255 in digits alone, or the largest step is not 1 to 2,147,483,647"
+expect "largest step refused" "roof.nrrd: $refused" "$("$build/roof" roof.nrrd 2147483648 2>&1 || true)"
+expect "no sweep" "sweep.nrrd: $refused" "$("$build/roof" sweep.nrrd 500 2>&1 || true)"
+sed 's/^504 /504. /' roof.nrrd > bad.nrrd
+expect "bad sample" \
+    "bad.nrrd: a sample is not a number, is outside its type, or is above 9,223,372,036,854,775,807" \
+    "$("$build/roof" bad.nrrd 500 2>&1 || true)"
+sed 's/^type: /typ: /' roof.nrrd > bad.nrrd
+expect "line of a sweep named" "bad.nrrd:3: no field has this name" "$("$build/roof" bad.nrrd 500 2>&1 || true)"
+
 echo "examples: $passed passed, 0 failed"

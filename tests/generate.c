@@ -307,6 +307,32 @@ uint64_t make_sample(uint64_t type)
     }
 }
 
+/* A step to the next row: small, rarely none, back, or about as large as the largest that can be allowed. */
+static uint32_t make_step(void)
+{
+    if (random_chance(96))
+        return 1 + (uint32_t)random_below(random_chance(50) ? 3 : 9);
+    switch (random_below(4)) {
+    case 0:
+        return 0;
+    case 1:
+        return 2147483646u + (uint32_t)random_below(3);
+    case 2:
+        return ~(uint32_t)random_below(3);
+    default:
+        return (uint32_t)random_bits();
+    }
+}
+
+/* The sample of this number, of samples that are made in their order. */
+static uint64_t next_sample(struct volume *v, uint64_t number)
+{
+    if (!v->sweep || number % v->sizes[0] != 0)
+        return make_sample(v->type);
+    v->stamp += make_step();
+    return v->stamp;
+}
+
 /* ---- lines of a header */
 
 /* What is being made: the volume, the endings its lines get, the fields that stand already. */
@@ -315,6 +341,7 @@ struct maker {
     unsigned carriage_returns; /* percent of the endings */
     unsigned faults;           /* percent of the places between fields */
     int wanted[MODEL_FIELDS], done[MODEL_FIELDS];
+    int offsets; /* lines with the offset of a sweep that are still to stand */
 };
 
 static void put_ending(struct maker *m)
@@ -375,6 +402,26 @@ static void put_pair(struct maker *m)
     put_text(&m->v->file, ":=");
     put_escaped(&m->v->file, &value);
     put_ending(m);
+}
+
+/* The line with the offset of a sweep; rarely one that does not say it. */
+static void put_offset(struct maker *m)
+{
+    static const char *const keys[] = {"UTC offset", "utc offset ", " utc offset", "utc  offset", "utc\\noffset", "utc offse"};
+    static const char *const bad[] = {"", "256", "260", "300", "1000", "4294967295", "4294967296", "4294967301",
+                                      "18446744073709551615", "18446744073709551616", "18446744073709551653", "-1", "-0",
+                                      "+5", " 7", "7 ", "3 7", "3x", "x3", "0x10", "1e2", "1.5", "\\n37", "37\\n", "3\\\\7", "\t9"};
+    struct bytes *file = &m->v->file;
+    put_text(file, random_chance(97) ? "utc offset" : keys[random_below(COUNT(keys))]);
+    put_text(file, ":=");
+    if (random_chance(93)) {
+        put_zeros(file);
+        put_decimal(file, random_chance(10) ? 255 * random_below(2) : random_below(256));
+    } else {
+        put_text(file, bad[random_below(COUNT(bad))]);
+    }
+    put_ending(m);
+    m->offsets--;
 }
 
 /* ---- fields of a header */
@@ -575,17 +622,23 @@ static void put_closing(struct maker *m)
 
 static void put_header(struct volume *v)
 {
-    struct maker m = {v, 0, 0, {0}, {0}};
+    struct maker m = {v, 0, 0, {0}, {0}, 0};
     int field;
     m.carriage_returns = random_chance(60) ? 0 : random_chance(60) ? 100 : 50;
     m.faults = random_chance(80) ? 0 : 15;
+    if (v->sweep && v->version >= 2)
+        m.offsets = random_chance(90) ? 1 : (int)random_below(4);
     put_magic(&m);
     choose_fields(&m);
     while ((field = next_field(&m)) >= 0) {
         put_other_lines(&m);
+        if (m.offsets > 0 && random_chance(20))
+            put_offset(&m);
         put_field(&m, field);
     }
     put_other_lines(&m);
+    while (m.offsets > 0)
+        put_offset(&m);
     put_closing(&m);
     v->header = v->file.length;
 }
@@ -612,12 +665,11 @@ static void put_run(struct bytes *data, size_t most)
     put_any(data, "\t\n\v\f\r   ", random_below(most) + 1);
 }
 
-static void put_token(struct bytes *data, const struct volume *v)
+static void put_token(struct bytes *data, const struct volume *v, uint64_t sample)
 {
     static const char *const bad[] = {"x", "+", "-", "12a", "--1", "+-1", "1.0", "0x1", "99999999999999999999999",
                                       "-99999999999999999999999", "1\0012", "255x", "9223372036854775808",
                                       "-9223372036854775809", "18446744073709551616"};
-    uint64_t sample = make_sample(v->type);
     int negative = model_types[v->type].low < 0 && sample >> 63 != 0;
     if (random_below(1000) < 5) {
         put_text(data, bad[random_below(COUNT(bad))]);
@@ -633,28 +685,28 @@ static void put_token(struct bytes *data, const struct volume *v)
     put_decimal(data, negative ? ~sample + 1 : sample);
 }
 
-static void put_text_data(struct bytes *data, const struct volume *v)
+static void put_text_data(struct bytes *data, struct volume *v)
 {
     if (random_chance(20))
         put_run(data, 4);
     for (uint64_t i = 0; i < v->count; i++) {
         if (i > 0)
             put_run(data, random_chance(80) ? 1 : 4);
-        put_token(data, v);
+        put_token(data, v, next_sample(v, i));
     }
     if (random_chance(50))
         put_run(data, 2);
 }
 
 /* The bytes of the samples; in hex two digits each, with blanks anywhere. */
-static void put_raw_or_hex(struct bytes *data, const struct volume *v)
+static void put_raw_or_hex(struct bytes *data, struct volume *v)
 {
     static const char digits[2][17] = {"0123456789abcdef", "0123456789ABCDEF"};
     unsigned blanks = random_chance(50) ? 0 : random_chance(80) ? 15 : 1;
     unsigned outside = random_chance(90) ? 0 : 3;
     size_t bytes = model_types[v->type].bytes;
     for (uint64_t i = 0; i < v->count; i++) {
-        uint64_t sample = random_chance(outside) ? random_bits() : make_sample(v->type);
+        uint64_t sample = random_chance(outside) ? random_bits() : next_sample(v, i);
         for (size_t k = 0; k < bytes; k++) {
             uint8_t byte = (uint8_t)(sample >> 8 * (v->endian == 1 ? bytes - 1 - k : k));
             if (v->encoding == RAW) {
@@ -749,14 +801,28 @@ static void choose_sizes(struct volume *v)
 {
     static const uint64_t large[] = {65535, 65536, 65537, 4294967295u, 2, 16777216, 1};
     int too_large = random_chance(3), longer = random_chance(3);
-    uint64_t left = longer ? 2048 : 64, most = longer ? 40 : 5;
+    uint64_t left = longer ? 2048 : 64, most = longer ? 40 : v->sweep ? 12 : 5;
     v->dimension = random_chance(85) ? 1 + random_below(4) : 1 + random_below(16);
+    if (v->sweep && random_chance(96))
+        v->dimension = 2;
     v->count = 1;
     for (size_t i = 0; i < v->dimension; i++) {
         v->sizes[i] = too_large ? large[random_below(COUNT(large))] : 1 + random_below(left < most ? left : most);
         v->count *= too_large ? 1 : v->sizes[i];
         left /= too_large ? 1 : v->sizes[i];
     }
+}
+
+/* Some are nearly one: detached, of another type, of version 1, which has no key, or of another dimension. */
+static void choose_sweep(struct volume *v)
+{
+    v->sweep = 1;
+    v->stamp = random_chance(60) ? ~(uint32_t)random_below(20) : (uint32_t)random_bits();
+    v->detached = random_chance(3);
+    if (random_chance(96))
+        v->type = CRANEHOLT_UINT32;
+    if (v->version == 1 && random_chance(80))
+        v->version = 2;
 }
 
 static void choose_volume(struct volume *v)
@@ -766,12 +832,15 @@ static void choose_volume(struct volume *v)
     v->oriented = v->version >= 4 && random_chance(78);
     v->space = 0;
     v->type = (uint32_t)random_below(random_chance(90) ? 8 : MODEL_TYPES);
+    v->detached = random_chance(30);
+    v->sweep = 0;
+    if (random_chance(30))
+        choose_sweep(v);
     v->from_end = random_chance(12);
     v->encoding = v->from_end && random_chance(70) ? RAW : (uint32_t)random_below(MODEL_ENCODINGS);
     v->endian = (uint32_t)random_below(2);
     if ((model_types[v->type].bytes == 1 || v->encoding == TEXT) && random_chance(70))
         v->endian = 2;
-    v->detached = random_chance(30);
     v->line_skip = random_chance(15) ? random_below(4) : 0;
     v->byte_skip = !v->from_end && random_chance(15) ? random_below(6) : 0;
     choose_sizes(v);

@@ -35,6 +35,8 @@ struct volume {
     int from_end; /* the byte skip is -1, and byte_skip 0 */
     int oriented;  /* some of the five fields of the orientation are given */
     size_t space;  /* the dimension of the space given last, 0 before */
+    int sweep;      /* a sweep of the roof rig, or nearly one: a key with an offset, and stamps that step */
+    uint32_t stamp; /* of the row before */
     struct bytes file, second;
     size_t header; /* the length of the header before damage */
 };

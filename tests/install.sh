@@ -9,11 +9,13 @@ cat > "$root/program.c" <<'C'
 int main(void)
 {
     craneholt_read_answer a = craneholt_read_header(NULL, 0);
-    return puts(craneholt_sentence(a.refusal.number)) < 0 || a.refusal.number != CRANEHOLT_NO_MAGIC || a.refusal.line != 1;
+    craneholt_sweep_answer b = craneholt_sweep(NULL, 0, NULL, 0, 1);
+    return puts(craneholt_sentence(a.refusal.number)) < 0 || a.refusal.number != CRANEHOLT_NO_MAGIC || a.refusal.line != 1
+           || b.refusal.number != CRANEHOLT_NO_MAGIC || b.refusal.line != 1;
 }
 C
 cp "$root/program.c" "$root/program.cc"
-flags="-I$root/usr/include -L$root/usr/lib -lcraneholt"
+flags="-I$root/usr/include -L$root/usr/lib -lcraneholt_roof -lcraneholt"
 if command -v pkg-config > /dev/null; then
     flags=$(PKG_CONFIG_PATH="$root/usr/lib/pkgconfig" pkg-config --cflags --libs craneholt)
 fi

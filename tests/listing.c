@@ -18,7 +18,10 @@
 static const struct set {
     const char *folder;
     int files, calls;
-} sets[] = {{"tests/vectors", 150, 78}, {"tests/vectors/w1", 141, 103}, {"tests/vectors/base", 304, 44}};
+} sets[] = {{"tests/vectors/w4", 150, 34},
+            {"tests/vectors", 150, 78},
+            {"tests/vectors/w1", 141, 103},
+            {"tests/vectors/base", 304, 44}};
 
 static const char *program, *work = "build";
 static int passed, failed;

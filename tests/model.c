@@ -1,6 +1,6 @@
 /*
  * A second implementation of every call of craneholt.h, written from the
- * rules of document 01 and of requests W1 and W2 of document 02 alone, to
+ * rules of document 01 and of requests W1, W2 and W4 of document 02 alone, to
  * compare the library with. It is plain and slow on purpose and allocates
  * memory where that is the simplest way. The parts below stand in the order of
  * document 01's sections and cite them; points that the documents leave open
@@ -21,7 +21,9 @@ enum {
     LISTING_LIMIT = 65536  /* bytes of a file that is listed ("Trials") */
 };
 
-static const uint64_t LIMIT32 = 4294967295u; /* refusals 1 and 15, sizes, skips */
+static const uint64_t LIMIT32 = 4294967295u; /* refusals 1 and 15, sizes, skips; where stamps wrap (W4) */
+static const uint64_t OFFSET_LIMIT = 255;    /* refusal 28 (W4) */
+static const uint64_t STEP_LIMIT = 2147483647;
 
 /* ---- What is read, written and corrected: numbers in lent bytes */
 
@@ -93,6 +95,15 @@ static int is_word(const uint8_t *text, size_t length, const char *word)
 static int is_digit(uint8_t byte)
 {
     return byte >= '0' && byte <= '9';
+}
+
+/* True of no bytes too. */
+static int all_digits(const uint8_t *text, size_t length)
+{
+    for (size_t i = 0; i < length; i++)
+        if (!is_digit(text[i]))
+            return 0;
+    return 1;
 }
 
 static int is_space_or_tab(uint8_t byte)
@@ -168,11 +179,8 @@ static int read_exponent(const uint8_t *text, size_t length, int64_t *exponent)
     *exponent = 0;
     if (length == 0)
         return 1;
-    if (lower(text[0]) != 'e' || start >= length)
+    if (lower(text[0]) != 'e' || start >= length || !all_digits(text + start, length - start))
         return 0;
-    for (size_t i = start; i < length; i++)
-        if (!is_digit(text[i]))
-            return 0;
     size = value_of_digits(text + start, length - start);
     *exponent = size < LARGE ? (int64_t)size : LARGE;
     if (text[1] == '-')
@@ -312,7 +320,7 @@ const struct model_field model_fields[MODEL_FIELDS] = {
     {"kinds", NULL, 3, MODEL_PER_AXIS},
 };
 
-enum { FLOAT = 8 }; /* the first type without integer samples */
+enum { UINT32 = 5, FLOAT = 8 }; /* the type of a sweep (W4); the first without integer samples */
 
 /* "Types (bytes)", with the values of each; a uint64 sample is none above
  * 9,223,372,036,854,775,807 (refusal 20) */
@@ -920,11 +928,10 @@ static uint32_t sample_of_token(const craneholt_reading *r, const uint8_t *token
     size_t sign = negative || token[0] == '+';
     uint64_t low = (uint64_t)model_types[r->sampletype].low, high = (uint64_t)model_types[r->sampletype].high;
     uint64_t value, most = negative ? ~low + 1 : high; /* the type's largest without sign; -0 is 0 */
-    for (size_t i = sign; i < length; i++)
-        if (!is_digit(token[i]))
-            return 20;
+    if (length == sign || !all_digits(token + sign, length - sign))
+        return 20;
     value = value_of_digits(token + sign, length - sign);
-    if (length == sign || value > most)
+    if (value > most)
         return 20;
     *sample = as_signed(negative ? ~value + 1 : value);
     return 0;
@@ -1555,4 +1562,64 @@ craneholt_write_answer model_listing(const uint8_t *file, size_t file_length, ui
         put_keys(&text, &h, file);
     }
     return hand_over(text, out, out_length);
+}
+
+/* ---- W4: the roof rig's sweeps */
+
+/* The value of the key; true if it is there with digits alone, and not too large. */
+static int read_offset(const struct header *h, const uint8_t *file, uint64_t *offset)
+{
+    static const char key[] = "utc offset";
+    const struct pair *pair = last_pair(h, file, (const uint8_t *)key, strlen(key));
+    size_t start, length;
+    if (pair == NULL)
+        return 0;
+    start = pair->mark + 2;
+    length = pair->end - start;
+    if (length == 0 || !all_digits(file + start, length))
+        return 0;
+    *offset = value_of_digits(file + start, length);
+    return *offset <= OFFSET_LIMIT;
+}
+
+/* The step to a row from the row before it, around the wrap. */
+static uint64_t step_to(const void *list, uint64_t row, uint64_t width)
+{
+    uint64_t before = load(list, (row - 1) * width, 8), after = load(list, row * width, 8);
+    return after >= before ? after - before : after + LIMIT32 + 1 - before;
+}
+
+/* The first row with a wrong step; 0, as that row has no step, if none has. */
+static uint64_t first_wrong(const void *list, const uint64_t *sizes, uint64_t largest)
+{
+    for (uint64_t row = 1; row < sizes[1]; row++) {
+        uint64_t step = step_to(list, row, sizes[0]);
+        if (step < 1 || step > largest)
+            return row;
+    }
+    return 0;
+}
+
+/* The samples are stored when nothing can be refused any more. */
+craneholt_sweep_answer model_sweep(const uint8_t *file, size_t file_length, void *list, size_t list_length,
+                                   uint64_t largest)
+{
+    struct header h;
+    const craneholt_reading *r = &h.reading;
+    uint64_t offset;
+    craneholt_sweep_answer answer = {{0, 0}, 0, 0, 0};
+    answer.refusal = model_check_samples(file, file_length, NULL, 0, list_length / 8).refusal;
+    if (answer.refusal.number != 0)
+        return answer;
+    read_header(&h, file, file_length);
+    if (r->form != 0 || r->sampletype != UINT32 || r->dimension != 2 || !read_offset(&h, file, &offset) || largest < 1
+        || largest > STEP_LIMIT) {
+        answer.refusal.number = 28;
+        return answer;
+    }
+    model_samples(file, file_length, NULL, 0, list, list_length);
+    answer.offset = (uint32_t)offset;
+    answer.row = first_wrong(list, r->sizes, largest);
+    answer.wrong = answer.row > 0;
+    return answer;
 }

@@ -77,5 +77,7 @@ craneholt_set_answer model_set_key(uint8_t *buf, size_t buf_length, size_t used,
                                    const uint8_t *key, size_t key_length,
                                    const uint8_t *value, size_t value_length);
 craneholt_write_answer model_listing(const uint8_t *file, size_t file_length, uint8_t *out, size_t out_length);
+craneholt_sweep_answer model_sweep(const uint8_t *file, size_t file_length, void *list, size_t list_length,
+                                   uint64_t largest);
 
 #endif

@@ -30,7 +30,7 @@ static struct lent {
     struct part file, second, key, value, out, table, list, coords, sizes, samples, orientation;
     uint32_t field;
     size_t room, used, count;
-    uint64_t version, type, encoding, endian;
+    uint64_t version, type, encoding, endian, largest;
 } lent;
 
 /* The block as lent, and the copies for the library and the model. */
@@ -70,7 +70,7 @@ static void lend_nothing(void)
 
 /* places in the answer of a reading */
 enum {
-    AXES = 4, LENGTH = 27, LINES, FROM_END, ORIGIN_GIVEN, DIRECTIONS_GIVEN, FRAME_GIVEN, SPACE, SPACE_AXES
+    AXES = 4, SIZES = 8, LENGTH = 27, LINES, FROM_END, ORIGIN_GIVEN, DIRECTIONS_GIVEN, FRAME_GIVEN, SPACE, SPACE_AXES
 };
 
 struct answer {
@@ -226,12 +226,18 @@ static struct answer run_listing(const struct calls *calls, uint8_t *b)
     return of_numbers(a.refusal, a.length, 0, 0);
 }
 
+static struct answer run_sweep(const struct calls *calls, uint8_t *b)
+{
+    craneholt_sweep_answer a = calls->sweep(PART(file), PART(list), lent.largest);
+    return of_numbers(a.refusal, a.offset, a.wrong, a.row);
+}
+
 enum call {
     READ_HEADER, READ, FIND_FIELD, FIND_KEY, COPY_VALUE, DATA, CHECK_SAMPLES, SAMPLES,
-    SAMPLE_NUMBER, WRITE, ORIGIN, DIRECTIONS, FRAME, WRITE_HEADER, SET_KEY, LISTING, CALL_COUNT
+    SAMPLE_NUMBER, WRITE, ORIGIN, DIRECTIONS, FRAME, WRITE_HEADER, SET_KEY, LISTING, SWEEP, CALL_COUNT
 };
 
-enum { NUMBERS = 28 }; /* of refusal, and 0 for none */
+enum { NUMBERS = 29 }; /* of refusal, and 0 for none */
 
 static struct {
     const char *name;
@@ -245,6 +251,7 @@ static struct {
     {"origin", run_origin},               {"directions", run_directions},
     {"frame", run_frame},                 {"write_header", run_write_header},
     {"set_key", run_set_key},             {"listing", run_listing},
+    {"sweep", run_sweep},
 };
 
 /* how often each number came from each call: with line 0, with a line */
@@ -258,6 +265,13 @@ static unsigned long from_end[NUMBERS];
 static struct {
     unsigned long spaces, origins, directions, frames, nones, second, bad;
 } oriented;
+
+/* sweeps that are accepted with a largest step that can be allowed: with no wrong step, of these with a counter that ran through
+ * its end, and with a wrong step; files that were made as sweeps and are then refused with 28; sweeps that are refused with 28 for
+ * another largest step */
+static struct {
+    unsigned long right, wrapped, wrong, no_sweeps, no_largest;
+} sweeps;
 
 /* ---- comparing */
 
@@ -440,6 +454,55 @@ static void check_orientation(const struct answer *header)
     oriented.nones += (unsigned long)has_none(directions.numbers[2]);
 }
 
+/* ---- sweeps */
+
+/* A step that can be allowed, small or near the largest. */
+static uint64_t make_largest(void)
+{
+    if (random_chance(60))
+        return 1 + random_below(12);
+    return random_chance(50) ? CRANEHOLT_MAX_STEP - random_below(3) : 1 + random_below(CRANEHOLT_MAX_STEP);
+}
+
+/* Any number, near the bounds or not. */
+static uint64_t any_largest(void)
+{
+    static const uint64_t edges[] = {0, 1, 2147483647, 2147483648u, 4294967295u, 4294967296u, 4294967297u,
+                                     18446744073709551615u};
+    return random_chance(70) ? edges[random_below(sizeof edges / sizeof edges[0])] : random_bits() >> random_below(64);
+}
+
+/* True if the stamp of a row is below that of the row before it. */
+static int has_wrapped(const struct answer *header)
+{
+    uint64_t width = header->numbers[SIZES], rows = header->numbers[SIZES + 1];
+    for (uint64_t row = 1; row < rows; row++) {
+        int64_t before, after;
+        memcpy(&before, ours.at + lent.list.start + 8 * (row - 1) * width, sizeof before);
+        memcpy(&after, ours.at + lent.list.start + 8 * row * width, sizeof after);
+        if (after < before)
+            return 1;
+    }
+    return 0;
+}
+
+/* Twice, with a step that can be allowed and with any, into the list that is lent for the samples. */
+static void check_sweep(const struct answer *header)
+{
+    struct answer sweep;
+    int accepted;
+    lent.largest = make_largest();
+    sweep = check(SWEEP);
+    accepted = sweep.numbers[0] == 0;
+    sweeps.right += accepted && !sweep.numbers[3];
+    sweeps.wrapped += accepted && !sweep.numbers[3] && has_wrapped(header);
+    sweeps.wrong += accepted && sweep.numbers[3];
+    sweeps.no_sweeps += volume.sweep && sweep.numbers[0] == 28;
+    lent.largest = any_largest();
+    sweep = check(SWEEP);
+    sweeps.no_largest += accepted && sweep.numbers[0] == 28;
+}
+
 /* ---- data */
 
 /* True if the byte skip is -1, which is refused with line 0 in text and hex. */
@@ -496,6 +559,7 @@ static struct answer check_file(void)
     check_keys();
     check_orientation(&header);
     check_data(&header);
+    check_sweep(&header);
     check_coordinates();
     check_listing(&header);
     return header;
@@ -957,6 +1021,19 @@ static int print_oriented(uint64_t inputs)
            && oriented.frames > 0 && oriented.second > 0 && oriented.bad > 0;
 }
 
+/* At least one of twelve headers has to be that of an accepted sweep, one of fifty of one without a wrong step, one of fifty of
+ * one with; a counter that runs through its end, and 28 for the file or the key and for the largest step, in one of a hundred. */
+static int print_sweeps(uint64_t inputs)
+{
+    unsigned long sum = sweeps.right + sweeps.wrong;
+    printf("sweeps: %lu headers of %llu (%.1f %%); no wrong step %lu (through the end of the counter %lu), wrong step %lu; "
+           "refused 28 %lu, for the largest step %lu\n",
+           sum, (unsigned long long)inputs, 100.0 * (double)sum / (double)inputs, sweeps.right, sweeps.wrapped, sweeps.wrong,
+           sweeps.no_sweeps, sweeps.no_largest);
+    return 12 * sum >= inputs && 50 * sweeps.right >= inputs && 50 * sweeps.wrong >= inputs && 100 * sweeps.wrapped >= inputs
+           && 100 * sweeps.no_sweeps >= inputs && 100 * sweeps.no_largest >= inputs;
+}
+
 int main(int arguments, char **argument)
 {
     uint64_t first = arguments > 1 ? strtoull(argument[1], NULL, 10) : 0;
@@ -970,6 +1047,10 @@ int main(int arguments, char **argument)
     }
     if (!print_oriented(inputs) && inputs >= ENOUGH) {
         printf("too few headers have an orientation\n");
+        return 1;
+    }
+    if (!print_sweeps(inputs) && inputs >= ENOUGH) {
+        printf("too few files are sweeps, or of one kind\n");
         return 1;
     }
     printf("%llu inputs, no difference\n", (unsigned long long)inputs);

@@ -3,9 +3,10 @@
  * listing/NNN.in with the text NNN.out. With USE_MODEL the model is run in
  * place of the library: it has to agree with the vectors as well. A set from
  * before a request says nothing of what came with it: the byte skip of each
- * reading with W1, the orientation and the header writer with W2.
+ * reading with W1, the orientation and the header writer with W2, the roof
+ * rig's sweeps with W4.
  *
- *     vectors [folder [before-w1 or before-w2]]
+ *     vectors [folder [before-w1, before-w2 or before-w4]]
  */
 #include "bytes.h"
 #include "calls.h"
@@ -22,9 +23,9 @@ static const struct calls calls = CALLS(model);
 static const struct calls calls = CALLS(craneholt);
 #endif
 
-enum { BASE, W1, W2 };
+enum { BASE, W1, W2, W4 };
 
-static int last = W2; /* the last request that the vectors know */
+static int last = W4; /* the last request that the vectors know */
 
 /* ---- bytes */
 
@@ -433,6 +434,27 @@ static int run_header(const struct json *v)
     return right;
 }
 
+/* A list of whole samples, and one with a rest too short for a sample. A row of null is none. */
+static int run_roof(const struct json *v)
+{
+    struct bytes file = hex_member(v, "file");
+    struct bytes want = is_accepted(v) ? of_numbers(expected(v, 3), 8) : filled(0);
+    uint64_t offset = is_accepted(v) ? expected(v, 1)->number : 0;
+    int wrong = is_accepted(v) && expected(v, 2)->kind == JSON_NUMBER;
+    int right = json_member(v, "second")->length == 0;
+    for (size_t rest = 0; rest < 8; rest += 7) {
+        struct bytes list = filled(8 * number_member(v, "room") + rest);
+        craneholt_sweep_answer answer =
+            calls.sweep(file.at, file.length, list.at, list.length, number_member(v, "largest"));
+        right = right && same_refusal(v, answer.refusal) && answer.offset == offset && answer.wrong == wrong
+                && answer.row == (wrong ? expected(v, 2)->number : 0) && holds(list, want);
+        free(list.at);
+    }
+    free(file.at);
+    free(want.at);
+    return right;
+}
+
 static int run_set(const struct json *v)
 {
     struct bytes buffer = hex_member(v, "buffer"), want_buffer = hex_member(v, "expect_buffer");
@@ -500,6 +522,7 @@ static struct operation {
     {"set", run_set, BASE, 0, 0},
     {"listing", run_listing, BASE, 0, 0},
     {"header", run_header, W2, 0, 0},
+    {"roof", run_roof, W4, 0, 0},
 };
 
 enum { OPERATIONS = sizeof operations / sizeof operations[0] };
@@ -570,12 +593,23 @@ static int tell(const struct operation *operation)
     return operation->total > 0 && operation->passed == operation->total;
 }
 
+/* The last request that vectors know which were made before another; ends the program if the word is none of these. */
+static int last_before(const char *word)
+{
+    static const char *const words[] = {"before-w1", "before-w2", "before-w4"}; /* in the order of the requests */
+    for (int request = BASE; request < W4; request++)
+        if (strcmp(words[request], word) == 0)
+            return request;
+    fprintf(stderr, "vectors: before-w1, before-w2 or before-w4, not %s\n", word);
+    exit(2);
+}
+
 int main(int arguments, char **argument)
 {
-    const char *folder = arguments > 1 ? argument[1] : "tests/vectors";
+    const char *folder = arguments > 1 ? argument[1] : "tests/vectors/w4";
     int right;
     if (arguments > 2)
-        last = strcmp(argument[2], "before-w1") == 0 ? BASE : W1;
+        last = last_before(argument[2]);
     run_calls(folder);
     for (int number = 0; number < 1000; number++)
         run_listing_file(folder, number);

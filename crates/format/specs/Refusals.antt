@@ -1,4 +1,4 @@
--- The numbers of refusal by name, in document 01's order ("Numbers of refusal").
+-- The numbers of refusal by name, in the order of document 01 ("Numbers of refusal") and of document 02.
 -- A refusal is one record: its number, and the line at which the reader met it (numbers 2 to 12); 0 where no line is meant,
 -- as for the 11 of a byte skip of -1 with text or hex (document 02, W1).
 use Prim.Native.Nat.{ℕ}
@@ -113,6 +113,10 @@ wrongTable = 26
 abbrev pub wrongCount : ℕ
 wrongCount = 27
 
+-- the file is no sweep of the roof rig, its key `utc offset` is wrong, or the largest step is outside its range (document 02, W4)
+abbrev pub noSweep : ℕ
+noSweep = 28
+
 -- each by its name
 abbrev pub refusalNumbers : RefusalNumbers
 refusalNumbers =
@@ -144,6 +148,7 @@ refusalNumbers =
       badvalue = badValue;
       wrongtable = wrongTable;
       wrongcount = wrongCount;
+      nosweep = noSweep;
     }
 
 -- ---- the record

@@ -109,6 +109,8 @@ pub const WRONG_TABLE: u32 = 26;
 
 pub const WRONG_COUNT: u32 = 27;
 
+pub const NO_SWEEP: u32 = 28;
+
 // Encodings and endians are numbered from 0 as document 01 lists them: those that the code asks for. The types are in `format_values::types`.
 pub const RAW: u32 = 0;
 
@@ -178,6 +180,7 @@ pub struct RefusalNumbers {
     pub badvalue: u32,
     pub wrongtable: u32,
     pub wrongcount: u32,
+    pub nosweep: u32,
 }
 
 // A refusal: its number, and the line at which the reader met it (numbers 2 to 12); 0 where no line is meant, as for the 11 of a byte skip of -1 with text or hex. Number 0: nothing is refused.
@@ -369,6 +372,7 @@ pub fn refusal_numbers() -> RefusalNumbers
         badvalue: BAD_VALUE,
         wrongtable: WRONG_TABLE,
         wrongcount: WRONG_COUNT,
+        nosweep: NO_SWEEP,
     }
 }
 

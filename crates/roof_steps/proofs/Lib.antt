@@ -1,0 +1,3 @@
+-- Laws of stamps and steps.
+pub mod LawsHold
+pub mod Stamps
