@@ -9,6 +9,7 @@ pub mod Decimals
 pub mod Spaces
 pub mod Vectors
 pub mod Columns
+pub mod DataFiles
 pub mod Descriptors
 pub mod Widths
 pub mod Header
@@ -17,6 +18,7 @@ pub mod Samples
 pub mod HexDigits
 pub mod Axes
 pub mod Writer
+pub mod FileNames
 pub mod HeaderWriter
 pub mod Settings
 pub mod Calls

@@ -1,4 +1,4 @@
--- The limits of document 01, and that of document 02 on spaces, each named once.
+-- The limits of document 01, and those of document 02 on spaces and file names, each named once.
 use Prim.Native.Nat.{ℕ, _+_, _*_, min}
 use Rattle.format.specs.declared.Limits.{Limits}
 
@@ -42,6 +42,14 @@ maxVersion = 5
 abbrev pub maxSpace : ℕ
 maxSpace = 8
 
+-- the largest first and last number of a file name pattern, and the largest size of its step (document 02, W5)
+abbrev pub maxFileNumber : ℕ
+maxFileNumber = 4_294_967_295
+
+-- the largest width of a number in such a pattern (document 02, W5)
+abbrev pub maxWidth : ℕ
+maxWidth = 99
+
 -- the largest sample: samples go to a list of signed 64-bit numbers (20)
 abbrev pub maxSample : ℕ
 maxSample = 9_223_372_036_854_775_807
@@ -68,4 +76,4 @@ maxListing = maxReading + maxKeys
 
 abbrev pub limits : Limits
 limits =
-    record { file = maxFile; header = maxHeader; lines = maxLines; axes = maxAxes; size = maxSize; skip = maxSkip; extent = maxExtent; version = maxVersion; space = maxSpace; sample = maxSample; listed = maxListed; listing = maxListing }
+    record { file = maxFile; header = maxHeader; lines = maxLines; axes = maxAxes; size = maxSize; skip = maxSkip; extent = maxExtent; version = maxVersion; space = maxSpace; filenumber = maxFileNumber; width = maxWidth; sample = maxSample; listed = maxListed; listing = maxListing }

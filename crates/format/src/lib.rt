@@ -36,6 +36,11 @@ pub const MAX_SPACE: u64 = 8;
 
 pub const SPACE: usize = MAX_SPACE as usize;
 
+// The largest number of a file name pattern, and the largest width that it pads a number to.
+pub const MAX_FILE_NUMBER: u64 = 4294967295;
+
+pub const MAX_WIDTH: u64 = 99;
+
 pub const MAX_SAMPLE: u64 = 9223372036854775807;
 
 // The listing: the most bytes of a file that is listed, of a reading's lines without those of its keys, of a header, and of a listing.
@@ -146,6 +151,8 @@ pub struct Limits {
     pub extent: u64,
     pub version: u64,
     pub space: u64,
+    pub filenumber: u64,
+    pub width: u64,
     pub sample: u64,
     pub listed: usize,
     pub listing: usize,
@@ -334,6 +341,8 @@ pub fn all_limits() -> Limits
         extent: MAX_EXTENT,
         version: MAX_VERSION,
         space: MAX_SPACE,
+        filenumber: MAX_FILE_NUMBER,
+        width: MAX_WIDTH,
         sample: MAX_SAMPLE,
         listed: MAX_LISTED,
         listing: MAX_LISTING,
