@@ -157,3 +157,10 @@ coverSaid none = none
 coverSaid (some (oneFile t)) = none
 coverSaid (some (numberedFiles p k axes)) = some axes
 coverSaid (some (listedFiles axes)) = some axes
+
+-- the number of the last file of a pattern, counted from 0, and 0 for the other forms
+abbrev pub lastNumbered : Option DataFile → ℕ
+lastNumbered none = 0
+lastNumbered (some (oneFile t)) = 0
+lastNumbered (some (numberedFiles p k axes)) = countNumbered k - 1
+lastNumbered (some (listedFiles axes)) = 0
