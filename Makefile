@@ -90,8 +90,9 @@ $(BUILD)/inputs: $(wildcard tests/frames/*.c) tests/bytes.c tests/json.c tests/m
 
 # their answers are the model's, so that it has to agree with the vectors first
 inputs: $(BUILD)/vectors_model $(BUILD)/inputs
-	$(BUILD)/vectors_model tests/vectors/w4
-	$(BUILD)/vectors_model tests/vectors before-w4
+	$(BUILD)/vectors_model tests/vectors
+	$(BUILD)/vectors_model tests/vectors/w4 before-w5
+	$(BUILD)/vectors_model tests/vectors/w2 before-w4
 	$(BUILD)/vectors_model tests/vectors/w1 before-w2
 	$(BUILD)/vectors_model tests/vectors/base before-w1
 	$(BUILD)/inputs tests/vectors tests/frames crates
@@ -101,12 +102,14 @@ $(BUILD)/%: examples/%.c examples/files.h include/craneholt.h $(ARCHIVES)
 	$(CC) $(STRICT) $(CFLAGS) -Iinclude $< $(ARCHIVES) -o $@
 
 check: $(BUILD)/vectors $(BUILD)/vectors_model $(BUILD)/inputs $(BUILD)/listing $(LISTING) $(BUILD)/peers $(BUILD)/empty $(BUILD)/digits $(BUILD)/rows $(BUILD)/random $(BUILD)/strtod $(BUILD)/tokens $(BUILD)/correct $(BUILD)/merge $(BUILD)/poses $(BUILD)/roof
-	$(BUILD)/vectors tests/vectors/w4
-	$(BUILD)/vectors tests/vectors before-w4
+	$(BUILD)/vectors tests/vectors
+	$(BUILD)/vectors tests/vectors/w4 before-w5
+	$(BUILD)/vectors tests/vectors/w2 before-w4
 	$(BUILD)/vectors tests/vectors/w1 before-w2
 	$(BUILD)/vectors tests/vectors/base before-w1
-	$(BUILD)/vectors_model tests/vectors/w4
-	$(BUILD)/vectors_model tests/vectors before-w4
+	$(BUILD)/vectors_model tests/vectors
+	$(BUILD)/vectors_model tests/vectors/w4 before-w5
+	$(BUILD)/vectors_model tests/vectors/w2 before-w4
 	$(BUILD)/vectors_model tests/vectors/w1 before-w2
 	$(BUILD)/vectors_model tests/vectors/base before-w1
 	sh tests/frames/compare.sh $(BUILD)

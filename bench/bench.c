@@ -1,5 +1,6 @@
 /* Times every call that touches many bytes beside plain C that does the same job, in one run, on the same buffers. Prints
  * microseconds and the ratio ours / peer: below 1 ours is faster. Both results of decoding and of writing are compared first.
+ * Two tables have ours beside ours: names under LIST beside key pairs, and a late name of a pattern beside the first.
  * `make bench` builds and runs it; `make bench ONLY=hex` has the tables with that word in their names only. */
 #define _POSIX_C_SOURCE 200809L
 #include "../tests/calls.h"
@@ -270,6 +271,117 @@ static void headers(bench *b)
     }
 }
 
+/* ---- Data in several files ---- */
+
+enum { NAMES = 1000 };
+
+/* Two headers, and the numbers of two files that the first names. */
+typedef struct {
+    uint8_t file[2][32 * NAMES];
+    size_t length[2];
+    uint64_t early, late;
+    uint8_t name[64];
+} naming;
+
+static size_t our_first(void *on)
+{
+    naming *n = (naming *)on;
+    return craneholt_read_header(n->file[0], n->length[0]).reading.lines;
+}
+
+static size_t our_second(void *on)
+{
+    naming *n = (naming *)on;
+    return craneholt_read_header(n->file[1], n->length[1]).reading.lines;
+}
+
+static size_t peer_first(void *on)
+{
+    naming *n = (naming *)on;
+    return model_read_header(n->file[0], n->length[0]).reading.lines;
+}
+
+static size_t peer_second(void *on)
+{
+    naming *n = (naming *)on;
+    return model_read_header(n->file[1], n->length[1]).reading.lines;
+}
+
+static size_t our_early(void *on)
+{
+    naming *n = (naming *)on;
+    return craneholt_file_name(n->file[0], n->length[0], n->early, n->name, sizeof n->name).length;
+}
+
+static size_t our_late(void *on)
+{
+    naming *n = (naming *)on;
+    return craneholt_file_name(n->file[0], n->length[0], n->late, n->name, sizeof n->name).length;
+}
+
+static size_t peer_early(void *on)
+{
+    naming *n = (naming *)on;
+    return model_file_name(n->file[0], n->length[0], n->early, n->name, sizeof n->name).length;
+}
+
+static size_t peer_late(void *on)
+{
+    naming *n = (naming *)on;
+    return model_file_name(n->file[0], n->length[0], n->late, n->name, sizeof n->name).length;
+}
+
+/* Whether both jobs come to the same answer, and the row. */
+static void naming_row(const char *name, job *ours, job *peer, naming *n)
+{
+    must_hold(ours(n) == peer(n) && ours(n) > 0, name);
+    compare(name, ours, peer, n, 1);
+}
+
+/* A header with names under LIST and one with key pairs: as many lines, and each as long. */
+static void put_names_and_pairs(naming *n)
+{
+    static const char needed[] = "NRRD0004\ntype: unsigned short\ndimension: 3\nsizes: 640 480 1000\nencoding: raw\nendian: little\n";
+    n->length[0] = (size_t)sprintf((char *)n->file[0], "%sdata file: LIST\n", needed);
+    n->length[1] = (size_t)sprintf((char *)n->file[1], "%sdata file: x\n", needed);
+    for (int i = 0; i < NAMES; i++) {
+        n->length[0] += (size_t)sprintf((char *)n->file[0] + n->length[0], "slice-%04d.raw\n", i);
+        n->length[1] += (size_t)sprintf((char *)n->file[1] + n->length[1], "head%04d:=%04d\n", i, i);
+    }
+    n->early = 0;
+    n->late = NAMES - 1;
+}
+
+/* A header with a pattern of as many files as there can be. */
+static void put_pattern(naming *n)
+{
+    n->length[0] = (size_t)sprintf((char *)n->file[0], "NRRD0004\ntype: uint8\ndimension: 2\nsizes: 1 4294967295\nencoding: raw\n"
+                                                       "data file: slice%%010d.raw 1 4294967295 1\n");
+    n->early = 0;
+    n->late = 4294967294u;
+}
+
+/* Beside C; then ours beside ours: names beside pairs, the last name beside the first. */
+static void names(void)
+{
+    static naming n;
+    put_names_and_pairs(&n);
+    heading("names of data files", "C");
+    naming_row("header, 1,000 names under LIST", our_first, peer_first, &n);
+    naming_row("header, 1,000 key pairs", our_second, peer_second, &n);
+    naming_row("name 0 under LIST", our_early, peer_early, &n);
+    naming_row("name 999 under LIST", our_late, peer_late, &n);
+    put_pattern(&n);
+    naming_row("name 0 of a pattern", our_early, peer_early, &n);
+    naming_row("name 4,294,967,294 of it", our_late, peer_late, &n);
+    put_names_and_pairs(&n);
+    heading("names of data files, header", "pairs");
+    naming_row("1,000 names beside 1,000 pairs", our_first, our_second, &n);
+    put_pattern(&n);
+    heading("names of data files, pattern", "name 0");
+    naming_row("name 4,294,967,294 beside name 0", our_late, our_early, &n);
+}
+
 /* ---- Settings on a file of 64 MB ---- */
 
 enum { LARGE = 64 << 20 };
@@ -442,6 +554,8 @@ int main(int argc, char **argv)
 
     if (strstr("headers", only))
         headers(&b);
+    if (strstr("names of data files", only))
+        names();
     for (size_t c = 0; c < sizeof counts / sizeof counts[0]; c++)
         for (size_t i = 0; i < sizeof parts / sizeof parts[0]; i++) {
             char what[64];

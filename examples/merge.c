@@ -1,5 +1,5 @@
-/* merge FILE FILE: the points of two heads' sweeps, if both were stamped with the same UTC offset.
- * Prints a line for each sample: the head, the coordinates, the sample. */
+/* merge FILE FILE: the points of two heads' sweeps, if both were stamped with the same UTC offset. The data of a sweep is in its
+ * file, or in one or more files that its header names. Prints a line for each sample: the head, the coordinates, the sample. */
 #include <inttypes.h>
 #include <string.h>
 
@@ -10,25 +10,10 @@ static const char key[] = "utc offset";
 typedef struct {
     const char *name;
     whole_file header; /* an attached file, or a detached header */
-    whole_file second; /* a detached header's data; else empty */
     craneholt_reading reading;
+    uint64_t count; /* of the samples */
     char offset[64];
 } sweep;
-
-/* The file that a detached header names, in the header's folder unless its name starts with a slash. */
-static whole_file load_second(const sweep *s)
-{
-    craneholt_find_answer field = craneholt_find_field(s->header.bytes, s->header.length, CRANEHOLT_FIELD_DATA_FILE);
-    const char *slash = strrchr(s->name, '/');
-    int absolute = field.length > 0 && s->header.bytes[field.start] == '/';
-    int folder = slash == NULL || absolute ? 0 : (int)(slash - s->name) + 1;
-    char path[4096];
-    int n = snprintf(path, sizeof path, "%.*s%.*s", folder, s->name, (int)field.length,
-                     (const char *)s->header.bytes + field.start);
-    if (n < 0 || (size_t)n >= sizeof path)
-        fail(s->name, 0, "the name of its data file is too long");
-    return load(path, 0);
-}
 
 static sweep load_sweep(const char *name)
 {
@@ -39,8 +24,9 @@ static sweep load_sweep(const char *name)
     craneholt_read_answer read = craneholt_read_header(s.header.bytes, s.header.length);
     must(name, read.refusal);
     s.reading = read.reading;
-    if (s.reading.form == CRANEHOLT_DETACHED)
-        s.second = load_second(&s);
+    s.count = 1;
+    for (uint32_t axis = 0; axis < s.reading.dimension; axis++)
+        s.count *= s.reading.sizes[axis];
 
     craneholt_value_answer value = craneholt_copy_value(s.header.bytes, s.header.length, (const uint8_t *)key, strlen(key),
                                                         (uint8_t *)s.offset, sizeof s.offset - 1);
@@ -51,20 +37,74 @@ static sweep load_sweep(const char *name)
     return s;
 }
 
+/* The path of data file n: in the header's folder, unless its name starts with a slash. */
+static void path_of(const sweep *s, uint64_t n, char *path, size_t room)
+{
+    const char *slash = strrchr(s->name, '/');
+    size_t folder = slash == NULL ? 0 : (size_t)(slash - s->name) + 1;
+    char name[2048];
+    craneholt_write_answer a = craneholt_file_name(s->header.bytes, s->header.length, n, (uint8_t *)name, sizeof name);
+    if (a.length > 0 && name[0] == '/')
+        folder = 0;
+    if (a.refusal.number == CRANEHOLT_LENT_TOO_SHORT || folder + a.length >= room)
+        fail(s->name, 0, "the name of a data file is too long");
+    must(s->name, a.refusal);
+    snprintf(path, room, "%.*s%.*s", (int)folder, s->name, (int)a.length, name);
+}
+
+/* A header for one of several data files: its share as an array of one axis, with the skips that hold for each file. */
+static whole_file share_header(const sweep *s, uint64_t share)
+{
+    static uint8_t text[CRANEHOLT_ORIENTED_ROOM + 100];
+    const craneholt_reading *r = &s->reading;
+    uint64_t endian = r->endian == CRANEHOLT_NO_ENDIAN ? CRANEHOLT_LITTLE : r->endian;
+    craneholt_write_answer a =
+        craneholt_write_header(4, &share, sizeof share, r->sampletype, r->encoding, endian, NULL, 0, text, sizeof text);
+    must(s->name, a.refusal);
+    size_t length = (size_t)a.length - 1; /* the lines below take the place of the empty one */
+    length += (size_t)snprintf((char *)text + length, sizeof text - length, "line skip: %" PRIu64 "\n", r->lineskip);
+    if (r->fromend)
+        length += (size_t)snprintf((char *)text + length, sizeof text - length, "byte skip: -1\n");
+    else
+        length += (size_t)snprintf((char *)text + length, sizeof text - length, "byte skip: %" PRIu64 "\n", r->byteskip);
+    length += (size_t)snprintf((char *)text + length, sizeof text - length, "data file: share\n");
+    return (whole_file){text, length, sizeof text};
+}
+
+/* The list with so many more samples after those that it has. Data that is too short is refused before memory is asked for. */
+static int64_t *with_samples(int64_t *list, uint64_t had, uint64_t more, const char *name, whole_file header, whole_file data)
+{
+    must(name, craneholt_data(header.bytes, header.length, data.bytes, data.length).refusal);
+    list = (int64_t *)realloc(list, (had + more) * sizeof *list);
+    if (list == NULL)
+        fail(name, 0, "does not fit the memory");
+    must(name, craneholt_samples(header.bytes, header.length, data.bytes, data.length, list + had, more * sizeof *list).refusal);
+    return list;
+}
+
+/* All samples: of the file itself, or of its data files one after the other. */
+static int64_t *load_samples(const sweep *s)
+{
+    const whole_file none = {NULL, 0, 0};
+    if (s->reading.form == CRANEHOLT_ATTACHED)
+        return with_samples(NULL, 0, s->count, s->name, s->header, none);
+    uint64_t share = s->count / s->reading.files;
+    whole_file header = s->reading.files == 1 ? s->header : share_header(s, share);
+    int64_t *list = NULL;
+    for (uint64_t n = 0; n < s->reading.files; n++) {
+        char path[4096];
+        path_of(s, n, path, sizeof path);
+        whole_file data = load(path, 0);
+        list = with_samples(list, n * share, share, path, header, data);
+        free(data.bytes);
+    }
+    return list;
+}
+
 static void print_points(const sweep *s, int head)
 {
-    /* data that is too short is refused before memory is asked for */
-    must(s->name, craneholt_data(s->header.bytes, s->header.length, s->second.bytes, s->second.length).refusal);
-    uint64_t count = 1;
-    for (uint32_t axis = 0; axis < s->reading.dimension; axis++)
-        count *= s->reading.sizes[axis];
-    int64_t *samples = (int64_t *)malloc(count * sizeof *samples);
-    if (samples == NULL)
-        fail(s->name, 0, "does not fit the memory");
-    must(s->name, craneholt_samples(s->header.bytes, s->header.length, s->second.bytes, s->second.length, samples,
-                                    count * sizeof *samples).refusal);
-
-    for (uint64_t n = 0; n < count; n++) {
+    int64_t *samples = load_samples(s);
+    for (uint64_t n = 0; n < s->count; n++) {
         uint64_t rest = n;
         printf("head %d at", head);
         for (uint32_t axis = 0; axis < s->reading.dimension; axis++) {
@@ -91,7 +131,6 @@ int main(int argc, char **argv)
     for (int i = 0; i < 2; i++) {
         print_points(&heads[i], i + 1);
         free(heads[i].header.bytes);
-        free(heads[i].second.bytes);
     }
     return EXIT_SUCCESS;
 }

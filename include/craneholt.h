@@ -1,9 +1,9 @@
 /* craneholt.h: NRRD files from C. Every call below is proved to answer as the rules say, on every input.
  *
- * It reads headers of versions 1 to 5, with their data in the same file (attached) or in a second one (detached), finds the
- * data and decodes integer samples (raw, text, hex). It tells how the array lies in space, in exact decimals. It writes
- * attached files, and headers that say how an array lies in space. It corrects the value of a key in place. It checks the
- * stamps of the roof rig's sweeps.
+ * It reads headers of versions 1 to 5, with their data in the same file (attached) or in one or more others (detached), finds
+ * the data and decodes integer samples (raw, text, hex). It names the files of data in several files. It tells how the array
+ * lies in space, in exact decimals. It writes attached files, and headers that say how an array lies in space. It corrects the
+ * value of a key in place. It checks the stamps of the roof rig's sweeps.
  *
  * How the calls work
  * - A call takes bytes and numbers and answers numbers, by value. It allocates nothing, keeps nothing, opens no file, and
@@ -19,7 +19,8 @@
  *   craneholt_decimal: lend `list, sizeof list`. A rest too short for an entry or a number is not used and not changed.
  *
  * A file is lent whole: the header and what follows it. A detached header's data is in a second file, which the calls for
- * data take as well; for an attached header lend NULL, 0 there (it is not looked at).
+ * data take as well; for an attached header lend NULL, 0 there (it is not looked at). Data in more than one file is read file
+ * by file: see "Data in several files".
  *
  *     craneholt_read_answer a = craneholt_read_header(file, length);
  *     if (a.refusal.number != 0)
@@ -36,7 +37,7 @@
 extern "C" {
 #endif
 
-#define CRANEHOLT_VERSION "1.3"
+#define CRANEHOLT_VERSION "1.4"
 
 /* ---- Limits ---- */
 
@@ -49,6 +50,7 @@ extern "C" {
 #define CRANEHOLT_MAX_LISTING 70111      /* bytes of a listing: so much room is always enough */
 #define CRANEHOLT_HEADER_ROOM 512        /* bytes for a written file, with CRANEHOLT_SAMPLE_ROOM for each sample: */
 #define CRANEHOLT_SAMPLE_ROOM 22         /* so much room is always enough */
+#define CRANEHOLT_NAME_ROOM  65634       /* bytes for the name of a data file: so much room is always enough */
 #define CRANEHOLT_ORIENTED_ROOM 8192     /* bytes for what craneholt_write_header writes: so much room is always enough */
 #define CRANEHOLT_MAX_STEP   2147483647  /* the largest step that craneholt_sweep can be asked to allow */
 
@@ -63,13 +65,15 @@ enum craneholt_refusal_number {
     CRANEHOLT_BAD_BYTE         = 5,  /* a line that is no comment holds a byte that is neither tab nor printable ASCII */
     CRANEHOLT_NO_MARK          = 6,  /* a line has neither ": " nor ":=", or its key is empty */
     CRANEHOLT_UNKNOWN_FIELD    = 7,  /* no field has this name */
-    CRANEHOLT_NOT_IN_VERSION   = 8,  /* this version has no such field, or no key pairs */
+    CRANEHOLT_NOT_IN_VERSION   = 8,  /* this version has no such field, or no key pairs; or a data file field with a
+                                        pattern or LIST before version 4 */
     CRANEHOLT_REPEATED_FIELD   = 9,  /* the field was given before, in either spelling; or it is space after space
                                         dimension, or space dimension after space */
     CRANEHOLT_OUT_OF_ORDER     = 10, /* a per-axis field before dimension, or space units, space origin, space
                                         directions or measurement frame before space and space dimension */
-    CRANEHOLT_BAD_DESCRIPTOR   = 11, /* the field may not say this; with line 0: a byte skip of -1 with text or hex;
-                                        writer: a number that cannot be written */
+    CRANEHOLT_BAD_DESCRIPTOR   = 11, /* the field may not say this, or no name follows LIST; with line 0: a byte skip of -1
+                                        with text or hex, or data files that do not fit the sizes; writer: a number that
+                                        cannot be written */
     CRANEHOLT_BAD_BACKSLASH    = 12, /* a backslash in a key or value that is neither "\n" nor "\\" */
     CRANEHOLT_NO_END           = 13, /* the bytes end before the header does, and there is no data file field */
     CRANEHOLT_MISSING_FIELD    = 14, /* dimension, type, encoding or sizes is missing, or endian where it matters */
@@ -81,17 +85,21 @@ enum craneholt_refusal_number {
     CRANEHOLT_BAD_SAMPLE       = 20, /* no number, out of its type's range, or more than 9223372036854775807 */
     CRANEHOLT_DATA_ENDS_EARLY  = 21, /* text or hex: the data ends before the last sample */
     CRANEHOLT_LENT_TOO_SHORT   = 22, /* the lent buffer, list or table is too short */
-    CRANEHOLT_BAD_COORDINATES  = 23, /* not one coordinate for each axis, or one is not below its size */
+    CRANEHOLT_BAD_COORDINATES  = 23, /* not one coordinate for each axis, or one is not below its size; or a number of a
+                                        sample that is not below the product of the sizes */
     CRANEHOLT_BAD_KEY          = 24, /* a key that no line can hold: empty, '#' first, bad byte, or with ": " or ":=" */
     CRANEHOLT_BAD_VALUE        = 25, /* a value with a byte that is neither tab, LF nor printable ASCII */
     CRANEHOLT_WRONG_TABLE      = 26, /* the lent line table is not that of the file */
     CRANEHOLT_WRONG_COUNT      = 27, /* writer: there are not as many samples as the sizes ask for */
-    CRANEHOLT_NO_SWEEP         = 28  /* the file is no sweep of the roof rig, its key "utc offset" is missing or is not
+    CRANEHOLT_NO_SWEEP         = 28, /* the file is no sweep of the roof rig, its key "utc offset" is missing or is not
                                         0 to 255 in digits alone, or the largest step is not 1 to CRANEHOLT_MAX_STEP */
+    CRANEHOLT_NO_SUCH_FILE     = 29, /* there is no data file of this number */
+    CRANEHOLT_SEVERAL_FILES    = 33  /* the data is in more than one file */
 };
 
 /* The line is that of the header (from 1) for the numbers 2 to 12 of a reading, or of the reading that craneholt_write_header
- * makes of its text, else 0. It is 0 also for the 11 of a byte skip of -1 with text or hex. */
+ * makes of its text, else 0. It is 0 also for the 11 of a byte skip of -1 with text or hex, and for that of data files that do
+ * not fit the sizes. */
 typedef struct craneholt_refusal {
     uint32_t number;
     uint32_t line;
@@ -139,6 +147,8 @@ typedef struct craneholt_reading {
     uint32_t space;      /* CRANEHOLT_RIGHT_ANTERIOR_SUPERIOR to CRANEHOLT_3D_LEFT_HANDED_TIME, or CRANEHOLT_NO_SPACE where
                             the field space is not given */
     uint32_t spacedimension; /* 1 to 8, by the space's name or by space dimension; 0 where neither is given */
+    uint32_t files;      /* how many data files there are: 1 where the header is attached or names one file */
+    uint32_t fieldlines; /* lines before the names under LIST, the line of LIST included; as `lines` where there is no LIST */
 } craneholt_reading;
 
 typedef struct craneholt_read_answer {
@@ -146,7 +156,9 @@ typedef struct craneholt_read_answer {
     craneholt_reading reading;
 } craneholt_read_answer;
 
-/* The reading of a file's header. Refuses 1 to 15. */
+/* The reading of a file's header. Refuses 1 to 15, in this order: 1, 2; line by line 3 to 12, for a name under LIST only 3, 4
+ * and 5; 13; 11 at the line of LIST if no name follows it; 14; 11 with line 0 for a byte skip of -1 with text or hex; 15; 11 with
+ * line 0 for data files that do not fit the sizes. */
 craneholt_read_answer craneholt_read_header(const uint8_t *file, size_t file_length);
 
 /* The same, and the line table: for each line of the header, the magic and the closing line included, the byte at which it
@@ -177,11 +189,11 @@ typedef struct craneholt_find_answer {
 
 /* The descriptor of a field, without spaces and tabs at its end; in the understood fields, which are dimension, type, encoding,
  * endian, sizes, line skip, byte skip, data file, space, space dimension, space origin, space directions and measurement frame,
- * also without those at its start. A number past the last field is answered as not found. Refuses 1 to 15. */
+ * also without those at its start. A number past the last field is answered as not found, and a line under LIST gives no field. Refuses 1 to 15. */
 craneholt_find_answer craneholt_find_field(const uint8_t *file, size_t file_length, uint32_t field);
 
 /* The text of a key's value as it stands in the file: in the last line with the key, LF as "\n" and backslash as "\\".
- * The key is lent as it is meant, without escapes. Refuses 1 to 15. */
+ * The key is lent as it is meant, without escapes. A line under LIST is a name and holds no key. Refuses 1 to 15. */
 craneholt_find_answer craneholt_find_key(const uint8_t *file, size_t file_length,
                                          const uint8_t *key, size_t key_length);
 
@@ -208,13 +220,13 @@ typedef struct craneholt_data_answer {
 
 /* Where the data lies: after the skips, `extent` bytes in raw, all the rest in text and hex. With a byte skip of -1, which only
  * raw may have, it is the last `extent` bytes of the file; 18 if fewer are left after the header and the skipped lines.
- * Refuses 1 to 15, 1 for the second file, 16, 18. */
+ * Refuses 1 to 15, 33 if there is more than one data file, 1 for the second file, 16, 18. */
 craneholt_data_answer craneholt_data(const uint8_t *file, size_t file_length,
                                      const uint8_t *second, size_t second_length);
 
 typedef struct craneholt_count_answer {
     craneholt_refusal refusal;
-    uint64_t count; /* of samples: the product of the sizes; of decimals */
+    uint64_t count; /* of samples: the product of the sizes; of decimals; of files */
 } craneholt_count_answer;
 
 /* All samples, axis 0 fastest, to the front of `list`; what is past them stays. Refuses as craneholt_data, with 19 before 16,
@@ -236,6 +248,60 @@ typedef struct craneholt_number_answer {
 /* The number of the sample at these coordinates, axis 0 first. Refuses 1 to 15, 23. */
 craneholt_number_answer craneholt_sample_number(const uint8_t *file, size_t file_length,
                                                 const void *coords, size_t coords_length);
+
+/* ---- Data in several files ----
+ *
+ * The field data file of a detached header has three forms, the last two from version 4 on:
+ *
+ *     data file: sweep.raw               one file: the text is its name
+ *     data file: slice%03d.raw 1 12 1    a pattern: slice001.raw, slice002.raw, up to slice012.raw
+ *     data file: LIST                    a list: each line after this one is a name
+ *
+ * The text `LIST`, in capitals, and one that starts with `LIST ` are a list; another text with a `%` is a pattern; all else is a
+ * name. A list and a pattern may end with one more number: how many axes one file covers.
+ * - A pattern has no blank and one `%`, as `%d`, `%Nd` or `%0Nd` with N from 1 to 99 without leading zeros of its own. After it
+ *   come first, last and step: at most 4294967295 each, the step not 0, with a `-` if it goes down. The name of file n has the
+ *   number first + n * step in place of the `%` and what belongs to it; where there is an N, filled up on its left to N
+ *   characters, by spaces or, after the 0, by zeros; it is never cut. The last file is that of the last number that does not go past `last`; there has to be at least one.
+ * - A list ends where the header does, at its empty line or at the end of the bytes. A line of it is a name as it stands, blanks
+ *   at both ends included. What looks like a field, a key pair or a comment there is a name too, and nothing else. Each is a line
+ *   of the header, in its table and for its limits; there has to be at least one.
+ * - All files have the same number of samples, which is their share; file 0 has the first ones. One file covers as many axes as
+ *   the field says, else one less than the dimension; with a single axis the field has to say 1. If one file covers fewer axes
+ *   than there are, there have to be as many files as the product of the sizes of the other axes, which are the slowest; if it
+ *   covers all, the number of files has to divide the size of the slowest. Where this does not hold the header is refused with 11
+ *   and line 0, also if a list or a pattern comes to one file.
+ * - Line skip, byte skip, encoding and endian hold for each file by itself.
+ *
+ * A name that does not start with `/` is meant from the folder of the header, in every version; to open the files is left to the caller. Where there
+ * is more than one, craneholt_data and the calls for samples refuse with 33: examples/merge.c shows how to read the samples file
+ * by file. */
+
+/* How many data files there are: `reading.files`. Refuses 1 to 15. */
+craneholt_count_answer craneholt_files(const uint8_t *file, size_t file_length);
+
+typedef struct craneholt_write_answer {
+    craneholt_refusal refusal;
+    uint64_t length; /* bytes written */
+} craneholt_write_answer;
+
+/* The name of data file n, counted from 0, to the front of `out`; the bytes past it stay, and no byte 0 is put after it. For an
+ * attached header it is empty. Refuses 1 to 15, 29 if n is not below the number of files, 22 if the name does not fit
+ * (CRANEHOLT_NAME_ROOM bytes are always enough). */
+craneholt_write_answer craneholt_file_name(const uint8_t *file, size_t file_length, uint64_t n,
+                                           uint8_t *out, size_t out_length);
+
+typedef struct craneholt_share_answer {
+    craneholt_refusal refusal;
+    uint64_t file; /* the number of the data file, from 0 */
+    uint64_t byte; /* where the sample starts in that file's share */
+} craneholt_share_answer;
+
+/* Which data file has the sample of this number, counted as by craneholt_sample_number, and at which byte of its share. The bytes
+ * are those of raw, whatever the encoding, and skips are not counted in. Where there is one file, or the header is attached, it
+ * is file 0 and the byte is the number times the bytes of a sample. Refuses 1 to 15, 23 if the number is not below the product of
+ * the sizes. */
+craneholt_share_answer craneholt_sample_file(const uint8_t *file, size_t file_length, uint64_t sample);
 
 /* ---- Orientation ----
  *
@@ -278,11 +344,6 @@ craneholt_count_answer craneholt_directions(const uint8_t *file, size_t file_len
 craneholt_count_answer craneholt_frame(const uint8_t *file, size_t file_length, void *list, size_t list_length);
 
 /* ---- Writing ---- */
-
-typedef struct craneholt_write_answer {
-    craneholt_refusal refusal;
-    uint64_t length; /* bytes written */
-} craneholt_write_answer;
 
 /* An attached file with these samples to the front of `out`; the bytes past it stay. Endian counts only where samples of more
  * than one byte are written in raw or hex, but has to be CRANEHOLT_LITTLE or CRANEHOLT_BIG. Refuses 11 (version, type,
@@ -347,8 +408,8 @@ typedef struct craneholt_set_answer {
 /* Sets a key to a value in the file in the first `used` bytes of a buffer; `table` and `count` are its line table and how
  * many lines it has, by craneholt_read or by the setting before. If the header has the key, the text of the last line with it
  * becomes key, ":=" and value, escaped; if not, such a line is put in after line 1, with line 1's ending. Everything else
- * stays as it is and in its order, the data too, moved if the length changes; the table is brought up to date. Bytes that the
- * file no longer takes become 0; bytes past the old and the new length stay, as do entries past the new count.
+ * stays as it is and in its order, names under LIST and the data too, moved if the length changes; the table is brought up to
+ * date. Bytes that the file no longer takes become 0; bytes past the old and the new length stay, as do entries past the new count.
  * After any number of settings, some of them refused, a reading of the file gives each key the value accepted for it last.
  * Refuses: 22 if `used` passes the buffer; 1 to 15; 8 (version 1), 24, 25, 26; of the file as it would become 3, 4, 1, and 22
  * if it does not fit the buffer or its lines do not fit the table (CRANEHOLT_MAX_LINES entries are always enough, with a
@@ -405,10 +466,11 @@ static inline const char *craneholt_sentence(uint32_t number)
     case CRANEHOLT_BAD_BYTE:         return "the line holds a byte that is neither tab nor printable ASCII";
     case CRANEHOLT_NO_MARK:          return "the line has neither ': ' nor ':=', or its key is empty";
     case CRANEHOLT_UNKNOWN_FIELD:    return "no field has this name";
-    case CRANEHOLT_NOT_IN_VERSION:   return "this version of the format has no such field, or no key pairs";
+    case CRANEHOLT_NOT_IN_VERSION:   return "this version of the format has no such field, no key pairs, or no pattern or LIST of data files";
     case CRANEHOLT_REPEATED_FIELD:   return "the field was given before, or space and space dimension are both given";
     case CRANEHOLT_OUT_OF_ORDER:     return "the field comes before the one that it needs (dimension; space or space dimension)";
-    case CRANEHOLT_BAD_DESCRIPTOR:   return "the field cannot have this value, or a byte skip of -1 stands with text or hex";
+    case CRANEHOLT_BAD_DESCRIPTOR:   return "the field cannot have this value, no name follows LIST, a byte skip of -1 stands "
+                                            "with text or hex, or the number of data files does not fit the sizes";
     case CRANEHOLT_BAD_BACKSLASH:    return "a backslash is followed neither by 'n' nor by a backslash";
     case CRANEHOLT_NO_END:           return "the header has no end";
     case CRANEHOLT_MISSING_FIELD:    return "a needed field is missing (dimension, type, encoding, sizes, endian)";
@@ -420,7 +482,8 @@ static inline const char *craneholt_sentence(uint32_t number)
     case CRANEHOLT_BAD_SAMPLE:       return "a sample is not a number, is outside its type, or is above 9,223,372,036,854,775,807";
     case CRANEHOLT_DATA_ENDS_EARLY:  return "the data ends before the last sample";
     case CRANEHOLT_LENT_TOO_SHORT:   return "the lent buffer, list or table is too short";
-    case CRANEHOLT_BAD_COORDINATES:  return "the coordinates are not one for each axis, each below its size";
+    case CRANEHOLT_BAD_COORDINATES:  return "the coordinates are not one for each axis, each below its size, or the number of "
+                                            "the sample is not below the product of the sizes";
     case CRANEHOLT_BAD_KEY:          return "no header line can hold this key";
     case CRANEHOLT_BAD_VALUE:        return "the value holds a byte that is neither tab, line feed nor printable ASCII";
     case CRANEHOLT_WRONG_TABLE:      return "the line table is not that of the file";
@@ -428,6 +491,8 @@ static inline const char *craneholt_sentence(uint32_t number)
     case CRANEHOLT_NO_SWEEP:         return "the file is not a sweep (attached, uint32, two axes), its key 'utc offset' is "
                                             "missing or is not 0 to 255 in digits alone, or the largest step is "
                                             "not 1 to 2,147,483,647";
+    case CRANEHOLT_NO_SUCH_FILE:     return "there is no data file of this number";
+    case CRANEHOLT_SEVERAL_FILES:    return "the data is in more than one file";
     default: return "no such refusal";
     }
 }

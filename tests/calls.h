@@ -25,6 +25,9 @@ struct calls {
                                     const uint8_t *, size_t, const uint8_t *, size_t);
     craneholt_write_answer (*listing)(const uint8_t *, size_t, uint8_t *, size_t);
     craneholt_sweep_answer (*sweep)(const uint8_t *, size_t, void *, size_t, uint64_t);
+    craneholt_count_answer (*files)(const uint8_t *, size_t);
+    craneholt_write_answer (*file_name)(const uint8_t *, size_t, uint64_t, uint8_t *, size_t);
+    craneholt_share_answer (*sample_file)(const uint8_t *, size_t, uint64_t);
 };
 
 /* the table of craneholt_ or model_ */
@@ -34,7 +37,7 @@ struct calls {
         prefix##_copy_value, prefix##_data, prefix##_check_samples, prefix##_samples,       \
         prefix##_sample_number, prefix##_write, prefix##_origin, prefix##_directions,       \
         prefix##_frame, prefix##_write_header, prefix##_set_key, prefix##_listing,          \
-        prefix##_sweep                                                                      \
+        prefix##_sweep, prefix##_files, prefix##_file_name, prefix##_sample_file            \
     }
 
 /* The structs as the archive has them: their sizes, and where members lie. What does not hold does not compile. */
@@ -43,7 +46,7 @@ struct calls {
     typedef char type##_##member##_is_at_##place[offsetof(type, member) == (place) ? 1 : -1]
 
 STRUCT_IS(craneholt_refusal, 8);
-STRUCT_IS(craneholt_reading, 200);
+STRUCT_IS(craneholt_reading, 208);
 MEMBER_IS(craneholt_reading, sizes, 24);
 MEMBER_IS(craneholt_reading, lineskip, 152);
 MEMBER_IS(craneholt_reading, lines, 184);
@@ -53,7 +56,9 @@ MEMBER_IS(craneholt_reading, directions, 190);
 MEMBER_IS(craneholt_reading, frame, 191);
 MEMBER_IS(craneholt_reading, space, 192);
 MEMBER_IS(craneholt_reading, spacedimension, 196);
-STRUCT_IS(craneholt_read_answer, 208);
+MEMBER_IS(craneholt_reading, files, 200);
+MEMBER_IS(craneholt_reading, fieldlines, 204);
+STRUCT_IS(craneholt_read_answer, 216);
 STRUCT_IS(craneholt_find_answer, 32);
 STRUCT_IS(craneholt_value_answer, 24);
 STRUCT_IS(craneholt_data_answer, 32);
@@ -61,6 +66,9 @@ STRUCT_IS(craneholt_count_answer, 16);
 STRUCT_IS(craneholt_number_answer, 16);
 STRUCT_IS(craneholt_write_answer, 16);
 STRUCT_IS(craneholt_set_answer, 24);
+STRUCT_IS(craneholt_share_answer, 24);
+MEMBER_IS(craneholt_share_answer, file, 8);
+MEMBER_IS(craneholt_share_answer, byte, 16);
 STRUCT_IS(craneholt_sweep_answer, 24);
 MEMBER_IS(craneholt_sweep_answer, offset, 8);
 MEMBER_IS(craneholt_sweep_answer, wrong, 12);

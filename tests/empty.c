@@ -39,6 +39,9 @@ int main(void)
            CRANEHOLT_LENT_TOO_SHORT, 0);
     expect("listing", craneholt_listing(NULL, 0, NULL, 0).refusal, CRANEHOLT_LENT_TOO_SHORT, 0);
     expect("sweep", craneholt_sweep(NULL, 0, NULL, 0, CRANEHOLT_MAX_STEP).refusal, CRANEHOLT_NO_MAGIC, 1);
+    expect("files", craneholt_files(NULL, 0).refusal, CRANEHOLT_NO_MAGIC, 1);
+    expect("file_name", craneholt_file_name(NULL, 0, 0, NULL, 0).refusal, CRANEHOLT_NO_MAGIC, 1);
+    expect("sample_file", craneholt_sample_file(NULL, 0, 0).refusal, CRANEHOLT_NO_MAGIC, 1);
     printf("empty: %d passed, %d failed\n", passed, failed);
     return failed != 0;
 }

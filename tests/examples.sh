@@ -59,6 +59,98 @@ chmod 640 sweep.nrrd
 "$build/correct" sweep.nrrd 37 > /dev/null
 expect "mode kept" "-rw-r-----" "$(ls -l sweep.nrrd | cut -c1-10)"
 
+# data in slices, named by a pattern and by a list; in the header's folder, wherever the program runs
+slices='head 1 at 0 0 0: 1
+head 1 at 1 0 0: 2
+head 1 at 0 1 0: 3
+head 1 at 1 1 0: 4
+head 1 at 0 2 0: 5
+head 1 at 1 2 0: 6
+head 1 at 0 0 1: 7
+head 1 at 1 0 1: 8
+head 1 at 0 1 1: 9
+head 1 at 1 1 1: 10
+head 1 at 0 2 1: 11
+head 1 at 1 2 1: 12
+head 2 at 0 0 0: 7
+head 2 at 1 0 0: 8
+head 2 at 0 1 0: 9
+head 2 at 1 1 0: 10
+head 2 at 0 2 0: 11
+head 2 at 1 2 0: 12
+head 2 at 0 0 1: 1
+head 2 at 1 0 1: 2
+head 2 at 0 1 1: 3
+head 2 at 1 1 1: 4
+head 2 at 0 2 1: 5
+head 2 at 1 2 1: 6'
+expect "slices" "$slices" "$("$build/merge" head3.nhdr head4.nhdr)"
+expect "slices from another folder" "$slices" "$(cd / && "$build/merge" "$work/head3.nhdr" "$work/head4.nhdr")"
+
+# numbers that fall: the last slice first, as the list has them
+sed 's/ 1 2 1$/ 2 1 -1/' head3.nhdr > down.nhdr
+second=$(printf '%s\n' "$slices" | grep '^head 2')
+expect "slices, the last one first" "$(printf '%s\n' "$second" | sed 's/^head 2/head 1/')
+$second" "$("$build/merge" down.nhdr head4.nhdr)"
+
+# names that start with a slash, in a header elsewhere
+mkdir elsewhere
+sed "s|^slice|$work/slice|" head4.nhdr > elsewhere/head4.nhdr
+sed "s|: slice|: $work/slice|" head3.nhdr > elsewhere/head3.nhdr
+expect "slices by whole paths" "$slices" "$("$build/merge" elsewhere/head3.nhdr elsewhere/head4.nhdr)"
+
+# a header with a list of one file, and one with a pattern of one
+sed 's/^dimension: 3/dimension: 2/; s/^sizes: .*/sizes: 2 3/; s/LIST/LIST 2/; /^slice02/d' head4.nhdr > one.nhdr
+sed 's/^dimension: 3/dimension: 2/; s/^sizes: .*/sizes: 2 3/; s/ 1 2 1$/ 1 1 1 2/' head3.nhdr > two.nhdr
+expect "one slice" \
+'head 1 at 0 0: 1
+head 1 at 1 0: 2
+head 1 at 0 1: 3
+head 1 at 1 1: 4
+head 1 at 0 2: 5
+head 1 at 1 2: 6
+head 2 at 0 0: 1
+head 2 at 1 0: 2
+head 2 at 0 1: 3
+head 2 at 1 1: 4
+head 2 at 0 2: 5
+head 2 at 1 2: 6' \
+    "$("$build/merge" one.nhdr two.nhdr)"
+
+# slices in raw, at the end of their files, and in hex
+printf 'foreign\001\000\000\002' > raw1
+printf '\003\000\004\000' > raw2
+printf '0100 0002' > hex1
+printf '0300\n0400' > hex2
+printf 'NRRD0005\ntype: int16\ndimension: 2\nsizes: 2 2\nencoding: raw\nendian: little\nbyte skip: -1\nutc offset:=37\ndata file: raw%%d 1 2 1\n' > raw.nhdr
+printf 'NRRD0005\ntype: int16\ndimension: 2\nsizes: 2 2\nencoding: hex\nendian: little\nutc offset:=37\ndata file: LIST 2\nhex1\nhex2' > hex.nhdr
+expect "slices in raw and hex" \
+'head 1 at 0 0: 1
+head 1 at 1 0: 512
+head 1 at 0 1: 3
+head 1 at 1 1: 4
+head 2 at 0 0: 1
+head 2 at 1 0: 512
+head 2 at 0 1: 3
+head 2 at 1 1: 4' \
+    "$("$build/merge" raw.nhdr hex.nhdr)"
+
+# a slice that is not there, and one that is too short
+sed 's/ 1 2 1$/ 2 3 1/' head3.nhdr > bad.nhdr
+expect "slice missing" "slice03.txt: cannot be opened" "$("$build/merge" bad.nhdr head4.nhdr 2>&1 || true)"
+printf '\003\000\004' > raw2
+expect "slice too short" "raw2: the file has fewer bytes than its sizes ask for" "$("$build/merge" raw.nhdr hex.nhdr 2>&1 || true)"
+sed '/^slice01/d' head4.nhdr > bad.nhdr
+expect "name missing" \
+    "bad.nhdr: the field cannot have this value, no name follows LIST, a byte skip of -1 stands with text or hex, or the number of data files does not fit the sizes" \
+    "$("$build/merge" bad.nhdr head4.nhdr 2>&1 || true)"
+rm bad.nhdr
+
+# names under LIST stay where a key is set
+"$build/correct" head4.nhdr 5 > /dev/null
+sed 's/utc offset:=37/utc offset:=5/' "$examples/head4.nhdr" > wanted
+expect "names stay" "$(od -c wanted)" "$(od -c head4.nhdr)"
+
 # section 4's own example
 expect "poses" \
 'origin: 0 1 0.29999999999999999

@@ -424,7 +424,7 @@ static void put_offset(struct maker *m)
     m->offsets--;
 }
 
-/* ---- fields of a header */
+/* ---- descriptors */
 
 static void put_sizes(struct volume *v)
 {
@@ -478,9 +478,138 @@ static void put_orientation(struct volume *v, int field)
         put_vectors(&v->file, field == SPACE_ORIGIN ? 1 : components, components, faults, faults);
 }
 
+/* ---- data files */
+
+static void put_gap(struct bytes *b)
+{
+    put_any(b, " \t", random_chance(85) ? 1 : 3);
+}
+
+static void put_spaced(struct bytes *b, uint64_t number)
+{
+    put_gap(b);
+    put_zeros(b);
+    put_decimal(b, number);
+}
+
+/* `%d`, `%Nd` or `%0Nd`. */
+static void put_conversion(struct bytes *b)
+{
+    static const uint64_t widths[] = {1, 2, 3, 5, 9, 10, 11, 20, 98, 99};
+    put_byte(b, '%');
+    if (random_chance(70)) {
+        put_text(b, random_chance(50) ? "0" : "");
+        put_decimal(b, random_chance(50) ? 1 + random_below(5) : widths[random_below(COUNT(widths))]);
+    }
+    put_byte(b, 'd');
+}
+
+/* First, last and step for so many files: up or down, near 0 or near the largest number; last is past the last number or not. */
+static void put_range(struct bytes *b, uint64_t files)
+{
+    static const uint64_t largest = 4294967295u;
+    uint64_t step = random_chance(60) ? 1 : random_chance(80) ? 1 + random_below(9) : 1 + random_below(largest);
+    uint64_t reach, low;
+    int down = random_chance(40);
+    if (files > largest || (files - 1) * step > largest)
+        step = 1;
+    reach = (files - 1) * step + random_below(step);
+    if (reach > largest)
+        reach = (files - 1) * step > largest ? largest : (files - 1) * step;
+    low = random_chance(70) ? random_below(12) : random_chance(50) ? largest - reach : random_below(largest);
+    if (low > largest - reach)
+        low = largest - reach;
+    put_spaced(b, down ? low + reach : low);
+    put_spaced(b, down ? low : low + reach);
+    put_gap(b);
+    if (down)
+        put_byte(b, '-');
+    put_zeros(b);
+    put_decimal(b, step);
+}
+
+static void put_pattern(struct volume *v)
+{
+    static const char *const starts[] = {"", "s", "slice_", "./a", "/tmp/", "LIST", "x:=", "#", "type:", "100", "-"};
+    static const char *const ends[] = {"", ".raw", "d", "0", ":=y", ".hex.1", "#"};
+    put_text(&v->file, starts[random_below(COUNT(starts))]);
+    put_conversion(&v->file);
+    put_text(&v->file, ends[random_below(COUNT(ends))]);
+    put_range(&v->file, v->files);
+    if (v->says_axes)
+        put_spaced(&v->file, v->axes);
+}
+
+static void put_one_name(struct bytes *b)
+{
+    static const char *const names[] = {"a.raw", "data file.raw", "LISTS", "list", "x: y", "a:=b", "#", "LIST\t2", "./LIST"};
+    put_text(b, names[random_below(COUNT(names))]);
+}
+
+/* What a data file field may not say, in any form. */
+static void put_bad_files(struct bytes *b)
+{
+    static const char *const bad[] = {
+        "%", "%d", "%d 1", "%d 1 2", "%d 2 1 1", "%d 1 2 -1", "%d 1 2 0", "%d 1 2 -0", "%d 1 2 +1", "%d -1 2 1", "%d +1 2 1",
+        "%d 1 2 1 x", "%d 1 2 1 -1", "%d 1 2 1 +1", "%d 1 2 1 1 1", "%d 1 2 1 0", "%d 1 2 1 17", "%d 1 2 1 4294967297",
+        "%d 1 2 1 18446744073709551617", "%x 1 2 1", "%i 1 2 1", "%D 1 2 1", "%ld 1 2 1", "%0d 1 2 1", "%00d 1 2 1",
+        "%01d 1 2 1 0", "%001d 1 2 1", "%100d 1 2 1", "%0100d 1 2 1", "%999d 1 2 1", "%-3d 1 2 1", "%+d 1 2 1", "% d 1 2 1",
+        "%.3d 1 2 1", "%3 1 2 1", "%3", "%0", "%%d 1 2 1", "%d%d 1 2 1", "%d%% 1 2 1", "100%", "a b%d 1 2 1", "a %d 1 2 1",
+        "%d 1 2 %d", "%d 4294967296 4294967296 1", "%d 1 4294967296 1", "%d 1 2 4294967296", "%d 1 2 -4294967296",
+        "%d 18446744073709551617 18446744073709551618 1", "%d 1 2 18446744073709551617", "%d 1 2 -", "%d 1 2 --1", "%d 1 2 1.",
+        "%d 0x1 2 1", "%d 0 4294967295 1", "%d 4294967295 0 -1", "LIST x", "LIST -1", "LIST +1", "LIST 1 1", "LIST %d 1 2 1",
+        "LIST 0", "LIST 17", "LIST 4294967297", "LIST 18446744073709551617", "LIST 1x", "LIST 1.", "LIST\tx%d 1 2 1"};
+    put_text(b, bad[random_below(COUNT(bad))]);
+}
+
+static void put_files(struct volume *v)
+{
+    if (random_chance(5)) {
+        put_bad_files(&v->file);
+    } else if (v->named == PATTERN) {
+        put_pattern(v);
+    } else if (v->named == LIST) {
+        put_text(&v->file, "LIST");
+        if (v->says_axes) {
+            put_byte(&v->file, ' ');
+            put_blanks(&v->file, 15);
+            put_zeros(&v->file);
+            put_decimal(&v->file, v->axes);
+        }
+    } else {
+        put_one_name(&v->file);
+    }
+}
+
+/* A line under LIST, in half of the cases one that is something else elsewhere; rarely with a bad byte. */
+static void put_name(struct maker *m)
+{
+    static const char *const like[] = {
+        "type: int8", "dimension: 3", "sizes: 9 9", "data file: LIST", "datafile: x", "byte skip: -1", "space: RAS", "foo: bar",
+        "utc offset:=99", "rig:=0", "a:=b", "k:=\\q", ":=", ":=x", ": ", ":", "\\", "#", "# comment", "#a:=b", "#\t", "NRRD0004", " ", "\t",
+        "  x.raw", "x.raw \t", "LIST", "%d 1 2 1", "encoding:raw", "/abs/x.raw", "../x"};
+    struct bytes *file = &m->v->file;
+    if (random_chance(50)) {
+        put_text(file, like[random_below(COUNT(like))]);
+    } else {
+        put_any(file, "abcxyz019._-/ ", 1 + random_below(12));
+        put_text(file, random_chance(50) ? ".raw" : "");
+    }
+    if (random_below(1000) < 3)
+        put_any(file, "\001\010\r\037\177\200\377", 1);
+    put_ending(m);
+}
+
+static void put_names(struct maker *m)
+{
+    for (uint64_t n = 0; n < m->v->files; n++)
+        put_name(m);
+}
+
+/* ---- fields of a header, put in order */
+
 static void put_descriptor(struct volume *v, int field)
 {
-    static const char *const files[] = {"a.raw", "data file.raw", "LISTS", "list", "x: y", "a:=b", "#"};
     uint64_t number = field == DIMENSION ? v->dimension : field == LINE_SKIP ? v->line_skip : v->byte_skip;
     switch (field) {
     case TYPE:
@@ -496,7 +625,7 @@ static void put_descriptor(struct volume *v, int field)
         put_sizes(v);
         return;
     case DATA_FILE:
-        put_text(&v->file, files[random_below(COUNT(files))]);
+        put_files(v);
         return;
     case DIMENSION:
     case LINE_SKIP:
@@ -563,12 +692,12 @@ static void choose_fields(struct maker *m)
     m->wanted[ENDIAN] = v->endian != 2;
     m->wanted[LINE_SKIP] = v->line_skip > 0 || random_chance(5);
     m->wanted[BYTE_SKIP] = v->byte_skip > 0 || v->from_end || random_chance(5);
-    m->wanted[DATA_FILE] = v->detached;
+    m->wanted[DATA_FILE] = v->detached && (v->named != LIST || random_chance(2)); /* LIST stands last, but for a few */
     m->wanted[SPACE] = v->oriented && random_chance(50);
     m->wanted[SPACE_DIMENSION] = v->oriented && (!m->wanted[SPACE] || random_chance(3));
     for (int field = SPACE_ORIGIN; field <= MEASUREMENT_FRAME; field++)
         m->wanted[field] = v->oriented && random_chance(70);
-    if (random_chance(3)) /* a needed field missing */
+    if (random_chance(v->files == 0 ? 40 : 3)) /* a needed field missing */
         m->wanted[random_below(SIZES + 1)] = 0;
 }
 
@@ -639,6 +768,11 @@ static void put_header(struct volume *v)
     put_other_lines(&m);
     while (m.offsets > 0)
         put_offset(&m);
+    if (v->detached && v->named == LIST) {
+        if (!m.done[DATA_FILE])
+            put_field(&m, DATA_FILE);
+        put_names(&m);
+    }
     put_closing(&m);
     v->header = v->file.length;
 }
@@ -813,6 +947,47 @@ static void choose_sizes(struct volume *v)
     }
 }
 
+/* How many files fit the sizes, where so many axes are covered by one: the rule of section 3 of source document 000. */
+static uint64_t fitting_files(const struct volume *v)
+{
+    uint64_t slowest = v->sizes[v->dimension - 1], files = 1;
+    if (v->axes < 1 || v->axes > v->dimension)
+        return 1 + random_below(4);
+    if (v->axes == v->dimension) {
+        do
+            files = 1 + random_below(slowest < 64 ? slowest : 64);
+        while (slowest % files != 0);
+        return files;
+    }
+    for (size_t i = v->axes; i < v->dimension; i++)
+        files = files > 4294967295u ? files : files * v->sizes[i];
+    return files;
+}
+
+/* One name, a pattern or LIST; most fit the sizes. A list is not too long for the largest headers. */
+static void choose_files(struct volume *v)
+{
+    v->named = ONE_NAME;
+    v->files = 1;
+    v->says_axes = 0;
+    if (!v->detached || random_chance(18))
+        return;
+    if (v->version < 4 && random_chance(85))
+        v->version = 4 + (uint32_t)random_below(2);
+    v->says_axes = v->dimension == 1 ? !random_chance(8) : random_chance(50);
+    v->axes = v->dimension - 1;
+    if (v->says_axes)
+        v->axes = random_chance(96) ? 1 + random_below(v->dimension) : random_below(19);
+    v->files = fitting_files(v);
+    if (random_chance(4))
+        v->files += random_chance(50) && v->files > 1 ? (uint64_t)-1 : 1 + random_below(2);
+    v->named = v->files > 300 || random_chance(50) ? PATTERN : LIST;
+    if (v->named == LIST && random_chance(2))
+        v->files = 0;
+    if (random_chance(1)) /* the low 32 bits fit */
+        v->axes += 4294967296u;
+}
+
 /* Some are nearly one: detached, of another type, of version 1, which has no key, or of another dimension. */
 static void choose_sweep(struct volume *v)
 {
@@ -832,7 +1007,7 @@ static void choose_volume(struct volume *v)
     v->oriented = v->version >= 4 && random_chance(78);
     v->space = 0;
     v->type = (uint32_t)random_below(random_chance(90) ? 8 : MODEL_TYPES);
-    v->detached = random_chance(30);
+    v->detached = random_chance(55);
     v->sweep = 0;
     if (random_chance(30))
         choose_sweep(v);
@@ -844,6 +1019,7 @@ static void choose_volume(struct volume *v)
     v->line_skip = random_chance(15) ? random_below(4) : 0;
     v->byte_skip = !v->from_end && random_chance(15) ? random_below(6) : 0;
     choose_sizes(v);
+    choose_files(v);
 }
 
 static void make_undamaged(struct volume *v)
@@ -880,10 +1056,36 @@ static void insert_lines(struct volume *v, size_t length, size_t lines)
     v->header += text.length;
 }
 
+/* A header of so many bytes that has one sample, and a name that is nearly all of it: alone, under LIST, or a pattern whose number
+ * is padded. The other lines are the shortest that a header can have. */
+static void make_long_name(struct volume *v, size_t length)
+{
+    static const char *const before[] = {"", "", "LIST 1\n"}, *const after[] = {"", "%99d 0 0 1 1", ""};
+    size_t end;
+    v->version = 4;
+    v->type = CRANEHOLT_INT32;
+    v->encoding = TEXT;
+    v->detached = 1;
+    v->named = (int)random_below(3);
+    v->dimension = v->sizes[0] = v->count = v->files = 1;
+    v->sweep = v->from_end = 0;
+    v->file.length = 0;
+    put_text(&v->file, "NRRD0004\ndimension: 1\nsizes: 1\ntype: int\nencoding: txt\ndatafile: ");
+    put_text(&v->file, before[v->named]);
+    for (end = strlen(after[v->named]); v->file.length + end < length; )
+        put_byte(&v->file, (uint8_t)('a' + random_below(26)));
+    put_text(&v->file, after[v->named]);
+    v->header = v->file.length;
+}
+
 void make_large_volume(struct volume *v)
 {
     size_t near = random_below(6), lines;
     make_undamaged(v);
+    if (random_chance(20)) {
+        make_long_name(v, 65532 + near);
+        return;
+    }
     lines = model_read_header(v->file.at, v->file.length).reading.lines;
     switch (random_below(4)) {
     case 0: /* the header's length near its limit */

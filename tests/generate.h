@@ -26,9 +26,16 @@ void put_random(struct bytes *b, size_t length);
 
 /* ---- files */
 
+/* how a detached header names its data files */
+enum { ONE_NAME, PATTERN, LIST };
+
 struct volume {
     uint32_t version, type, encoding, endian; /* endian 2: not given */
     int detached;
+    int named;      /* ONE_NAME, PATTERN or LIST */
+    uint64_t files; /* how many the pattern or the list has */
+    int says_axes;  /* it also says how many axes one file covers */
+    uint64_t axes;
     size_t dimension;
     uint64_t sizes[16], count; /* count: the wanted samples, when few */
     uint64_t line_skip, byte_skip;
@@ -44,8 +51,8 @@ struct volume {
 /* A file, in most cases right, else with a fault or damage. */
 void make_volume(struct volume *v);
 
-/* A file whose header is near the limits of length or lines, or which is near
- * the longest file of the listing. */
+/* A file whose header is near the limits of length or lines, also by one long
+ * name, or which is near the longest file of the listing. */
 void make_large_volume(struct volume *v);
 
 /* A key or value, in most cases one that may be set; keys repeat often. Half

@@ -18,8 +18,9 @@
 static const struct set {
     const char *folder;
     int files, calls;
-} sets[] = {{"tests/vectors/w4", 150, 34},
-            {"tests/vectors", 150, 78},
+} sets[] = {{"tests/vectors", 150, 87},
+            {"tests/vectors/w4", 150, 34},
+            {"tests/vectors/w2", 150, 78},
             {"tests/vectors/w1", 141, 103},
             {"tests/vectors/base", 304, 44}};
 

@@ -1,7 +1,7 @@
 /*
  * A second implementation of every call of craneholt.h, written from the
- * rules of document 01 and of requests W1, W2 and W4 of document 02 alone, to
- * compare the library with. It is plain and slow on purpose and allocates
+ * rules of document 01 and of requests W1, W2, W4 and W5 of document 02 alone,
+ * to compare the library with. It is plain and slow on purpose and allocates
  * memory where that is the simplest way. The parts below stand in the order of
  * document 01's sections and cite them; points that the documents leave open
  * are taken as docs/DECISIONS.md says.
@@ -16,12 +16,13 @@ enum {
     SPACE_AXES = 8,        /* the largest dimension of a space (W2) */
     DIGITS = 18,           /* the most digits of a decimal (W2) */
     POWER = 400,           /* its largest power, and with a minus its least */
+    WIDTH = 99,            /* the most places that a number in a name is padded to (W5) */
     HEADER_LIMIT = 65535,  /* refusal 3 */
     LINE_LIMIT = 1024,     /* refusal 4 */
     LISTING_LIMIT = 65536  /* bytes of a file that is listed ("Trials") */
 };
 
-static const uint64_t LIMIT32 = 4294967295u; /* refusals 1 and 15, sizes, skips; where stamps wrap (W4) */
+static const uint64_t LIMIT32 = 4294967295u; /* refusals 1 and 15, sizes, skips; where stamps wrap (W4); numbers of a pattern (W5) */
 static const uint64_t OFFSET_LIMIT = 255;    /* refusal 28 (W4) */
 static const uint64_t STEP_LIMIT = 2147483647;
 
@@ -411,6 +412,137 @@ static size_t unescape(const uint8_t *text, size_t length, uint8_t *out)
     return count;
 }
 
+/* ---- W5: the data file field */
+
+enum { ONE_NAME, PATTERN, LIST };
+
+/* What a data file field says. Of a pattern: the place of its `%`, the bytes of its conversion, to how many places a number is
+ * padded and by what, and the numbers. */
+struct files {
+    int form;
+    const uint8_t *text; /* the name, or the pattern */
+    size_t length;
+    size_t percent, conversion, width;
+    uint8_t pad;
+    uint64_t first, last, step; /* the step without its sign */
+    int down;                   /* the step has a minus */
+    int says_axes;
+    uint64_t axes; /* that one file covers, if it says so */
+};
+
+/* "A data file descriptor that is LIST ..." tells the forms apart, LIST first. */
+static int form_of_files(const uint8_t *text, size_t length)
+{
+    if (length >= 4 && memcmp(text, "LIST", 4) == 0 && (length == 4 || text[4] == ' '))
+        return LIST;
+    return memchr(text, '%', length) != NULL ? PATTERN : ONE_NAME;
+}
+
+/* What is left of a descriptor, to be taken token by token. */
+struct tokens {
+    const uint8_t *text;
+    size_t length, at;
+};
+
+/* The next token, parted by blanks; false if there is none. */
+static int next_token(struct tokens *t, const uint8_t **token, size_t *length)
+{
+    size_t start;
+    while (t->at < t->length && is_space_or_tab(t->text[t->at]))
+        t->at++;
+    for (start = t->at; t->at < t->length && !is_space_or_tab(t->text[t->at]); )
+        t->at++;
+    *token = t->text + start;
+    *length = t->at - start;
+    return *length > 0;
+}
+
+/* The next token as a number in digits alone, up to a limit. */
+static int next_number(struct tokens *t, uint64_t most, uint64_t *number)
+{
+    const uint8_t *token;
+    size_t length;
+    if (!next_token(t, &token, &length) || !all_digits(token, length))
+        return 0;
+    *number = value_of_digits(token, length);
+    return *number <= most;
+}
+
+/* The step: perhaps a minus, then digits; not 0. */
+static int next_step(struct tokens *t, struct files *f)
+{
+    const uint8_t *token;
+    size_t length;
+    if (!next_token(t, &token, &length))
+        return 0;
+    f->down = token[0] == '-';
+    token += f->down;
+    length -= (size_t)f->down;
+    if (length == 0 || !all_digits(token, length))
+        return 0;
+    f->step = value_of_digits(token, length);
+    return f->step > 0 && f->step <= LIMIT32;
+}
+
+/* Nothing more, or one number, of any size: how many axes one file covers. */
+static int last_axes(struct tokens *t, struct files *f)
+{
+    const uint8_t *token;
+    size_t length;
+    if (!next_token(t, &token, &length))
+        return 1;
+    f->says_axes = 1;
+    f->axes = value_of_digits(token, length);
+    return all_digits(token, length) && !next_token(t, &token, &length);
+}
+
+/* The pattern's only `%`: `%d`, `%Nd` or `%0Nd`, N from 1 to 99 without leading zeros. */
+static int understand_conversion(struct files *f)
+{
+    size_t at, digits;
+    for (at = 0; at < f->length && f->text[at] != '%'; )
+        at++;
+    if (at == f->length || memchr(f->text + at + 1, '%', f->length - at - 1) != NULL)
+        return 0;
+    f->percent = at++;
+    f->pad = at < f->length && f->text[at] == '0' ? '0' : ' ';
+    if (f->pad == '0')
+        at++;
+    for (digits = at; at < f->length && is_digit(f->text[at]); )
+        at++;
+    f->width = (size_t)value_of_digits(f->text + digits, at - digits);
+    f->conversion = at + 1 - f->percent;
+    if (at == f->length || f->text[at] != 'd')
+        return 0;
+    if (at == digits)
+        return f->pad == ' '; /* `%d`, not `%0d` */
+    return f->text[digits] != '0' && f->width <= WIDTH;
+}
+
+/* How many numbers a pattern has, from first by the step up to last. */
+static uint64_t pattern_count(const struct files *f)
+{
+    uint64_t low = f->down ? f->last : f->first, high = f->down ? f->first : f->last;
+    return low > high ? 0 : (high - low) / f->step + 1;
+}
+
+/* refusal 11 of a data file field */
+static int understand_files(struct files *f, const uint8_t *text, size_t length)
+{
+    struct tokens t = {text, length, 0};
+    memset(f, 0, sizeof *f);
+    f->form = form_of_files(text, length);
+    f->text = text;
+    f->length = length;
+    if (f->form == ONE_NAME)
+        return length > 0;
+    next_token(&t, &f->text, &f->length); /* LIST, or the pattern */
+    if (f->form == LIST)
+        return last_axes(&t, f);
+    return understand_conversion(f) && next_number(&t, LIMIT32, &f->first) && next_number(&t, LIMIT32, &f->last)
+           && next_step(&t, f) && last_axes(&t, f) && pattern_count(f) > 0;
+}
+
 /* ---- Lines and headers: reading */
 
 struct pair {
@@ -426,6 +558,9 @@ struct header {
     struct pair pairs[LINE_LIMIT];
     size_t pair_count;
     craneholt_decimal origin[SPACE_AXES], directions[AXES * SPACE_AXES], frame[SPACE_AXES * SPACE_AXES];
+    struct files files;
+    struct line names[LINE_LIMIT]; /* under LIST */
+    size_t name_count;
 };
 
 /* The version that the first line tells, or 0. */
@@ -519,16 +654,6 @@ static int understand_space(const uint8_t *text, size_t length, craneholt_readin
     return 0;
 }
 
-/* Data file: no list, no pattern, not empty. */
-static int is_file_name(const uint8_t *text, size_t length)
-{
-    if (length == 0 || memchr(text, '%', length) != NULL)
-        return 0;
-    if (length >= 4 && memcmp(text, "LIST", 4) == 0)
-        return length > 4 && text[4] != ' ';
-    return 1;
-}
-
 /* refusal 11: takes the meaning of an understood field from its trimmed descriptor */
 static int understand(struct header *h, int field, const uint8_t *text, size_t length)
 {
@@ -567,7 +692,7 @@ static int understand(struct header *h, int field, const uint8_t *text, size_t l
     case MEASUREMENT_FRAME:
         return r->frame = read_vectors(text, length, r->spacedimension, r->spacedimension, 0, h->frame);
     default:
-        return is_file_name(text, length);
+        return understand_files(&h->files, text, length);
     }
 }
 
@@ -578,6 +703,12 @@ static int is_second(const struct header *h, int field)
            || (field == SPACE_DIMENSION && h->present[SPACE]);
 }
 
+/* The first version with this field; of data file, with this form of it (W5). */
+static uint32_t version_of_field(int field, const uint8_t *text, size_t length)
+{
+    return field == DATA_FILE && form_of_files(text, length) != ONE_NAME ? 4 : model_fields[field].version;
+}
+
 /* A field line: refusals 7 to 11 in this order, or 0. */
 static uint32_t read_field(struct header *h, const uint8_t *file, struct line line, size_t mark)
 {
@@ -585,18 +716,18 @@ static uint32_t read_field(struct header *h, const uint8_t *file, struct line li
     size_t start = mark + 2, end = line.text;
     if (field < 0)
         return 7;
-    if (h->reading.version < model_fields[field].version)
-        return 8;
-    if (is_second(h, field))
-        return 9;
-    if (!in_order(h, field))
-        return 10;
     int understood = model_fields[field].flags & MODEL_UNDERSTOOD;
     /* blanks at the end drop, in understood fields also those in front */
     while (end > start && is_space_or_tab(file[end - 1]))
         end--;
     while (understood && start < end && is_space_or_tab(file[start]))
         start++;
+    if (h->reading.version < version_of_field(field, file + start, end - start))
+        return 8;
+    if (is_second(h, field))
+        return 9;
+    if (!in_order(h, field))
+        return 10;
     if (understood && !understand(h, field, file + start, end - start))
         return 11;
     h->present[field] = 1;
@@ -631,6 +762,21 @@ static uint32_t read_line(struct header *h, const uint8_t *file, struct line lin
     return read_pair(h, file, line, mark);
 }
 
+/* True if the lines from here on are names (W5). */
+static int names_follow(const struct header *h)
+{
+    return h->present[DATA_FILE] && h->files.form == LIST;
+}
+
+/* A name under LIST: refusal 5, or 0. */
+static uint32_t read_name(struct header *h, const uint8_t *file, struct line line)
+{
+    if (!bytes_are_good(file + line.start, line.text - line.start))
+        return 5;
+    h->names[h->name_count++] = line;
+    return 0;
+}
+
 /* The lines from the second on: refusals 3 to 13. */
 static craneholt_refusal read_lines(struct header *h, const uint8_t *file, size_t length)
 {
@@ -646,13 +792,39 @@ static craneholt_refusal read_lines(struct header *h, const uint8_t *file, size_
         r->length = line.end;
         if (line.text == line.start && has_ending(line))
             return (craneholt_refusal){0, 0};
-        if (file[line.start] != '#')
-            refusal.number = read_line(h, file, line);
+        if (names_follow(h)) {
+            refusal.number = read_name(h, file, line);
+        } else {
+            if (file[line.start] != '#')
+                refusal.number = read_line(h, file, line);
+            r->fieldlines = r->lines;
+        }
         if (refusal.number != 0)
             return refusal;
     }
     /* a detached header needs no closing line */
     return (craneholt_refusal){h->present[DATA_FILE] ? 0 : 13, 0};
+}
+
+/* How many data files there are (W5). */
+static uint64_t file_count(const struct header *h)
+{
+    if (names_follow(h))
+        return h->name_count;
+    return h->present[DATA_FILE] && h->files.form == PATTERN ? pattern_count(&h->files) : 1;
+}
+
+/* Whether the files fit the sizes, by the rule of section 3 of source document 000; asked of a pattern and of LIST (W5). */
+static int files_fit(const struct header *h)
+{
+    const craneholt_reading *r = &h->reading;
+    uint64_t axes = h->files.says_axes ? h->files.axes : r->dimension - 1, files = file_count(h), not_covered = 1;
+    if (axes < 1 || axes > r->dimension)
+        return 0;
+    for (size_t i = axes; i < r->dimension; i++)
+        not_covered *= r->sizes[i];
+    return (axes < r->dimension ? files == not_covered : r->sizes[axes - 1] % files == 0)
+           && r->extent / model_types[r->sampletype].bytes % files == 0;
 }
 
 /* "Needed" */
@@ -681,13 +853,22 @@ static craneholt_refusal read_refusal(struct header *h, const uint8_t *file, siz
     refusal = read_lines(h, file, length);
     if (refusal.number != 0)
         return refusal;
+    if (!names_follow(h))
+        r->fieldlines = r->lines;
+    else if (h->name_count == 0) /* W5: LIST without a name */
+        return (craneholt_refusal){11, r->fieldlines};
     if (!needed_are_present(h))
         return (craneholt_refusal){14, 0};
     if (r->fromend && r->encoding != RAW) /* W1 */
         return (craneholt_refusal){11, 0};
     r->form = h->present[DATA_FILE] ? 1 : 0;
     r->extent = extent_of(r->sizes, r->dimension, model_types[r->sampletype].bytes);
-    return (craneholt_refusal){r->extent > LIMIT32 ? 15 : 0, 0};
+    if (r->extent > LIMIT32)
+        return (craneholt_refusal){15, 0};
+    if (r->form == 1 && h->files.form != ONE_NAME && !files_fit(h)) /* W5 */
+        return (craneholt_refusal){11, 0};
+    r->files = (uint32_t)file_count(h); /* they divide the samples, which are below 2^32 */
+    return (craneholt_refusal){0, 0};
 }
 
 /* The reading alone; true if it is not refused. */
@@ -695,7 +876,7 @@ static int read_header(struct header *h, const uint8_t *file, size_t length)
 {
     memset(&h->reading, 0, sizeof h->reading);
     memset(h->present, 0, sizeof h->present);
-    h->pair_count = 0;
+    h->pair_count = h->name_count = 0;
     h->reading.endian = NOT_GIVEN;
     h->reading.space = MODEL_SPACES; /* not given */
     h->refusal = read_refusal(h, file, length);
@@ -836,7 +1017,9 @@ static int find_data(struct header *h, const uint8_t *file, size_t file_length,
     *data = (struct rest){file, r->length, file_length};
     if (r->form == 1)
         *data = (struct rest){second, 0, second_length};
-    if (data->length > LIMIT32)
+    if (r->files > 1)
+        h->refusal.number = 33; /* W5 */
+    else if (data->length > LIMIT32)
         h->refusal.number = 1;
     else if (samples && r->sampletype >= FLOAT)
         h->refusal.number = 19;
@@ -1144,6 +1327,77 @@ static craneholt_write_answer hand_over(struct text text, uint8_t *out, size_t o
     }
     free(text.bytes);
     return answer;
+}
+
+/* ---- W5: data in several files */
+
+craneholt_count_answer model_files(const uint8_t *file, size_t file_length)
+{
+    struct header h;
+    uint64_t files = read_header(&h, file, file_length) ? h.reading.files : 0;
+    return (craneholt_count_answer){h.refusal, files};
+}
+
+/* A number, padded on the left, never cut. */
+static void put_padded(struct text *text, uint64_t number, size_t width, uint8_t pad)
+{
+    uint8_t digits[20];
+    struct text own = {digits, 0};
+    put_number(&own, number);
+    for (size_t places = own.length; places < width; places++)
+        put_byte(text, pad);
+    put_bytes(text, digits, own.length);
+}
+
+/* The name of a file that is there; an attached header's is empty. */
+static void put_name(struct text *text, const struct header *h, const uint8_t *file, uint64_t n)
+{
+    const struct files *f = &h->files;
+    if (h->reading.form == 0)
+        return;
+    if (f->form == LIST) {
+        put_bytes(text, file + h->names[n].start, h->names[n].text - h->names[n].start);
+        return;
+    }
+    if (f->form == PATTERN) {
+        size_t rest = f->percent + f->conversion;
+        put_bytes(text, f->text, f->percent);
+        put_padded(text, f->down ? f->first - n * f->step : f->first + n * f->step, f->width, f->pad);
+        put_bytes(text, f->text + rest, f->length - rest);
+        return;
+    }
+    put_bytes(text, f->text, f->length);
+}
+
+craneholt_write_answer model_file_name(const uint8_t *file, size_t file_length, uint64_t n,
+                                       uint8_t *out, size_t out_length)
+{
+    struct header h;
+    struct text text;
+    if (read_header(&h, file, file_length) && n >= h.reading.files)
+        h.refusal.number = 29;
+    if (h.refusal.number != 0)
+        return (craneholt_write_answer){h.refusal, 0};
+    text = new_text(HEADER_LIMIT + WIDTH); /* a name or a pattern is shorter than the header, and a number has at most WIDTH places */
+    put_name(&text, &h, file, n);
+    return hand_over(text, out, out_length);
+}
+
+/* All shares are equal. */
+craneholt_share_answer model_sample_file(const uint8_t *file, size_t file_length, uint64_t sample)
+{
+    struct header h;
+    uint64_t bytes, samples, share;
+    if (!read_header(&h, file, file_length))
+        return (craneholt_share_answer){h.refusal, 0, 0};
+    bytes = model_types[h.reading.sampletype].bytes;
+    samples = h.reading.extent / bytes;
+    share = samples / h.reading.files;
+    if (sample >= samples) {
+        h.refusal.number = 23;
+        return (craneholt_share_answer){h.refusal, 0, 0};
+    }
+    return (craneholt_share_answer){h.refusal, sample / share, sample % share * bytes};
 }
 
 /* ---- Writer */

@@ -61,6 +61,10 @@ craneholt_count_answer model_samples(const uint8_t *file, size_t file_length,
                                      void *list, size_t list_length);
 craneholt_number_answer model_sample_number(const uint8_t *file, size_t file_length,
                                             const void *coords, size_t coords_length);
+craneholt_count_answer model_files(const uint8_t *file, size_t file_length);
+craneholt_write_answer model_file_name(const uint8_t *file, size_t file_length, uint64_t n,
+                                       uint8_t *out, size_t out_length);
+craneholt_share_answer model_sample_file(const uint8_t *file, size_t file_length, uint64_t sample);
 craneholt_write_answer model_write(uint64_t version, const void *sizes, size_t sizes_length,
                                    uint64_t sampletype, uint64_t encoding, uint64_t endian,
                                    const void *samples, size_t samples_length,

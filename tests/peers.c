@@ -116,12 +116,13 @@ static int lines_are_right(struct bytes file, const char *said)
     return line != NULL;
 }
 
+/* The tool saves data of several files in one, and then needs no version 4. */
 static int header_is_right(const struct peer *p)
 {
     craneholt_read_answer answer = craneholt_read_header(p->file.at, p->file.length);
     const craneholt_reading *r = &answer.reading;
     const char *said = (const char *)p->said.at;
-    return answer.refusal.number == 0 && said != NULL && said[7] == (char)('0' + r->version)
+    return answer.refusal.number == 0 && said != NULL && (r->files > 1 || said[7] == (char)('0' + r->version))
            && r->form == (p->second.at != NULL)
            && said_shape(said, r->sampletype, r->sizes, r->dimension) && lines_are_right(p->file, said);
 }
@@ -155,6 +156,36 @@ static int samples_are_right(const struct peer *p)
     return right;
 }
 
+/* The samples of one of several files, by a header of its own for it. */
+static int read_share(const struct peer *p, struct bytes file, int64_t *list, uint64_t share)
+{
+    craneholt_reading r = craneholt_read_header(p->file.at, p->file.length).reading;
+    uint8_t header[CRANEHOLT_ORIENTED_ROOM + 16];
+    size_t length = (size_t)craneholt_write_header(4, &share, sizeof share, r.sampletype, r.encoding, r.endian, NULL, 0, header,
+                                                   sizeof header).length;
+    length += (size_t)snprintf((char *)header + length - 1, 16, "data file: x\n") - 1; /* in place of the empty line */
+    return craneholt_samples(header, length, file.at, file.length, list, share * sizeof *list).count == share;
+}
+
+/* The samples that the tool says, of the files one after the other, in the folder of the header. */
+static int shares_are_right(const char *folder, const struct peer *p)
+{
+    uint64_t files = craneholt_files(p->file.at, p->file.length).count, count = sample_count(p), share = count / files;
+    int64_t *list = malloc(count * sizeof *list);
+    int right = files > 1;
+    for (uint64_t n = 0; right && n < files; n++) {
+        uint8_t name[64] = {0};
+        struct bytes file;
+        craneholt_file_name(p->file.at, p->file.length, n, name, sizeof name - 1);
+        file = load(folder, (const char *)name);
+        right = file.at != NULL && read_share(p, file, list + n * share, share);
+        free(file.at);
+    }
+    right = right && said_samples((const char *)p->said.at, list, count);
+    free(list);
+    return right;
+}
+
 static int data_is_right(const struct peer *p, craneholt_refusal refusal)
 {
     craneholt_data_answer answer = craneholt_data(p->file.at, p->file.length, p->second.at, p->second.length);
@@ -164,12 +195,14 @@ static int data_is_right(const struct peer *p, craneholt_refusal refusal)
 
 /* ---- one file of the list */
 
-/* Up to 15 the header is refused; above, the samples are. */
-static int peer_is_right(const struct peer *p)
+/* Up to 15 the header is refused; above, the samples are; with 33 they are read file by file. */
+static int peer_is_right(const char *folder, const struct peer *p)
 {
     static const craneholt_refusal fine;
     if (p->file.at == NULL)
         return 0;
+    if (p->refusal.number == CRANEHOLT_SEVERAL_FILES)
+        return header_is_right(p) && data_is_right(p, p->refusal) && samples_are_right(p) && shares_are_right(folder, p);
     if (p->refusal.number == 0 || p->refusal.number > CRANEHOLT_EXTENT_TOO_LARGE)
         return header_is_right(p) && data_is_right(p, fine) && samples_are_right(p);
     return same_refusal(craneholt_read_header(p->file.at, p->file.length).refusal, p->refusal)
@@ -190,7 +223,7 @@ static int line_of_list_is_right(const char *folder, const char *line)
     p.said = load(folder, said);
     p.refusal.number = number;
     p.refusal.line = at;
-    right = (strcmp(second, "-") == 0) == (p.second.at == NULL) && peer_is_right(&p);
+    right = (strcmp(second, "-") == 0) == (p.second.at == NULL) && peer_is_right(folder, &p);
     free(p.file.at);
     free(p.second.at);
     free(p.said.at);

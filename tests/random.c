@@ -30,7 +30,7 @@ static struct lent {
     struct part file, second, key, value, out, table, list, coords, sizes, samples, orientation;
     uint32_t field;
     size_t room, used, count;
-    uint64_t version, type, encoding, endian, largest;
+    uint64_t version, type, encoding, endian, largest, n, sample;
 } lent;
 
 /* The block as lent, and the copies for the library and the model. */
@@ -70,12 +70,13 @@ static void lend_nothing(void)
 
 /* places in the answer of a reading */
 enum {
-    AXES = 4, SIZES = 8, LENGTH = 27, LINES, FROM_END, ORIGIN_GIVEN, DIRECTIONS_GIVEN, FRAME_GIVEN, SPACE, SPACE_AXES
+    AXES = 4, SIZES = 8, LENGTH = 27, LINES, FROM_END, ORIGIN_GIVEN, DIRECTIONS_GIVEN, FRAME_GIVEN, SPACE, SPACE_AXES,
+    DATA_FILES, FIELD_LINES
 };
 
 struct answer {
     size_t count;
-    uint64_t numbers[SPACE_AXES + 1];
+    uint64_t numbers[FIELD_LINES + 1];
 };
 
 static struct answer of_refusal(craneholt_refusal refusal)
@@ -111,6 +112,8 @@ static struct answer of_reading(craneholt_read_answer a)
     add(&answer, r->frame);
     add(&answer, r->space);
     add(&answer, r->spacedimension);
+    add(&answer, r->files);
+    add(&answer, r->fieldlines);
     return answer;
 }
 
@@ -232,12 +235,30 @@ static struct answer run_sweep(const struct calls *calls, uint8_t *b)
     return of_numbers(a.refusal, a.offset, a.wrong, a.row);
 }
 
+static struct answer run_files(const struct calls *calls, uint8_t *b)
+{
+    return of_count(calls->files(PART(file)));
+}
+
+static struct answer run_file_name(const struct calls *calls, uint8_t *b)
+{
+    craneholt_write_answer a = calls->file_name(PART(file), lent.n, PART(out));
+    return of_numbers(a.refusal, a.length, 0, 0);
+}
+
+static struct answer run_sample_file(const struct calls *calls, uint8_t *b)
+{
+    craneholt_share_answer a = calls->sample_file(PART(file), lent.sample);
+    return of_numbers(a.refusal, a.file, a.byte, 0);
+}
+
 enum call {
     READ_HEADER, READ, FIND_FIELD, FIND_KEY, COPY_VALUE, DATA, CHECK_SAMPLES, SAMPLES,
-    SAMPLE_NUMBER, WRITE, ORIGIN, DIRECTIONS, FRAME, WRITE_HEADER, SET_KEY, LISTING, SWEEP, CALL_COUNT
+    SAMPLE_NUMBER, WRITE, ORIGIN, DIRECTIONS, FRAME, WRITE_HEADER, SET_KEY, LISTING, SWEEP,
+    FILES, FILE_NAME, SAMPLE_FILE, CALL_COUNT
 };
 
-enum { NUMBERS = 29 }; /* of refusal, and 0 for none */
+enum { NUMBERS = 34 }; /* of refusal, and 0 for none */
 
 static struct {
     const char *name;
@@ -251,7 +272,8 @@ static struct {
     {"origin", run_origin},               {"directions", run_directions},
     {"frame", run_frame},                 {"write_header", run_write_header},
     {"set_key", run_set_key},             {"listing", run_listing},
-    {"sweep", run_sweep},
+    {"sweep", run_sweep},                 {"files", run_files},
+    {"file_name", run_file_name},         {"sample_file", run_sample_file},
 };
 
 /* how often each number came from each call: with line 0, with a line */
@@ -272,6 +294,13 @@ static struct {
 static struct {
     unsigned long right, wrapped, wrong, no_sweeps, no_largest;
 } sweeps;
+
+/* headers that are accepted with LIST, with a pattern and with one name; of the first two those with more than one file; headers
+ * that are refused with 8 or 11 at the line of a data file field, with 11 and line 0 for files that do not fit the sizes; and
+ * settings that are accepted on a header with LIST, and on one with a pattern */
+static struct {
+    unsigned long lists, patterns, names, several, too_early, bad, unfit, list_settings, pattern_settings;
+} named;
 
 /* ---- comparing */
 
@@ -405,15 +434,13 @@ static struct answer check_decimals(enum call call, uint64_t count)
     return check(call);
 }
 
-/* True if the line of this number, which is there, is one of the five fields'. */
-static int is_orientation_line(uint64_t number)
+/* True if the line of this number, which is there, starts with one of the names. */
+static int line_starts(uint64_t number, const char *const *names, size_t count)
 {
-    static const char *const names[] = {"space: ", "space dimension: ", "space origin: ", "space directions: ",
-                                        "measurement frame: "};
     const uint8_t *line = volume.file.at, *end = line + volume.file.length;
     for (; number > 1; number--)
         line = (const uint8_t *)memchr(line, '\n', (size_t)(end - line)) + 1;
-    for (size_t i = 0; i < 5; i++) {
+    for (size_t i = 0; i < count; i++) {
         size_t at = 0;
         while (line + at < end && names[i][at] != '\0' && (line[at] | 32) == names[i][at])
             at++;
@@ -421,6 +448,14 @@ static int is_orientation_line(uint64_t number)
             return 1;
     }
     return 0;
+}
+
+/* True if the line is one of the five fields'. */
+static int is_orientation_line(uint64_t number)
+{
+    static const char *const names[] = {"space: ", "space dimension: ", "space origin: ", "space directions: ",
+                                        "measurement frame: "};
+    return line_starts(number, names, 5);
 }
 
 static void count_orientation(const struct answer *header)
@@ -503,12 +538,76 @@ static void check_sweep(const struct answer *header)
     sweeps.no_largest += accepted && sweep.numbers[0] == 28;
 }
 
+/* ---- data in several files */
+
+/* The form of an accepted header's data file field; -1 where it has none. */
+static int form_of(const struct bytes *file, size_t length)
+{
+    craneholt_find_answer field = model.find_field(file->at, length, CRANEHOLT_FIELD_DATA_FILE);
+    const uint8_t *text = file->at + field.start;
+    if (!field.found)
+        return -1;
+    if (field.length >= 4 && memcmp(text, "LIST", 4) == 0 && (field.length == 4 || text[4] == ' '))
+        return LIST;
+    return memchr(text, '%', field.length) != NULL ? PATTERN : ONE_NAME;
+}
+
+static void count_files(const struct answer *header)
+{
+    static const char *const fields[] = {"data file: ", "datafile: "};
+    uint64_t number = header->numbers[0], line = header->numbers[1];
+    int form = number == 0 ? form_of(&volume.file, volume.file.length) : -1;
+    named.lists += form == LIST;
+    named.patterns += form == PATTERN;
+    named.names += form == ONE_NAME;
+    named.several += header->numbers[DATA_FILES] > 1;
+    named.too_early += number == 8 && line_starts(line, fields, 2);
+    named.bad += number == 11 && line > 0 && line_starts(line, fields, 2);
+    named.unfit += number == 11 && line == 0 && !volume.from_end;
+}
+
+/* The number of a file that is there, or one past the last, near it or not. */
+static uint64_t make_file_number(uint64_t files)
+{
+    if (files > 0 && random_chance(80))
+        return random_chance(30) ? files - 1 : random_below(files);
+    return random_chance(60) ? files + random_below(2) : random_bits() >> random_below(64);
+}
+
+/* The name of a file, into a buffer that is about as long as it. */
+static void check_name(uint64_t n)
+{
+    static struct bytes name;
+    uint64_t length = model.file_name(volume.file.at, volume.file.length, n, name.at, sizeof name.at).length;
+    lent.n = n;
+    lent.out = lend_room(random_chance(50) ? length : near_length(length, 1));
+    check(FILE_NAME);
+    if (length > 0) {
+        lent.out.length = random_chance(50) ? length - 1 : random_below(length);
+        check(FILE_NAME);
+    }
+}
+
+static void check_files(const struct answer *header)
+{
+    uint64_t files = header->numbers[DATA_FILES];
+    count_files(header);
+    check(FILES);
+    for (int i = 0; i < (volume.file.length < 10000 ? 4 : 1); i++)
+        check_name(make_file_number(files));
+    for (int i = 0; i < 4; i++) {
+        lent.sample = random_chance(85) ? random_below(volume.count + 1) : random_bits() >> random_below(64);
+        check(SAMPLE_FILE);
+    }
+}
+
 /* ---- data */
 
 /* True if the byte skip is -1, which is refused with line 0 in text and hex. */
 static int is_from_end(const struct answer *header)
 {
-    return header->numbers[FROM_END] != 0 || (header->numbers[0] == 11 && header->numbers[1] == 0);
+    return header->numbers[FROM_END] != 0
+           || (volume.from_end && volume.encoding != CRANEHOLT_RAW && header->numbers[0] == 11 && header->numbers[1] == 0);
 }
 
 static void check_data(const struct answer *header)
@@ -558,6 +657,7 @@ static struct answer check_file(void)
     check_reading(&header);
     check_keys();
     check_orientation(&header);
+    check_files(&header);
     check_data(&header);
     check_sweep(&header);
     check_coordinates();
@@ -918,6 +1018,20 @@ static void check_value(const struct setting *s)
         fail(COPY_VALUE, "the value accepted last does not show");
 }
 
+/* The files have the names that they had, under LIST too. */
+static void check_names_stay(const struct answer *header)
+{
+    static struct bytes before, after;
+    uint64_t files = header->numbers[DATA_FILES];
+    for (int i = 0; i < 3; i++) {
+        uint64_t n = i == 0 ? files - 1 : random_below(files);
+        before.length = library.file_name(volume.file.at, volume.file.length, n, before.at, sizeof before.at).length;
+        after.length = library.file_name(buffer.at, used, n, after.at, sizeof after.at).length;
+        if (before.length != after.length || memcmp(before.at, after.at, before.length) != 0)
+            fail(FILE_NAME, "a data file has another name after the list");
+    }
+}
+
 /* A fresh reading after the list, with a table of its own: the carried table
  * is its table, and the bytes after the header are those of the first file. */
 static void check_fresh(const struct answer *header)
@@ -935,6 +1049,19 @@ static void check_fresh(const struct answer *header)
         fail(READ, "the carried table is not that of a fresh reading");
     if (used - new_end != rest || memcmp(buffer.at + new_end, volume.file.at + end, rest) != 0)
         fail(READ, "the bytes after the header changed");
+    if (fresh.numbers[DATA_FILES] != header->numbers[DATA_FILES]
+        || fresh.numbers[LINES] - fresh.numbers[FIELD_LINES] != header->numbers[LINES] - header->numbers[FIELD_LINES])
+        fail(READ, "the data files changed");
+    check_names_stay(header);
+}
+
+static void count_settings(int length)
+{
+    int form = form_of(&volume.file, volume.file.length);
+    for (int i = 0; i < length; i++) {
+        named.list_settings += settings[i].accepted && form == LIST;
+        named.pattern_settings += settings[i].accepted && form == PATTERN;
+    }
 }
 
 /* A list of settings, and what it must leave; a short list if the header is refused. */
@@ -949,6 +1076,7 @@ static void check_list(const struct answer *header, int length)
     if (!accepted)
         return;
     check_fresh(header);
+    count_settings(length);
     for (int i = 0; i < length; i++)
         if (settings[i].accepted && !is_set_again(&settings[i], settings + length))
             check_value(&settings[i]);
@@ -1034,6 +1162,21 @@ static int print_sweeps(uint64_t inputs)
            && 100 * sweeps.no_sweeps >= inputs && 100 * sweeps.no_largest >= inputs;
 }
 
+/* At least one of eight headers has to be accepted with LIST or a pattern, one of thirty each with LIST, with a pattern, with one
+ * name, and with more than one file; each refusal has to be in one of five hundred, and as many settings as a quarter of the inputs
+ * have to be accepted on headers with LIST, and on those with a pattern. */
+static int print_named(uint64_t inputs)
+{
+    unsigned long sum = named.lists + named.patterns;
+    printf("LIST and patterns: %lu headers of %llu (%.1f %%); LIST %lu, patterns %lu, more than one file %lu; one name %lu; "
+           "refused 8 %lu, 11 %lu, 11 line 0 %lu; settings on LIST %lu, on patterns %lu\n",
+           sum, (unsigned long long)inputs, 100.0 * (double)sum / (double)inputs, named.lists, named.patterns, named.several,
+           named.names, named.too_early, named.bad, named.unfit, named.list_settings, named.pattern_settings);
+    return 8 * sum >= inputs && 30 * named.lists >= inputs && 30 * named.patterns >= inputs && 30 * named.names >= inputs
+           && 30 * named.several >= inputs && 500 * named.too_early >= inputs && 500 * named.bad >= inputs
+           && 500 * named.unfit >= inputs && 4 * named.list_settings >= inputs && 4 * named.pattern_settings >= inputs;
+}
+
 int main(int arguments, char **argument)
 {
     uint64_t first = arguments > 1 ? strtoull(argument[1], NULL, 10) : 0;
@@ -1051,6 +1194,10 @@ int main(int arguments, char **argument)
     }
     if (!print_sweeps(inputs) && inputs >= ENOUGH) {
         printf("too few files are sweeps, or of one kind\n");
+        return 1;
+    }
+    if (!print_named(inputs) && inputs >= ENOUGH) {
+        printf("too few headers have LIST, a pattern or one name, or too few settings are made on them\n");
         return 1;
     }
     printf("%llu inputs, no difference\n", (unsigned long long)inputs);

@@ -4,9 +4,9 @@
  * place of the library: it has to agree with the vectors as well. A set from
  * before a request says nothing of what came with it: the byte skip of each
  * reading with W1, the orientation and the header writer with W2, the roof
- * rig's sweeps with W4.
+ * rig's sweeps with W4, data in several files with W5.
  *
- *     vectors [folder [before-w1, before-w2 or before-w4]]
+ *     vectors [folder [before-w1, before-w2, before-w4 or before-w5]]
  */
 #include "bytes.h"
 #include "calls.h"
@@ -23,9 +23,9 @@ static const struct calls calls = CALLS(model);
 static const struct calls calls = CALLS(craneholt);
 #endif
 
-enum { BASE, W1, W2, W4 };
+enum { BASE, W1, W2, W4, W5 };
 
-static int last = W4; /* the last request that the vectors know */
+static int last = W5; /* the last request that the vectors know */
 
 /* ---- bytes */
 
@@ -139,7 +139,7 @@ static int same_reading(const craneholt_reading *a, const craneholt_reading *b)
            && a->byteskip == b->byteskip && a->extent == b->extent && a->length == b->length
            && a->lines == b->lines && a->fromend == b->fromend && a->origin == b->origin
            && a->directions == b->directions && a->frame == b->frame && a->space == b->space
-           && a->spacedimension == b->spacedimension;
+           && a->spacedimension == b->spacedimension && a->files == b->files && a->fieldlines == b->fieldlines;
 }
 
 /* A byte skip is told as a number, or as the text "from the end". */
@@ -257,10 +257,71 @@ static int orientation_is_refused(const struct json *v, struct bytes file)
     return 1;
 }
 
+/* ---- data in several files */
+
+/* A name into a buffer that is long enough, exactly, and one byte too short; an empty one needs no buffer. */
+static int name_is_right(struct bytes file, uint64_t n, struct bytes want)
+{
+    struct bytes nothing = {want.at, 0};
+    for (int more = want.length > 0 ? -1 : 0; more <= 1; more++) {
+        struct bytes out = filled(want.length + (size_t)more);
+        craneholt_write_answer answer = calls.file_name(file.at, file.length, n, out.at, out.length);
+        int right = answer.refusal.number == (more < 0 ? 22 : 0) && answer.refusal.line == 0
+                    && answer.length == (more < 0 ? 0 : want.length) && holds(out, more < 0 ? nothing : want);
+        free(out.at);
+        if (!right)
+            return 0;
+    }
+    return 1;
+}
+
+/* The names under LIST, each in the line that the table has for it; then comes the closing line, or nothing. */
+static int names_are_right(const struct json *names, struct bytes file, struct bytes table, const craneholt_reading *r)
+{
+    uint64_t n = 0;
+    for (const struct json *item = names->first; item != NULL; item = item->next) {
+        struct bytes want = of_text(item);
+        uint32_t start;
+        int right;
+        memcpy(&start, table.at + 4 * (r->fieldlines + n), sizeof start);
+        right = name_is_right(file, n++, want) && want.length <= file.length - start
+                && memcmp(file.at + start, want.at, want.length) == 0;
+        free(want.at);
+        if (!right)
+            return 0;
+    }
+    return r->files == n && (r->lines == r->fieldlines + n || r->lines == r->fieldlines + n + 1);
+}
+
+/* Where there is no LIST, no line is a name. A set from before W5 knows one file alone. */
+static int files_are_right(const struct json *v, struct bytes file, struct bytes table, const craneholt_reading *r)
+{
+    const struct json *names = json_member(v, "expect_names");
+    craneholt_count_answer answer = calls.files(file.at, file.length);
+    if (answer.refusal.number != 0 || answer.count != r->files || (names == NULL) != (last < W5))
+        return 0;
+    if (names != NULL && names->length > 0)
+        return names_are_right(names, file, table, r);
+    return r->fieldlines == r->lines && r->files >= 1 && (names != NULL || r->files == 1);
+}
+
+/* The calls for the files refuse what the reading refuses. */
+static int files_are_refused(const struct json *v, struct bytes file)
+{
+    struct bytes out = filled(64);
+    craneholt_count_answer count = calls.files(file.at, file.length);
+    craneholt_write_answer name = calls.file_name(file.at, file.length, 0, out.at, out.length);
+    craneholt_share_answer share = calls.sample_file(file.at, file.length, 0);
+    int right = same_refusal(v, count.refusal) && count.count == 0 && same_refusal(v, name.refusal) && name.length == 0
+                && same_refusal(v, share.refusal) && share.file == 0 && share.byte == 0 && untouched(out, 0);
+    free(out.at);
+    return right;
+}
+
 /* ---- reading */
 
 /* What both reading calls must answer for a header that is accepted. */
-static int reading_is_right(const struct json *v, struct bytes file, const craneholt_reading *r)
+static int reading_is_right(const struct json *v, struct bytes file, struct bytes table, const craneholt_reading *r)
 {
     const char *form = json_member(v, "expect_form")->text;
     craneholt_read_answer again = calls.read_header(file.at, file.length);
@@ -268,7 +329,8 @@ static int reading_is_right(const struct json *v, struct bytes file, const crane
            && r->version == number_member(v, "expect_version")
            && r->form == (strcmp(form, "detached") == 0)
            && r->length == number_member(v, "expect_header_length") && byte_skip_is_right(v, r)
-           && fields_are_right(v, file) && keys_are_right(v, file) && orientation_is_right(v, file, r);
+           && fields_are_right(v, file) && keys_are_right(v, file) && orientation_is_right(v, file, r)
+           && table_is_right(v, table, r->lines) && files_are_right(v, file, table, r);
 }
 
 /* What both reading calls must answer for a refused header. */
@@ -281,7 +343,7 @@ static int no_reading_is_right(const struct json *v, struct bytes file, const cr
     if (expected(v, 1)->number == 22)
         return without.refusal.number == 0;
     return same_refusal(v, without.refusal) && same_reading(&without.reading, &blank)
-           && orientation_is_refused(v, file);
+           && orientation_is_refused(v, file) && files_are_refused(v, file);
 }
 
 static int run_read(const struct json *v)
@@ -290,7 +352,7 @@ static int run_read(const struct json *v)
     craneholt_read_answer answer = calls.read(file.at, file.length, table.at, table.length);
     int right = same_refusal(v, answer.refusal);
     if (right && is_accepted(v))
-        right = reading_is_right(v, file, &answer.reading) && table_is_right(v, table, answer.reading.lines);
+        right = reading_is_right(v, file, table, &answer.reading);
     else if (right)
         right = no_reading_is_right(v, file, &answer.reading) && untouched(table, 0);
     free(file.at);
@@ -455,6 +517,38 @@ static int run_roof(const struct json *v)
     return right;
 }
 
+static int run_files(const struct json *v)
+{
+    struct bytes file = hex_member(v, "file");
+    craneholt_count_answer answer = calls.files(file.at, file.length);
+    int right = same_refusal(v, answer.refusal) && answer.count == (is_accepted(v) ? expected(v, 1)->number : 0);
+    free(file.at);
+    return right;
+}
+
+static int run_name(const struct json *v)
+{
+    struct bytes file = hex_member(v, "file"), out = filled(number_member(v, "room"));
+    struct bytes want = is_accepted(v) ? of_text(expected(v, 1)) : filled(0);
+    craneholt_write_answer answer =
+        calls.file_name(file.at, file.length, number_member(v, "n"), out.at, out.length);
+    int right = same_refusal(v, answer.refusal) && answer.length == want.length && holds(out, want);
+    free(file.at);
+    free(out.at);
+    free(want.at);
+    return right;
+}
+
+static int run_where(const struct json *v)
+{
+    struct bytes file = hex_member(v, "file");
+    craneholt_share_answer answer = calls.sample_file(file.at, file.length, number_member(v, "sample"));
+    int right = same_refusal(v, answer.refusal) && answer.file == (is_accepted(v) ? expected(v, 1)->number : 0)
+                && answer.byte == (is_accepted(v) ? expected(v, 2)->number : 0);
+    free(file.at);
+    return right;
+}
+
 static int run_set(const struct json *v)
 {
     struct bytes buffer = hex_member(v, "buffer"), want_buffer = hex_member(v, "expect_buffer");
@@ -523,6 +617,9 @@ static struct operation {
     {"listing", run_listing, BASE, 0, 0},
     {"header", run_header, W2, 0, 0},
     {"roof", run_roof, W4, 0, 0},
+    {"files", run_files, W5, 0, 0},
+    {"name", run_name, W5, 0, 0},
+    {"where", run_where, W5, 0, 0},
 };
 
 enum { OPERATIONS = sizeof operations / sizeof operations[0] };
@@ -596,17 +693,17 @@ static int tell(const struct operation *operation)
 /* The last request that vectors know which were made before another; ends the program if the word is none of these. */
 static int last_before(const char *word)
 {
-    static const char *const words[] = {"before-w1", "before-w2", "before-w4"}; /* in the order of the requests */
-    for (int request = BASE; request < W4; request++)
+    static const char *const words[] = {"before-w1", "before-w2", "before-w4", "before-w5"}; /* in the order of the requests */
+    for (int request = BASE; request < W5; request++)
         if (strcmp(words[request], word) == 0)
             return request;
-    fprintf(stderr, "vectors: before-w1, before-w2 or before-w4, not %s\n", word);
+    fprintf(stderr, "vectors: before-w1, before-w2, before-w4 or before-w5, not %s\n", word);
     exit(2);
 }
 
 int main(int arguments, char **argument)
 {
-    const char *folder = arguments > 1 ? argument[1] : "tests/vectors/w4";
+    const char *folder = arguments > 1 ? argument[1] : "tests/vectors";
     int right;
     if (arguments > 2)
         last = last_before(argument[2]);

@@ -568,6 +568,42 @@ static void places(void)
     both(part(bare(&h), 0, bare(&h).length - 2), LITERAL("12"), 2);
 }
 
+/* A data file field that names one file, more than one, or a number that does not fit the sizes; without another fault, with a skip
+ * past the end, with too few bytes, and with a list that is too short. */
+static void named_cases(uint64_t t, int e)
+{
+    static const struct {
+        const char *files;
+        uint32_t refusal;
+    } shapes[] = {{"x%d.raw 7 7 1 2", 0}, {"%03d 9 4294967295 4294967295 2", 0}, {"LIST 2\nx.raw", 0},
+                  {"LIST 2\n# byte skip: 9", 0}, {"x%d.raw 0 1 1", 33}, {"x%3d.raw 9 6 -2", 33}, {"x%d 1 2 1 2", 33},
+                  {"LIST\na\nb", 33}, {"LIST 2\nline skip: x\n:=", 33}, {"LIST 1\n \n\t", 33}, {"x%d 0 2 1", 11},
+                  {"x%d 0 0 1", 11}, {"LIST 3\na\nb", 11}, {"LIST\na", 11}, {"LIST", 11}};
+    static struct text area;
+    for (size_t i = 0; i < 4 * COUNT(shapes); i++) {
+        struct head h = sized("2 2");
+        struct files files;
+        uint32_t number;
+        give_kind(&h, t, e, 0, 0);
+        give(&h, "line skip", i % 4 == 1 ? "9" : "");
+        give(&h, "data file", shapes[i / 4].files);
+        area.length = 0;
+        put_encoded(&area, t, e, 0, some(t, i % 4 == 2 ? 3 : 4));
+        files = laid(&h, view(&area), 1);
+        number = put_data(files.file, files.second).refusal.number;
+        ensure(number == shapes[i / 4].refusal || (shapes[i / 4].refusal == 0 && i % 4 != 0),
+               "data in several files has another refusal");
+        put_samples(files.file, files.second, i % 4 == 3 ? 3 : 4);
+    }
+}
+
+static void named_files(void)
+{
+    named_cases(UINT8, RAW);
+    named_cases(INT16, TEXT);
+    named_cases(DOUBLE, HEX);
+}
+
 /* Lists that are too short, just long enough, longer, and far longer than any that is lent. */
 static void rooms(void)
 {
@@ -1200,10 +1236,11 @@ void put_call_groups(void)
         void (*put)(void);
     } groups[] = {
         {"trials of document 01", trials},       {"shapes of volumes", volumes},
-        {"shapes of skips and lengths", places}, {"shapes of lent lists", rooms},
-        {"shapes of text", texts},               {"shapes of hex", hexes},
-        {"shapes of coordinates", coordinates},  {"shapes of written files", files},
-        {"orders of refusal in files", orders},  {"orders of refusal in the writer", writer_orders},
+        {"shapes of skips and lengths", places}, {"data in several files", named_files},
+        {"shapes of lent lists", rooms},         {"shapes of text", texts},
+        {"shapes of hex", hexes},                {"shapes of coordinates", coordinates},
+        {"shapes of written files", files},      {"orders of refusal in files", orders},
+        {"orders of refusal in the writer", writer_orders},
     };
     for (size_t i = 0; i < COUNT(groups); i++) {
         start_group(groups[i].name);

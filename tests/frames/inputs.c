@@ -98,6 +98,10 @@ static const struct operation {
     {"set", "set vectors", put_set_vector},
     {"listing", "listing calls", put_listing_vector},
     {"header", NULL, NULL},
+    {"roof", NULL, NULL},
+    {"files", NULL, NULL},
+    {"name", NULL, NULL},
+    {"where", NULL, NULL},
 };
 
 enum { OPERATIONS = COUNT(operations), MOST_VECTORS = 100000 };

@@ -66,12 +66,12 @@ static size_t without(struct pair *pairs, size_t count, struct pair pair)
     return count;
 }
 
-size_t take_pairs(struct bytes file, struct pair *pairs)
+size_t take_pairs(struct bytes file, size_t lines, struct pair *pairs)
 {
     size_t at = 0, mark, count = 0;
     if (file.length > 0)
         line_at(file, &at);
-    while (at < file.length) {
+    for (; at < file.length && lines > 1; lines--) {
         struct bytes line = line_at(file, &at);
         if (line.length == 0)
             break;

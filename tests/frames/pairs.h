@@ -13,8 +13,9 @@ struct pair {
 
 enum { MOST_PAIRS = 1024 };
 
-/* The lines of the header with each key, in the order of the lines that are the last with their key; answers how many. */
-size_t take_pairs(struct bytes file, struct pair *pairs);
+/* Of the first lines of the header those with a key, in the order of the lines that are the last with their key; answers how many.
+ * Names under LIST that look like pairs are taken too where the lines go so far. */
+size_t take_pairs(struct bytes file, size_t lines, struct pair *pairs);
 void free_pairs(struct pair *pairs, size_t count);
 
 /* Puts where each line of the header starts, and answers how many lines it has. */

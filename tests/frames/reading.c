@@ -91,6 +91,8 @@ static void put_reading(struct text *c, const craneholt_reading *r)
     put_number(c, r->frame);
     put_number(c, r->space);
     put_number(c, r->spacedimension);
+    put_number(c, r->files);
+    put_number(c, r->fieldlines);
 }
 
 static void put_fields(struct text *c, struct bytes file)
@@ -114,10 +116,12 @@ static void put_key(struct text *c, struct bytes file, struct bytes key)
     free(value.at);
 }
 
-static void put_keys(struct text *c, struct bytes file, int accepted)
+/* Asked for are also the keys that names under LIST look like. */
+static void put_keys(struct text *c, struct bytes file, const craneholt_read_answer *header)
 {
     static struct pair pairs[MOST_PAIRS];
-    size_t count = accepted ? take_pairs(file, pairs) : 0;
+    int accepted = header->refusal.number == 0;
+    size_t count = take_pairs(file, header->reading.lines, pairs);
     ask_keys(pairs, count);
     if (!accepted) {
         asked_count = 0;
@@ -149,7 +153,7 @@ void put_read(struct bytes file, uint64_t room)
     put_run(c, file);
     put_run(c, part(table, 0, 4 * (size_t)told.reading.lines));
     put_fields(c, file);
-    put_keys(c, file, header.refusal.number == 0);
+    put_keys(c, file, &header);
     free(table.at);
     end_case();
 }
@@ -182,6 +186,49 @@ static void put_trials(void)
                      "encoding: raw\n\n"), 20);
     put_read(filled_header(CRANEHOLT_MAX_HEADER, "abc"), 10);
     put_read(filled_header(CRANEHOLT_MAX_HEADER + 1, ""), 20);
+    end_group();
+}
+
+/* ---- names under LIST at the limits */
+
+/* A header with so many names under LIST, as many as its sizes ask for, and comments before it up to so many lines. The last name
+ * is so long that the header has this length, if it is not 0. */
+static struct bytes named_header(size_t lines, size_t names, size_t length, int closed)
+{
+    static struct text file;
+    size_t comments = lines - 6 - names - (size_t)closed;
+    file.length = 0;
+    put_format(&file, "NRRD0004\ntype: uint8\ndimension: 2\nsizes: 1 %zu\nencoding: raw\n", names > 0 ? names : 1);
+    put_times(&file, "#\n", comments);
+    put_string(&file, "data file: LIST\n");
+    for (size_t n = 1; n < names; n++)
+        put_format(&file, "%zu:=%zu\n", n % 100, n);
+    while (names > 0 && file.length + 2 + (size_t)closed < length)
+        put_byte(&file, 'n');
+    if (names > 0)
+        put_string(&file, "x\n");
+    if (closed)
+        put_byte(&file, '\n');
+    return view(&file);
+}
+
+/* Headers of all lines or bytes that there may be, and of one more; a LIST without a name on the last line, or one byte before the end, is
+ * told after the closing line. */
+static void put_named(void)
+{
+    static const size_t names[] = {1, 7, 1000, 1017};
+    start_group("names under LIST at the limits");
+    for (size_t i = 0; i < 2 * COUNT(names); i++)
+        for (size_t more = 0; more < 2; more++)
+            put_read(named_header(CRANEHOLT_MAX_LINES + more, names[i / 2], 0, i % 2 == 0), 1100);
+    for (size_t i = 0; i < 4; i++)
+        put_read(named_header(30, 12, CRANEHOLT_MAX_HEADER + i / 2, i % 2 == 0), 30);
+    for (size_t more = 0; more < 2; more++) {
+        struct bytes file = named_header(CRANEHOLT_MAX_LINES + more, 0, 0, 1);
+        uint32_t number = model_read_header(file.at, file.length).refusal.number;
+        ensure(number == (more ? CRANEHOLT_TOO_MANY_LINES : CRANEHOLT_BAD_DESCRIPTOR), "an empty LIST has another refusal");
+        put_read(file, 1100);
+    }
     end_group();
 }
 
@@ -224,6 +271,7 @@ void put_header_groups(const char *folder)
     struct bytes lines = load(folder, "headers.txt");
     ensure(lines.at != NULL, "headers.txt is missing");
     put_trials();
+    put_named();
     start_group("shapes of headers");
     for (char *line = strtok((char *)lines.at, "\n"); line != NULL; line = strtok(NULL, "\n"))
         put_line(line);

@@ -95,7 +95,7 @@ static void put_keys(struct text *t, struct bytes file)
 {
     static struct pair pairs[MOST_PAIRS];
     static struct text keys, value;
-    size_t count = take_pairs(file, pairs);
+    size_t count = take_pairs(file, model_read_header(file.at, file.length).reading.fieldlines, pairs);
     keys.length = 0;
     put_number(&keys, count);
     for (size_t i = 0; i < count; i++) {
@@ -114,7 +114,7 @@ static void show(struct bytes file, const char *name)
     static struct pair pairs[MOST_PAIRS];
     static struct text shown;
     craneholt_read_answer a = model_read_header(file.at, file.length);
-    size_t count = take_pairs(file, pairs);
+    size_t count = take_pairs(file, a.reading.fieldlines, pairs);
     shown.length = 0;
     put_format(&shown, "%s: version %u, lines %u\n", name, (unsigned)a.reading.version, (unsigned)a.reading.lines);
     for (size_t i = 0; i < count; i++) {
@@ -267,6 +267,23 @@ static void detached_lists(const char *end)
                 "last line a pair without ending");
 }
 
+/* Names under LIST that look like pairs with the keys that are set, and a pattern. */
+static void named_lists(const char *end)
+{
+    static const char *const lines[] = {UTC ":=36", FIELDS, UTC ":=37", "data file: LIST", UTC ":=99", RIG ":=8",
+                                        "# new:=1", NULL};
+    static const char *const pattern[] = {FIELDS, RIG ":=7", "data file: slice%02d.raw 3 1 -1", UTC ":=36", NULL};
+    static struct text file;
+    size_t length = header(&file, "NRRD0004", lines, end, 1).length;
+    put_string(&file, "ignored:=1\n");
+    chosen_list(view(&file), end, GROW, GROWING, "names under LIST", "closed, bytes after it");
+    chosen_list(part(view(&file), 0, length - strlen(end)), end, GROW, GROWING, "names under LIST", "without closing line");
+    chosen_list(part(view(&file), 0, length - 2 * strlen(end)), end, GROW, GROWING, "names under LIST",
+                "last name without ending");
+    header(&file, "NRRD0005", pattern, end, 1);
+    chosen_list(view(&file), end, GROW, GROWING, "pattern", "closed");
+}
+
 static void chosen_lists(void)
 {
     static const char *const lines[] = {FIELDS, NULL};
@@ -275,6 +292,7 @@ static void chosen_lists(void)
     for (int i = 0; i < 2; i++) {
         attached_lists(i ? CRLF : LF);
         detached_lists(i ? CRLF : LF);
+        named_lists(i ? CRLF : LF);
     }
     file.length = 0;
     put_string(&file, "NRRD0003\r\n" RIG ":=1\n");
@@ -452,7 +470,7 @@ static struct bytes drawn_pair(void)
     return part(view(&drawn), from, drawn.length);
 }
 
-enum { MOST_LINES = 16 };
+enum { MOST_LINES = 20 };
 
 /* The fields, which keep their order since sizes come after dimension, and lines among them. */
 static size_t drawn_lines(struct bytes *lines, int detached)
@@ -481,15 +499,30 @@ static const char *drawn_ending(uint64_t kind)
     return kind == 1 || turn == 1 ? CRLF : LF;
 }
 
-/* Attached; detached and closed, without closing line, or with a last line without ending. */
+/* LIST with as many names as the sizes ask for: pairs, and lines that are something else elsewhere. */
+static size_t drawn_names(struct bytes *lines)
+{
+    static const struct bytes names[] = {BYTES("# c"), BYTES("x.raw"), BYTES(" "), BYTES("type: int8"), {NULL, 0}, {NULL, 0}};
+    lines[0] = LITERAL("data file: LIST");
+    for (size_t n = 1; n <= 3; n++) {
+        struct bytes line = OF(names);
+        lines[n] = line.at == NULL ? drawn_pair() : line;
+    }
+    return 4;
+}
+
+/* Attached; detached and closed, without closing line, or with a last line without ending, a third of these with LIST. */
 static struct bytes drawn_file(void)
 {
     static const char *const magics[] = {"NRRD0002", "NRRD0003", "NRRD0004", "NRRD0005"};
     static struct text file;
     struct bytes lines[MOST_LINES];
     uint64_t form = below(&draw, 4), kind;
-    size_t count = drawn_lines(lines, form != 0);
+    int named = form != 0 && below(&draw, 3) == 0;
+    size_t count = drawn_lines(lines, form != 0 && !named);
     const char *end = LF;
+    if (named)
+        count += drawn_names(lines + count);
     kind = below(&draw, 3);
     file.length = 0;
     put_string(&file, OF(magics));

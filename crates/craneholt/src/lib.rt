@@ -5,6 +5,7 @@ use format::FindAnswer;
 use format::NumberAnswer;
 use format::ReadAnswer;
 use format::SetAnswer;
+use format::ShareAnswer;
 use format::ValueAnswer;
 use format::WriteAnswer;
 ghost use mathlib.Core.Path.{_≡_};
@@ -20,11 +21,12 @@ ghost use Rattle.format.specs.Limits.{maxListing};
 ghost use Rattle.format.specs.Boundary.{wordBytes};
 ghost use Rattle.format.specs.Header.{header};
 ghost use Rattle.format.specs.Calls.{readHeaderCall, findFieldCall, findKeyCall, copyValueCall, dataPlaceCall, checkSamplesCall};
+ghost use Rattle.format.specs.Files.{fileCountCall, fileNameCall, sampleFileCall};
 ghost use Rattle.format.specs.Found.{FindsField, FindsKey};
 ghost use Rattle.format.specs.Orientation.{originEntry, directionsEntry, frameEntry};
 ghost use Rattle.format.specs.EntryPoints.{readEntry, samplesEntry, sampleNumberEntry, writeEntry, writeHeaderEntry, setKeyEntry};
 ghost use Rattle.format.specs.Listing.{listingCall};
-ghost use Rattle.format.specs.Room.{Enough, tableRoom, samplesRoom, sizesRoom, writeRoom, valueRoom, Copied, setRoom};
+ghost use Rattle.format.specs.Room.{Enough, tableRoom, samplesRoom, sizesRoom, writeRoom, valueRoom, Copied, nameRoom, setRoom};
 
 // The reading of a file's header.
 #[no_mangle]
@@ -105,6 +107,31 @@ pub extern "C" fn craneholt_sample_number(file: &[u8], coords: &[u8]) -> NumberA
     let mut local = [0u64; format::AXES + 1];
     let n = lent_numbers::numbers(coords, &mut local);
     data_place::axes::sample_number(file, &local[..n])
+}
+
+// How many files hold the data.
+#[no_mangle]
+pub extern "C" fn craneholt_files(file: &[u8]) -> CountAnswer
+    ensures { λ r. ⌜ r ≡ fileCountCall (now (file .entry)) ⌝ }
+{
+    data_files::file_count(file)
+}
+
+// The name of the n-th file, counted from 0, to the front of `out`.
+#[no_mangle]
+pub extern "C" fn craneholt_file_name(file: &[u8], n: u64, out: &mut [u8]) -> WriteAnswer
+    ensures call { λ r. ⌜ _≡_ {A = WriteAnswer × List ℕ} (r, now (out .exit)) (fileNameCall (now (file .entry)) n (now (out .entry))) ⌝ }
+    ensures enough { λ r. ⌜ (nameRoom ≤ length (now (out .entry)) → Enough (r .refusal)) ⌝ }
+{
+    data_files::file_name(file, n, out)
+}
+
+// Which file a sample is in, and the raw byte of that file's share where it starts.
+#[no_mangle]
+pub extern "C" fn craneholt_sample_file(file: &[u8], sample: u64) -> ShareAnswer
+    ensures { λ r. ⌜ r ≡ sampleFileCall (now (file .entry)) sample ⌝ }
+{
+    data_files::sample_file(file, sample)
 }
 
 // Writes the samples, 8 bytes each as the sizes are, as an attached file to the front of `out`.

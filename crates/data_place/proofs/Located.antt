@@ -9,15 +9,15 @@ use mathlib.Core.Option.{Option, none, some}
 use lib.Dec.{eqb, ltb, leb}
 use lib.ListN.{length, take, drop, length-drop}
 use lib.Seq.{drop-drop}
-use borrow.Author.Tests.{ltb-false, lt-ltb, le-ltb, lt-leb}
+use borrow.Author.Tests.{ltb-false, le-ltb, lt-leb, ne-eqb}
 use Rattle.format.specs.declared.Reading.{Reading}
 use Rattle.format.specs.declared.ReadAnswer.{ReadAnswer}
 use Rattle.format.specs.declared.DataAnswer.{DataAnswer}
 use Rattle.format.specs.Bytes.{if_then_else_, andThen}
 use Rattle.format.specs.Limits.{maxFile}
-use Rattle.format.specs.Refusals.{fileTooLong, skipPastEnd, placeTooLarge, dataTooShort, floatSamples}
+use Rattle.format.specs.Refusals.{fileTooLong, severalFiles, skipPastEnd, placeTooLarge, dataTooShort, floatSamples}
 use Rattle.format.specs.Fields.{Given}
-use Rattle.format.specs.Descriptors.{ByteSkip, forward, fromEnd, bytesForward, isFromEnd, isDetached, encodingOf, typeOf, numberKind, isFloating, extentOf, raw, lineSkipOf, byteSkipOf}
+use Rattle.format.specs.Descriptors.{ByteSkip, forward, fromEnd, bytesForward, isFromEnd, isDetached, encodingOf, typeOf, numberKind, isFloating, extentOf, raw, lineSkipOf, byteSkipOf, fileCountOf}
 use Rattle.format.specs.Header.{Entry, Outcome, refused, accepted, header, headerLength}
 use Rattle.format.specs.Data.{skipLines, skipBytes, lastBytes, pastByteSkip, afterSkips, Place, nowhere, part, placeFrom, placeOf, partOf}
 use Rattle.format.specs.Calls.{readingOf, readAnswer, readHeaderCall, noData, dataAnswer, dataPlaceIn, dataPlaceCall, dataCall}
@@ -25,7 +25,7 @@ use Rattle.format.proofs.Header.{header-sound}
 use Rattle.format.proofs.Rules.{accepted-keeps}
 use Rattle.format.proofs.Numbered.{NumberedOutcome, header-numbered}
 use Rattle.format.proofs.Places.{AtMost, skips-at-most, header-within}
-use Rattle.data_place.specs.Places.{IsReading, placeBy, skippedOf, skippedBy, leftBy, placeLeft}
+use Rattle.data_place.specs.Places.{IsReading, placeBy, skippedOf, skippedBy, leftBy, placeLeft, filesWrong}
 use Rattle.data_place.proofs.Skips.{rest-is, bytes-past, bytes-next}
 
 -- ---- the place by the numbers of a reading
@@ -132,32 +132,56 @@ module _ {file : List ℕ} {x : Reading} {es : List Entry} {gs : List Given} (w 
     abbrev place : Place
     place = placeOf wanted gs (headerLength es) file second
 
-    -- the second file of a detached header
-    module _ (d : x .form ≡ 1) where
-      pub located-long : maxFile < length second → place ≡ nowhere fileTooLong
-      unfolding placeOf
-      located-long h = rw (detached d, lt-ltb maxFile (length second) h)
+    -- the place once the files are right
+    abbrev further : Place
+    further =
+        if wanted && isFloating (numberKind (typeOf gs)) then nowhere floatSamples
+        else if isDetached gs then placeFrom gs true (length second) (afterSkips gs second)
+        else placeFrom gs false (length file) (afterSkips gs (drop (headerLength es) file))
 
-      pub second-unfit : length second ≤ maxFile → unfit ≡ true → place ≡ nowhere floatSamples
-      unfolding placeOf
-      second-unfit h u = rw (detached d, le-ltb maxFile (length second) h, rw type-is at u)
+    module _ (n : ℕ) (e : n ≡ filesWrong (ltb 1 (x .files)) (eqb (x .form) 1 && ltb maxFile (length second))) where
+      -- the place by the refusal for the files
+      by-files : place ≡ (if eqb n 0 then further else nowhere n)
+      unfolding placeOf readingOf
+      by-files = rw (e, w .is) (go (ltb 1 (fileCountOf gs)) (isDetached gs) (ltb maxFile (length second)) further)
+        where
+          go : (m a b : Bool) (p : Place)
+              → (if m then nowhere severalFiles else if a && b then nowhere fileTooLong else p)
+              ≡ (let k = filesWrong m (eqb (if a then 1 else 0) 1 && b) in if eqb k 0 then p else nowhere k)
+          go true a b p = refl
+          go false true true p = refl
+          go false true false p = refl
+          go false false b p = refl
 
-      pub located-second : length second ≤ maxFile → unfit ≡ false → place ≡ placeLeft x true (length second) (leftBy x second)
-      unfolding placeOf
-      located-second h u =
-          rw (detached d, le-ltb maxFile (length second) h, rw type-is at u) (sym (place-left true (length second) second h))
+      -- the files are wrong
+      pub located-wrong : (n ≡ 0 → ⊥) → place ≡ nowhere n
+      located-wrong z = by-files ∙ rw (ne-eqb n 0 z)
 
-    -- the file of an attached header
-    module _ (d : x .form ≡ 1 → ⊥) where
-      pub first-unfit : unfit ≡ true → place ≡ nowhere floatSamples
-      unfolding placeOf
-      first-unfit u = rw (attached d, rw type-is at u)
+      -- or they are right
+      module _ (z : n ≡ 0) where
+        right-files : place ≡ further
+        right-files = by-files ∙ rw z
 
-      pub located-first : (from : ℕ) → from ≡ min (x .length) (length file) → unfit ≡ false → place ≡ placeLeft x false (length file) (leftBy x (drop from file))
-      unfolding placeOf
-      located-first from e u =
-          let n : from ≡ headerLength es = omega (arith, length-is, header-within file (w .header-is)) in
-          rw (attached d, rw type-is at u, ← n) (sym (place-left false (length file) (drop from file) (header-sound file (w .header-is) .small)))
+        second-fits : x .form ≡ 1 → length second ≤ maxFile
+        second-fits d = go (ltb 1 (x .files)) (ltb maxFile (length second)) refl (rw d at (sym e ∙ z))
+          where
+            go : (m b : Bool) → ltb maxFile (length second) ≡ b → filesWrong m b ≡ 0 → length second ≤ maxFile
+            go true b q h = absurd (let f : ⊥ = omega arith in f)
+            go false true q h = absurd (let f : ⊥ = omega arith in f)
+            go false false q h = ltb-false maxFile (length second) q
+
+        pub located-unfit : unfit ≡ true → place ≡ nowhere floatSamples
+        located-unfit u = right-files ∙ rw (rw type-is at u)
+
+        pub located-second : unfit ≡ false → x .form ≡ 1 → place ≡ placeLeft x true (length second) (leftBy x second)
+        located-second u d =
+            right-files ∙ rw (rw type-is at u, detached d) (sym (place-left true (length second) second (second-fits d)))
+
+        pub located-first : unfit ≡ false → (x .form ≡ 1 → ⊥) → (from : ℕ) → from ≡ min (x .length) (length file)
+            → place ≡ placeLeft x false (length file) (leftBy x (drop from file))
+        located-first u d from l =
+            let h : from ≡ headerLength es = omega (arith, length-is, header-within file (w .header-is)) in
+            right-files ∙ rw (rw type-is at u, attached d, ← h) (sym (place-left false (length file) (drop from file) (header-sound file (w .header-is) .small)))
 
 -- ---- the place lies within its file
 
@@ -194,22 +218,23 @@ module _ (file second : List ℕ) where
   pub place-lies : (wanted : Bool) (gs : List Given) (h : ℕ) → Lies file second (placeOf wanted gs h file second)
   unfolding placeOf
   place-lies wanted gs h =
-      go (isDetached gs) (ltb maxFile (length second)) (wanted && isFloating (numberKind (typeOf gs)))
+      go (ltb 1 (fileCountOf gs)) (isDetached gs) (ltb maxFile (length second)) (wanted && isFloating (numberKind (typeOf gs)))
     where
       shorter : AtMost (length file) (afterSkips gs (drop h file))
       shorter =
           more-left (length (drop h file)) (length file) (omega (arith, length-drop h file)) (afterSkips gs (drop h file))
           (skips-at-most gs (drop h file))
 
-      go : (a b c : Bool)
+      go : (m a b c : Bool)
           → Lies file second
-          (if a && b then nowhere fileTooLong else if c then nowhere floatSamples
+          (if m then nowhere severalFiles else if a && b then nowhere fileTooLong else if c then nowhere floatSamples
           else if a then placeFrom gs true (length second) (afterSkips gs second) else placeFrom gs false (length file) (afterSkips gs (drop h file)))
-      go true true c = tt
-      go true false true = tt
-      go true false false = from-lies gs true (afterSkips gs second) (skips-at-most gs second)
-      go false b true = tt
-      go false b false = from-lies gs false (afterSkips gs (drop h file)) shorter
+      go true a b c = tt
+      go false true true c = tt
+      go false true false true = tt
+      go false true false false = from-lies gs true (afterSkips gs second) (skips-at-most gs second)
+      go false false b true = tt
+      go false false b false = from-lies gs false (afterSkips gs (drop h file)) shorter
 
   -- ---- the data call
 

@@ -17,10 +17,11 @@ use Rattle.format.specs.Header.{Outcome, refused, accepted, header}
 use Rattle.format.specs.Axes.{inside, sampleNumber}
 use Rattle.format.specs.Calls.{readingOf, readAnswer, readHeaderCall, numberAnswer, sampleNumberCall}
 use Rattle.format.proofs.Bytes.{and-left, and-right}
+use Rattle.format.proofs.Named.{product-few}
 use Rattle.format.proofs.Numbered.{NumberedOutcome, header-numbered}
 use Rattle.read_text.proofs.Places.{drop-next}
 use Rattle.data_place.specs.Places.{Inside, noNumber, numberIn}
-use Rattle.data_place.proofs.Headers.{header-axes, header-sizes, header-product}
+use Rattle.data_place.proofs.Headers.{header-axes, header-sizes}
 
 -- ---- coordinates by index
 
@@ -142,6 +143,6 @@ module _ (file coords : List ℕ) (a : ReadAnswer) (is : a ≡ readHeaderCall fi
       go (accepted es gs ls) p q n =
           record {
             many = rw q (header-axes file p);
-            few = rw (q, header-sizes file p) (header-product file p);
+            few = rw (q, header-sizes file p) (product-few file p);
             number = rw (q, header-sizes file p, p);
           }

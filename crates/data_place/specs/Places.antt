@@ -11,7 +11,7 @@ use Rattle.format.specs.declared.Reading.{Reading}
 use Rattle.format.specs.declared.NumberAnswer.{NumberAnswer}
 use Rattle.format.specs.Bytes.{if_then_else_, andThen}
 use Rattle.format.specs.Limits.{maxExtent}
-use Rattle.format.specs.Refusals.{skipPastEnd, dataTooShort, badCoordinates, refusal, fine}
+use Rattle.format.specs.Refusals.{fileTooLong, severalFiles, skipPastEnd, dataTooShort, badCoordinates, refusal, fine}
 use Rattle.format.specs.Lines.{Line}
 use Rattle.format.specs.Fields.{Given}
 use Rattle.format.specs.Descriptors.{raw, product}
@@ -57,6 +57,10 @@ leftBy x area = andThen (skipLines (x .lineskip) area) (λ t. skipBytes (skipped
 abbrev pub placeLeft : Reading → Bool → ℕ → Option (List ℕ) → Place
 placeLeft x second whole none = nowhere skipPastEnd
 placeLeft x second whole (some left) = placeBy x second (whole - length left) (length left)
+
+-- the number of the refusal for the files, 0 for none: there are several (33), else the second one is too long (1)
+abbrev pub filesWrong : Bool → Bool → ℕ
+filesWrong several long = if several then severalFiles else if long then fileTooLong else 0
 
 -- ---- the number of a sample
 

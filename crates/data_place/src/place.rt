@@ -15,7 +15,7 @@ ghost use Rattle.format.specs.Descriptors.{numberKind, isFloating};
 ghost use Rattle.format.specs.Header.{Entry, headerLength};
 ghost use Rattle.format.specs.Data.{skipLines, part, placeOf};
 ghost use Rattle.format.specs.Calls.{noData, dataAnswer, dataPlaceCall, dataCall, dataPointer};
-ghost use Rattle.data_place.specs.Places.{IsReading, SkipIs, placeBy, skippedOf, leftBy, placeLeft};
+ghost use Rattle.data_place.specs.Places.{IsReading, SkipIs, placeBy, skippedOf, leftBy, placeLeft, filesWrong};
 
 // Where what follows a skip starts, or that the skip passes the end.
 pub enum Skip {
@@ -143,21 +143,34 @@ fn area_start(length: u64, whole: usize) -> usize
     whole
 }
 
+// The number of the refusal for the files, 0 for none: there are several (33), else the second one is too long (1).
+fn files_wrong(several: bool, long: bool) -> u32
+    ensures { λ r. ⌜ r ≡ filesWrong several long ⌝ }
+{
+    if several {
+        return format::SEVERAL_FILES;
+    }
+    if long {
+        return format::FILE_TOO_LONG;
+    }
+    0
+}
+
 // The place of the data by the reading of the file; `wanted`: its samples are wanted.
 pub fn locate(reading: Reading, file: &[u8], second: &[u8], wanted: bool) -> DataAnswer
     ensures { λ r. ⌜ ((es : List Entry) (gs : List Given) → IsReading (now (file .entry)) reading es gs → r ≡ dataAnswer (placeOf wanted gs (headerLength es) (now (file .entry)) (now (second .entry)))) ⌝ }
 {
-    if reading.form == format::DETACHED {
-        if format::MAX_FILE < second.len() {
-            return refuse(format::FILE_TOO_LONG);
-        }
-        if is_unfit(wanted, reading.sampletype) {
-            return refuse(format::FLOAT_SAMPLES);
-        }
-        return place_in(reading, second, 0, true);
+    let several = 1 < reading.files;
+    let long = (reading.form == format::DETACHED) & (format::MAX_FILE < second.len());
+    let wrong = files_wrong(several, long);
+    if wrong != 0 {
+        return refuse(wrong);
     }
     if is_unfit(wanted, reading.sampletype) {
         return refuse(format::FLOAT_SAMPLES);
+    }
+    if reading.form == format::DETACHED {
+        return place_in(reading, second, 0, true);
     }
     place_in(reading, file, area_start(reading.length, file.len()), false)
 }

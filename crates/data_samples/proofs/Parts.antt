@@ -18,9 +18,9 @@ use Rattle.format.specs.declared.DataAnswer.{DataAnswer}
 use Rattle.format.specs.declared.CountAnswer.{CountAnswer}
 use Rattle.format.specs.Bytes.{if_then_else_, over}
 use Rattle.format.specs.Limits.{maxFile}
-use Rattle.format.specs.Refusals.{fileTooLong, placeTooLarge, dataTooShort, floatSamples, lentTooShort, refusal, fine}
+use Rattle.format.specs.Refusals.{fileTooLong, severalFiles, placeTooLarge, dataTooShort, floatSamples, lentTooShort, refusal, fine}
 use Rattle.format.specs.Fields.{Given}
-use Rattle.format.specs.Descriptors.{NumberKind, numberKind, isFloating, isSigned, sampleBytes, typeOf, encodingOf, extentOf, isDetached, raw, big}
+use Rattle.format.specs.Descriptors.{NumberKind, numberKind, isFloating, isSigned, sampleBytes, typeOf, encodingOf, extentOf, isDetached, raw, big, fileCountOf}
 use Rattle.format_values.proofs.TypeLaws.{type-width, type-bytes, kind-by}
 use Rattle.format.specs.Header.{Entry, Outcome, refused, accepted, header, headerLength}
 use Rattle.format.specs.Data.{afterSkips, Place, nowhere, part, placeFrom, placeOf, partOf}
@@ -114,17 +114,18 @@ from-sound gs s whole (some left) i =
 place-sound : (gs : List Given) (h : ℕ) (file second : List ℕ) → Sound gs (placeOf true gs h file second)
 unfolding placeOf
 place-sound gs h file second =
-    go (isDetached gs) (ltb maxFile (length second)) (isFloating (numberKind (typeOf gs))) refl
+    go (ltb 1 (fileCountOf gs)) (isDetached gs) (ltb maxFile (length second)) (isFloating (numberKind (typeOf gs))) refl
   where
-    go : (a b c : Bool) → isFloating (numberKind (typeOf gs)) ≡ c
+    go : (m a b c : Bool) → isFloating (numberKind (typeOf gs)) ≡ c
         → Sound gs
-        (if a && b then nowhere fileTooLong else if c then nowhere floatSamples
+        (if m then nowhere severalFiles else if a && b then nowhere fileTooLong else if c then nowhere floatSamples
         else if a then placeFrom gs true (length second) (afterSkips gs second) else placeFrom gs false (length file) (afterSkips gs (drop h file)))
-    go true true c e = omega arith
-    go true false true e = omega arith
-    go true false false e = from-sound gs true (length second) (afterSkips gs second) e
-    go false b true e = omega arith
-    go false b false e = from-sound gs false (length file) (afterSkips gs (drop h file)) e
+    go true a b c e = omega arith
+    go false true true c e = omega arith
+    go false true false true e = omega arith
+    go false true false false e = from-sound gs true (length second) (afterSkips gs second) e
+    go false false b true e = omega arith
+    go false false b false e = from-sound gs false (length file) (afterSkips gs (drop h file)) e
 
 part-long : (s : List ℕ) (a b : ℕ) → a + b ≤ length s → length (take b (drop a s)) ≡ b
 part-long s a b h = length-take-le b (drop a s) (omega (arith, length-drop a s))

@@ -17,7 +17,7 @@ use Rattle.format.specs.Lines.{Line, line, lf, size, lines}
 use Rattle.format.specs.Pairs.{mark}
 use Rattle.format.specs.Fields.{Given, given, sizes, dimension, type, encoding, fieldAt, descriptorOf, isRepeated, inOrder}
 use Rattle.format.specs.Words.{trimFront, trimEnd, digitsFrom, number, parts, notEmpty, numbersIn}
-use Rattle.format.specs.Descriptors.{descriptor, typeAt, mayDescribe, hasNeeded, endIsRaw, product}
+use Rattle.format.specs.Descriptors.{descriptor, since, typeAt, mayDescribe, namesFollow, listEmpty, hasNeeded, endIsRaw, product, filesFine}
 use Rattle.format.specs.Header.{magicVersion, onField, judge, entry, Outcome, refused, accepted, withEntry, complete, walk, fromFirst, header}
 use Rattle.format.specs.Trials.{texts, refusalOf, headerWith, comment, comments, AtLimits}
 use Rattle.format.proofs.LimitLaws.{header-in-file, lines-in-header}
@@ -74,7 +74,7 @@ from-lines s ls p h =
     rw (le-ltb maxFile (length (headerWith s)) (simp length-append (omega arith))) (ap (λ (x : List Line). fromFirst (fiveLines x)) p)
 
 past-five : (ls : List Line) → answered (fromFirst (fiveLines ls)) ≡ walked 6 56 ls
-unfolding every same alike beginsWith isIn isAny rowFrom mark fieldAt descriptorOf isRepeated inOrder trimFront trimEnd descriptor digitsFrom number parts notEmpty numbersIn typeAt mayDescribe magicVersion onField judge walk
+unfolding every same alike beginsWith isIn isAny rowFrom mark fieldAt descriptorOf isRepeated inOrder trimFront trimEnd descriptor digitsFrom number parts notEmpty numbersIn typeAt mayDescribe magicVersion onField judge walk namesFollow since
 past-five ls = go (walk 1 6 56 fields ls) refl
   where
     go : (o : Outcome) → walk 1 6 56 fields ls ≡ o → answered (fromFirst (fiveLines ls)) ≡ answered o
@@ -86,14 +86,14 @@ past-five ls = go (walk 1 6 56 fields ls) refl
 closings :
     (walked 7 (maxHeader - 1) closingLine ≡ fine) × (walked 7 maxHeader closingLine ≡ atLine 3 7)
     × (walked maxLines (44 + 2 * maxLines) closingLine ≡ fine) × (walked (maxLines + 1) (46 + 2 * maxLines) closingLine ≡ atLine 4 (maxLines + 1))
-unfolding every same alike isIn isAny rowFrom descriptorOf digitsFrom number parts notEmpty typeAt hasNeeded endIsRaw product judge complete walk
+unfolding every same alike isIn isAny rowFrom descriptorOf digitsFrom number parts notEmpty typeAt hasNeeded endIsRaw product judge complete walk namesFollow listEmpty filesFine
 closings = (refl, refl, refl, refl)
 
 -- ---- the walk goes over comments
 
 over-comment : (n at : ℕ) (t : List ℕ) (ls : List Line) → at + size (line (HASH ∷ t) lf) ≤ maxHeader → n ≤ maxLines
     → walked n at (line (HASH ∷ t) lf ∷ ls) ≡ walked (n + 1) (at + size (line (HASH ∷ t) lf)) ls
-unfolding walk judge
+unfolding walk judge namesFollow descriptorOf
 over-comment n at t ls h k =
     rw (le-ltb maxHeader (at + size (line (HASH ∷ t) lf)) h, le-ltb maxLines n k) (go (walk 1 (n + 1) (at + size (line (HASH ∷ t) lf)) fields ls))
   where

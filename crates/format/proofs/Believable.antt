@@ -3,10 +3,11 @@ use Rattle.format.specs.Laws.{Laws}
 use Rattle.format.proofs.Lines.{unlines-of-lines, shape-of-lines, lines-unique, start-of-line}
 use Rattle.format.proofs.Pairs.{unescape-of-escape, escape-of-unescape, escape-injective, mark-of-pair, judge-of-pair, pair-key-fine, pair-value-fine}
 use Rattle.format.proofs.Descriptors.{carried-any}
-use Rattle.format.proofs.Header.{header-no-names, header-ends, data-area}
+use Rattle.format.proofs.Header.{header-ends, data-area}
 use Rattle.format.proofs.Places.{data-at-end}
 use Rattle.format.proofs.Found.{field-found, key-found}
 use Rattle.format.proofs.Rules.{accepted-keeps, keeps-accepted, refused-keeps-none, keeps-none-refused}
+use Rattle.format.proofs.Named.{names-are-lines, files-some, shares-fit, files-divide}
 use Rattle.format.proofs.Samples.{value-of-bytes, bytes-of-value}
 use Rattle.format.proofs.Boundary.{numbers-of-lent, lent-of-numbers, samples-of-lent, lent-of-samples, numbers-of-front, decimal-of-bytes, bytes-of-decimal}
 use Rattle.format.proofs.Writer.{number-of-decimal, value-of-decimal, hex-of-text, data-read-back}
@@ -31,7 +32,10 @@ laws =
       refused-keeps-none = refused-keeps-none;
       keeps-none-refused = keeps-none-refused;
       carried-any = carried-any;
-      no-names = header-no-names;
+      names-are-lines = names-are-lines;
+      files-some = files-some;
+      shares-fit = shares-fit;
+      files-divide = files-divide;
       header-ends = header-ends;
       data-area = data-area;
       data-at-end = data-at-end;

@@ -15,9 +15,9 @@ use Rattle.format.specs.Bytes.{if_then_else_, bytes, same, isSome, orEls
 use Rattle.format.specs.Refusals.{fine}
 use Rattle.format.specs.Lines.{Line, line, text, size, endingBytes, lineBytes, unlines}
 use Rattle.format.specs.Pairs.{escape}
-use Rattle.format.specs.Fields.{Given, given, descriptorOf, isGiven}
+use Rattle.format.specs.Fields.{Given, given, named, descriptorOf, isGiven}
 use Rattle.format.specs.Descriptors.{fromDescriptor, descriptor}
-use Rattle.format.specs.Header.{Item, magic, field, pair, pairOf, fieldOf, Entry, entry, linesOf, right, judge, Outcome, refused, accepted, withField, afterItem, header, valueFor, valueIn, valueOf}
+use Rattle.format.specs.Header.{Item, magic, field, pair, pairOf, givenOf, Entry, entry, linesOf, right, judge, Outcome, refused, accepted, withField, afterItem, header, valueFor, valueIn, valueOf}
 use Rattle.format.specs.Settings.{pairText}
 use Rattle.format.specs.Calls.{noPlace, foundAt, pairPlace, valuePlace, keyPlace, findKeyIn, findKeyCall, beforeDescriptor, givenPlace, fieldPlace, findFieldIn, findFieldCall}
 pub use Rattle.format.specs.Found.{HasAt, Finds, FindsField, escaped, FindsKey}
@@ -136,15 +136,16 @@ module _ (file : List ℕ) (f : ℕ) where
   field-before : (version at : ℕ) (gs : List Given) (l : Line) (i : Item) (es : List Entry) (gs′ : List Given) (z : List ℕ)
       → drop at file ≡ lineBytes l ++ z → judge version gs (text l) ≡ right i → Keeps version gs (text l) i
       → Field (fieldPlace f (at + size l) es) gs′ (descriptorOf f (afterItem i gs)) → Field (fieldPlace f at (entry l i ∷ es)) gs′ (descriptorOf f gs)
-  unfolding fieldPlace
-  field-before version at gs l i es gs′ z h j s = go (fieldOf i) refl
+  unfolding fieldPlace descriptorOf
+  field-before version at gs l i es gs′ z h j s = go (givenOf i) refl
     where
       rest : FindAnswer
       rest = fieldPlace f (at + size l) es
 
-      go : (o : Option Given) → fieldOf i ≡ o → Field rest gs′ (descriptorOf f (withField o gs)) → Field (givenPlace f at (text l) o rest) gs′ (descriptorOf f gs)
+      go : (o : Option Given) → givenOf i ≡ o → Field rest gs′ (descriptorOf f (withField o gs)) → Field (givenPlace f at (text l) o rest) gs′ (descriptorOf f gs)
       go none e p = p
       go (some (given g d)) e p = field-given version at gs l g d es gs′ z h (subst (Keeps version gs (text l)) (is-field i e) s) p
+      go (some (named n)) e p = p
 
   pub field-found : FindsField file f (header file) (findFieldCall file f)
   unfolding fieldPlace descriptorOf

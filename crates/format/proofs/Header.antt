@@ -15,19 +15,21 @@ use Rattle.format.specs.Limits.{maxFile, maxHeader, maxLines, maxExtent}
 use Rattle.format.specs.Refusals.{fileTooLong, noEnd, headerTooLong, tooManyLines, atLine, refusal}
 use Rattle.format.specs.Lines.{Line, line, lf, crlf, eof, text, size, lines, unlines}
 use Rattle.format.specs.Fields.{Given}
-use Rattle.format.specs.Descriptors.{hasNeeded, endIsRaw, extentOf, isDetached, namesFollow}
+use Rattle.format.specs.Descriptors.{hasNeeded, endIsRaw, extentOf, filesFine, isDetached, namesFollow, listEmpty}
 use Rattle.format.specs.Header.{Item, magic, Entry, entry, lineOf, linesOf, magicVersion, versionOfLine, Judged, wrong, right, judge, Outcome, refused, accepted, withEntry, closes, afterItem, complete, onJudged, walk, afterMagic, fromFirst, header, tableOf, headerLength}
 use Rattle.format.specs.Rules.{Keeps, closed}
 use Rattle.format.proofs.Lines.{unlines-of-lines, unlines-append, length-unlines-cons, Shape, lf-line, crlf-line, eof-line, shape-of-lines, shape-before, shape-after, lines-of-parts, bytes-after, length-starts}
-use Rattle.format.proofs.Judged.{is-closing, judge-keeps, no-names-after, no-names}
+use Rattle.format.proofs.Judged.{is-closing, judge-keeps}
 
 -- ---- what an accepted header is, the limits left out
 
--- the fields at the end of a header: the needed ones are there, a byte skip of -1 stands with raw, and the extent is within its limit
+-- the fields at the end of a header: a name follows LIST, the needed ones are there, a byte skip of -1 stands with raw, the extent is within its limit, and the files fit the sizes
 pub record Complete (gs : List Given) : Type 0 where
+  pub filled : listEmpty gs ≡ false
   pub needed : hasNeeded gs ≡ true
   pub fitting : endIsRaw gs ≡ true
   pub small : extentOf gs ≤ maxExtent
+  pub files : filesFine gs ≡ true
 
 -- a line after the fields gs, before the entries es: it closes the header (true), or `next` is asked
 abbrev pub FineBy : Bool → List Given → List Entry → List Given → Type 0 → Type 0
@@ -55,22 +57,26 @@ pub record Walked (version n at : ℕ) (gs : List Given) (ls : List Line) (es : 
   pub within : Within n at es
 
 -- at the end of a header: what holds of every refusal, and of the acceptance of complete fields, holds
-complete-cases : (P : Outcome → Type 0) (gs : List Given) (ls : List Line)
-    → ((x : Refusal) → P (refused x)) → (Complete gs → P (accepted [] gs ls)) → P (complete gs ls)
+complete-cases : (P : Outcome → Type 0) (n : ℕ) (gs : List Given) (ls : List Line)
+    → ((x : Refusal) → P (refused x)) → (Complete gs → P (accepted [] gs ls)) → P (complete n gs ls)
 unfolding complete
-complete-cases P gs ls f g = go (hasNeeded gs) refl (endIsRaw gs) refl (ltb maxExtent (extentOf gs)) refl
+complete-cases P n gs ls f g = go (listEmpty gs) refl (hasNeeded gs) refl (endIsRaw gs) refl (ltb maxExtent (extentOf gs)) refl (filesFine gs) refl
   where
-    go : (t : Bool) → hasNeeded gs ≡ t → (s : Bool) → endIsRaw gs ≡ s → (u : Bool) → ltb maxExtent (extentOf gs) ≡ u → P (complete gs ls)
-    go false e s k u h = simp e (f _)
-    go true e false k true h = simp (e, k, h) (f _)
-    go true e false k false h = simp (e, k, h) (f _)
-    go true e true k true h = simp (e, k, h) (f _)
-    go true e true k false h = simp (e, k, h) (g (record { needed = e; fitting = k; small = ltb-false maxExtent (extentOf gs) h }))
+    go : (a : Bool) → listEmpty gs ≡ a → (t : Bool) → hasNeeded gs ≡ t → (s : Bool) → endIsRaw gs ≡ s → (u : Bool) → ltb maxExtent (extentOf gs) ≡ u
+        → (v : Bool) → filesFine gs ≡ v → P (complete n gs ls)
+    go true i true e s k u h v j = simp (i, e) (f _)
+    go true i false e s k u h v j = simp (i, e) (f _)
+    go false i false e s k u h v j = simp (i, e) (f _)
+    go false i true e false k true h v j = simp (i, e, k, h) (f _)
+    go false i true e false k false h v j = simp (i, e, k, h) (f _)
+    go false i true e true k true h v j = simp (i, e, k, h) (f _)
+    go false i true e true k false h false j = simp (i, e, k, h, j) (f _)
+    go false i true e true k false h true j = simp (i, e, k, h, j) (g (record { filled = i; needed = e; fitting = k; small = ltb-false maxExtent (extentOf gs) h; files = j }))
 
 -- complete fields are accepted
-complete-is : (gs : List Given) (ls : List Line) → Complete gs → complete gs ls ≡ accepted [] gs ls
+complete-is : (n : ℕ) (gs : List Given) (ls : List Line) → Complete gs → complete n gs ls ≡ accepted [] gs ls
 unfolding complete
-complete-is gs ls c = rw (c .needed, c .fitting, le-ltb maxExtent (extentOf gs) (c .small))
+complete-is n gs ls c = rw (c .filled, c .needed, c .fitting, le-ltb maxExtent (extentOf gs) (c .small), c .files)
 
 module _ (version : ℕ) where
   -- an outcome of the walk is right if it is a refusal, or what it accepts is fine and within the limits
@@ -94,9 +100,9 @@ module _ (version : ℕ) where
   unfolding walk unlines
   walked [] n at gs b c = go (isDetached gs) refl
     where
-      go : (t : Bool) → isDetached gs ≡ t → Sound n at gs [] (if t then complete gs [] else refused (refusal noEnd))
+      go : (t : Bool) → isDetached gs ≡ t → Sound n at gs [] (if t then complete n gs [] else refused (refusal noEnd))
       go false e = tt
-      go true e = complete-cases (Sound n at gs []) gs [] (λ x. tt) λ k.
+      go true e = complete-cases (Sound n at gs []) n gs [] (λ x. tt) λ k.
           record { split = refl; fine = (refl, e, k, refl); within = record { bytes = omega arith; count = omega arith } }
   walked (l ∷ ls) n at gs b c =
       go (ltb maxHeader (at + size l)) refl (ltb maxLines n) refl (judge version gs (text l)) refl
@@ -107,9 +113,9 @@ module _ (version : ℕ) where
 
       one : at + size l ≤ maxHeader → n ≤ maxLines → (i : Item) → judge version gs (text l) ≡ right i
           → Sound (n + 1) (at + size l) (afterItem i gs) ls (after i)
-          → (t : Bool) → closes i ≡ t → Sound n at gs (l ∷ ls) (withEntry (entry l i) (if t then complete gs ls else after i))
+          → (t : Bool) → closes i ≡ t → Sound n at gs (l ∷ ls) (withEntry (entry l i) (if t then complete n gs ls else after i))
       one h k i e s false f = more-sound n at gs l ls i e f (after i) s
-      one h k i e s true f = complete-cases (λ o. Sound n at gs (l ∷ ls) (withEntry (entry l i) o)) gs ls (λ x. tt) λ g.
+      one h k i e s true f = complete-cases (λ o. Sound n at gs (l ∷ ls) (withEntry (entry l i) o)) n gs ls (λ x. tt) λ g.
           record {
             split = refl;
             fine = (e, rw f (refl, g, refl));
@@ -120,7 +126,7 @@ module _ (version : ℕ) where
           → ((i : Item) → at + size l ≤ maxHeader → n ≤ maxLines → Sound (n + 1) (at + size l) (afterItem i gs) ls (after i))
           → Sound n at gs (l ∷ ls)
           (if t then refused (atLine headerTooLong n) else if u then refused (atLine tooManyLines n)
-          else onJudged n l j (λ i. if closes i then complete gs ls else after i))
+          else onJudged n l j (λ i. if closes i then complete n gs ls else after i))
       go true e u f j d s = tt
       go false e true f j d s = tt
       go false e false f (wrong w) d s = tt
@@ -129,13 +135,18 @@ module _ (version : ℕ) where
           let k : n ≤ maxLines = ltb-false maxLines n f in
           one h k i d (s i h k) (closes i) refl
 
+-- what the walk accepts is fine and within the limits
+pub walk-sound : (version : ℕ) (ls : List Line) (n at : ℕ) (gs : List Given) {es : List Entry} {gs′ : List Given} {r : List Line} → at ≤ maxHeader → n ≤ maxLines + 1
+    → walk version n at gs ls ≡ accepted es gs′ r → Walked version n at gs ls es gs′ r
+walk-sound version ls n at gs b c e = subst (Sound version n at gs ls) e (walked version ls n at gs b c)
+
 -- ---- fine: accepted
 
 -- what is fine and within the limits is accepted
 pub walk-fine : (version n at : ℕ) (gs : List Given) (es : List Entry) (gs′ : List Given) (r : List Line)
     → Fine version gs es gs′ r → Within n at es → walk version n at gs (linesOf es ++ r) ≡ accepted es gs′ r
 unfolding walk
-walk-fine version n at gs [] gs′ r f w = rw (f .0, f .1, complete-is gs [] (f .2), f .3)
+walk-fine version n at gs [] gs′ r f w = rw (f .0, f .1, complete-is n gs [] (f .2), f .3)
 walk-fine version n at gs (entry l i ∷ es) gs′ r f w =
     let b = rw length-unlines-cons at (w .bytes) in
     let c = w .count in
@@ -149,9 +160,9 @@ walk-fine version n at gs (entry l i ∷ es) gs′ r f w =
 
     go : (t : Bool) → FineBy t gs es gs′ (Fine version (afterItem i gs) es gs′ r)
         → (Fine version (afterItem i gs) es gs′ r → after ≡ accepted es gs′ r)
-        → withEntry (entry l i) (if t then complete gs (linesOf es ++ r) else after) ≡ accepted (entry l i ∷ es) gs′ r
+        → withEntry (entry l i) (if t then complete n gs (linesOf es ++ r) else after) ≡ accepted (entry l i ∷ es) gs′ r
     go false f s = rw (s f)
-    go true f s = rw (f .0, complete-is gs r (f .1), f .2)
+    go true f s = rw (f .0, complete-is n gs r (f .1), f .2)
 
 -- ---- line 1
 
@@ -304,17 +315,6 @@ module _ (version : ℕ) where
   fine-complete [] gs gs′ r f = rw (f .3) (f .2)
   fine-complete (entry l i ∷ es) gs gs′ r f =
       fine-cases gs l i es gs′ r (λ es gs′. Complete gs′) f (λ k c q. rw (after-closing i gs c) q) (λ k c g. fine-complete es (afterItem i gs) gs′ r g)
-
-module _ (version : ℕ) where
-  fine-no-names : (es : List Entry) (gs gs′ : List Given) (r : List Line) → Fine version gs es gs′ r → namesFollow gs ≡ false → namesFollow gs′ ≡ false
-  fine-no-names [] gs gs′ r f n = rw (f .3) n
-  fine-no-names (entry l i ∷ es) gs gs′ r f n =
-      let m = no-names-after version gs (text l) (f .0) n in
-      fine-cases version gs l i es gs′ r (λ es gs′. namesFollow gs′ ≡ false) f (λ k c q. m) (λ k c g. fine-no-names es (afterItem i gs) gs′ r g m)
-
--- no names follow the fields of an accepted header, since a data file of the form LIST is refused
-pub header-no-names : (s : List ℕ) {es : List Entry} {gs : List Given} {r : List Line} → header s ≡ accepted es gs r → namesFollow gs ≡ false
-header-no-names s {es} {gs} {r} e = let x = header-sound s e in fine-no-names (x .version) (x .rest) [] gs r (x .fine) no-names
 
 -- ---- where an accepted header ends
 

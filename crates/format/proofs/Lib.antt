@@ -15,7 +15,8 @@ pub mod Boundary
 pub mod Writer
 pub mod Descriptors
 pub mod Found
-pub mod Trials
+pub mod AllTrials
 pub mod Oriented
+pub mod Named
 pub mod AtLimits
 pub mod Believable

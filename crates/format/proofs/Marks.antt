@@ -10,6 +10,8 @@ use lib.ListN.{length, getD}
 use borrow.Author.Tests.{eqb-true, not-true}
 use Rattle.format.specs.Bytes.{bytes, every, isEmpty, HASH, COLON, SPACE, EQUALS, if_then_else_}
 use Rattle.format.specs.Pairs.{plain, Marked, unmarked, fieldMark, pairMark, afterColon, moreBefore, firstMark, mark, hasMark, LineKind, emptyLine, commentLine, otherLine, kindOf, isOther, isUnmarked}
+use Rattle.format.specs.Fields.{Given}
+use Rattle.format.specs.Descriptors.{namesFollow}
 use Rattle.format.specs.Rules.{FirstMark, isComment, OtherLine}
 
 -- ---- what the first mark parts
@@ -243,12 +245,12 @@ other-filled [] h = absurd (false≢true h)
 other-filled (b ∷ t) h = refl
 
 -- the rules say the same by the first byte (specs/Rules.antt)
-pub is-other : (t : List ℕ) → OtherLine t → isOther (kindOf t) ≡ true
+pub is-other : {gs : List Given} (t : List ℕ) → OtherLine gs t → isOther (kindOf t) ≡ true
 is-other [] o = absurd (false≢true (sym (o .filled)))
 is-other (b ∷ t) o = rw (o .no-comment)
 
-pub other-line : (t : List ℕ) → isOther (kindOf t) ≡ true → every plain t ≡ true → OtherLine t
-other-line t h p = record { filled = other-filled t h; no-comment = go t h; all-plain = p }
+pub other-line : {gs : List Given} (t : List ℕ) → namesFollow gs ≡ false → isOther (kindOf t) ≡ true → every plain t ≡ true → OtherLine gs t
+other-line t n h p = record { no-names = n; filled = other-filled t h; no-comment = go t h; all-plain = p }
   where
     go : (t : List ℕ) → isOther (kindOf t) ≡ true → isComment t ≡ false
     go [] h = refl

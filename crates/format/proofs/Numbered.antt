@@ -13,9 +13,9 @@ use Rattle.format.specs.Limits.{maxFile, maxHeader, maxLines, maxExtent}
 use Rattle.format.specs.Refusals.{fileTooLong, headerTooLong, tooManyLines, badByte, notInVersion, repeatedField, outOfOrder, badDescriptor, noEnd, extentTooLarge, atLine, refusal}
 use Rattle.format.specs.Lines.{Line, size, text, lines}
 use Rattle.format.specs.Pairs.{plain, Marked, unmarked, fieldMark, pairMark, LineKind, emptyLine, commentLine, otherLine, kindOf, unescape}
-use Rattle.format.specs.Fields.{fieldNamed, pairsSince, fieldSince, Given, isGiven, isRepeated, inOrder}
-use Rattle.format.specs.Descriptors.{descriptor, mayDescribe, dimensionOf, spaceSizeOf, hasNeeded, endIsRaw, extentOf, isDetached}
-use Rattle.format.specs.Header.{Item, magic, field, Entry, entry, versionOfLine, Judged, wrong, right, unescaped, onPair, onField, onMark, onKind, judge, Outcome, refused, accepted, withEntry, closes, afterItem, complete, onJudged, walk, afterMagic, fromFirst, header}
+use Rattle.format.specs.Fields.{fieldNamed, pairsSince, Given, isGiven, isRepeated, inOrder}
+use Rattle.format.specs.Descriptors.{descriptor, since, mayDescribe, dimensionOf, spaceSizeOf, namesFollow, listEmpty, hasNeeded, endIsRaw, extentOf, filesFine, isDetached}
+use Rattle.format.specs.Header.{Item, magic, field, Entry, entry, versionOfLine, Judged, wrong, right, unescaped, onPair, onField, onMark, onKind, onName, judge, Outcome, refused, accepted, withEntry, closes, afterItem, complete, onJudged, walk, afterMagic, fromFirst, header}
 
 -- ---- a line's
 
@@ -28,7 +28,7 @@ module _ (version : ℕ) (gs : List Given) where
   unfolding onField
   field-numbered none rest = omega arith
   field-numbered (some f) rest =
-      go (ltb version (fieldSince f)) (isRepeated f gs) (inOrder f gs) (mayDescribe (dimensionOf gs) (spaceSizeOf gs) f (descriptor f rest))
+      go (ltb version (since f (descriptor f rest))) (isRepeated f gs) (inOrder f gs) (mayDescribe (dimensionOf gs) (spaceSizeOf gs) f (descriptor f rest))
     where
       go : (a b c d : Bool)
           → Numbered
@@ -53,8 +53,13 @@ module _ (version : ℕ) (gs : List Given) where
 
   pub judge-numbered : (t : List ℕ) → Numbered (judge version gs t)
   unfolding judge
-  judge-numbered t = go (kindOf t)
+  judge-numbered t = by (namesFollow gs)
     where
+      name : (t : List ℕ) (x : Bool) → every plain t ≡ x → Numbered (onName t)
+      name [] x e = tt
+      name (b ∷ t) true e = simp e tt
+      name (b ∷ t) false e = simp e (omega arith)
+
       other : (x : Bool) (m : Marked) → Numbered (if not x then wrong badByte else onMark version gs m)
       other false m = omega arith
       other true unmarked = omega arith
@@ -66,6 +71,10 @@ module _ (version : ℕ) (gs : List Given) where
       go commentLine = tt
       go (otherLine m) = other (every plain t) m
 
+      by : (x : Bool) → Numbered (if x then onName t else onKind version gs t (kindOf t))
+      by true = name t (every plain t) refl
+      by false = go (kindOf t)
+
 -- ---- the reading's
 
 abbrev pub NumberedOutcome : Outcome → Type 0
@@ -76,23 +85,27 @@ entry-numbered : (e : Entry) (o : Outcome) → NumberedOutcome o → NumberedOut
 entry-numbered e (refused r) h = h
 entry-numbered e (accepted es gs ls) h = tt
 
-complete-numbered : (gs : List Given) (ls : List Line) → NumberedOutcome (complete gs ls)
+complete-numbered : (n : ℕ) (gs : List Given) (ls : List Line) → NumberedOutcome (complete n gs ls)
 unfolding complete
-complete-numbered gs ls = go (hasNeeded gs) refl (endIsRaw gs) refl (ltb maxExtent (extentOf gs)) refl
+complete-numbered n gs ls = go (listEmpty gs) refl (hasNeeded gs) refl (endIsRaw gs) refl (ltb maxExtent (extentOf gs)) refl (filesFine gs) refl
   where
-    go : (a : Bool) → hasNeeded gs ≡ a → (b : Bool) → endIsRaw gs ≡ b → (c : Bool) → ltb maxExtent (extentOf gs) ≡ c → NumberedOutcome (complete gs ls)
-    go false e b k c h = simp e (omega arith)
-    go true e false k true h = simp (e, k, h) (omega arith)
-    go true e false k false h = simp (e, k, h) (omega arith)
-    go true e true k true h = simp (e, k, h) (omega arith)
-    go true e true k false h = simp (e, k, h) tt
+    go : (a : Bool) → listEmpty gs ≡ a → (b : Bool) → hasNeeded gs ≡ b → (c : Bool) → endIsRaw gs ≡ c → (d : Bool) → ltb maxExtent (extentOf gs) ≡ d
+        → (e : Bool) → filesFine gs ≡ e → NumberedOutcome (complete n gs ls)
+    go true p true q c r d s e t = simp (p, q) (omega arith)
+    go true p false q c r d s e t = simp (p, q) (omega arith)
+    go false p false q c r d s e t = simp (p, q) (omega arith)
+    go false p true q false r true s e t = simp (p, q, r, s) (omega arith)
+    go false p true q false r false s e t = simp (p, q, r, s) (omega arith)
+    go false p true q true r true s e t = simp (p, q, r, s) (omega arith)
+    go false p true q true r false s true t = simp (p, q, r, s, t) tt
+    go false p true q true r false s false t = simp (p, q, r, s, t) (omega arith)
 
 walk-numbered : (version : ℕ) (ls : List Line) (n at : ℕ) (gs : List Given) → NumberedOutcome (walk version n at gs ls)
 unfolding walk
 walk-numbered version [] n at gs = go (isDetached gs)
   where
-    go : (x : Bool) → NumberedOutcome (if x then complete gs [] else refused (refusal noEnd))
-    go true = complete-numbered gs []
+    go : (x : Bool) → NumberedOutcome (if x then complete n gs [] else refused (refusal noEnd))
+    go true = complete-numbered n gs []
     go false = omega arith
 walk-numbered version (l ∷ ls) n at gs =
     go (ltb maxHeader (at + size l)) (ltb maxLines n) (judge version gs (text l)) (judge-numbered version gs (text l))
@@ -101,18 +114,18 @@ walk-numbered version (l ∷ ls) n at gs =
     after : Item → Outcome
     after i = walk version (n + 1) (at + size l) (afterItem i gs) ls
 
-    close : (i : Item) → NumberedOutcome (after i) → (x : Bool) → NumberedOutcome (if x then complete gs ls else after i)
-    close i h true = complete-numbered gs ls
+    close : (i : Item) → NumberedOutcome (after i) → (x : Bool) → NumberedOutcome (if x then complete n gs ls else after i)
+    close i h true = complete-numbered n gs ls
     close i h false = h
 
     go : (x y : Bool) (j : Judged) → Numbered j → ((i : Item) → NumberedOutcome (after i))
         → NumberedOutcome
         (if x then refused (atLine headerTooLong n) else if y then refused (atLine tooManyLines n)
-        else onJudged n l j (λ i. if closes i then complete gs ls else after i))
+        else onJudged n l j (λ i. if closes i then complete n gs ls else after i))
     go true y j h r = omega arith
     go false true j h r = omega arith
     go false false (wrong w) h r = h
-    go false false (right i) h r = entry-numbered (entry l i) (if closes i then complete gs ls else after i) (close i (r i) (closes i))
+    go false false (right i) h r = entry-numbered (entry l i) (if closes i then complete n gs ls else after i) (close i (r i) (closes i))
 
 pub header-numbered : (file : List ℕ) → NumberedOutcome (header file)
 unfolding header

@@ -15,7 +15,7 @@ use Rattle.format.specs.Bytes.{if_then_else_, bytes, isSome, orDefault, 
 use Rattle.format.specs.Words.{trimEnd, number, within}
 use Rattle.format.specs.Limits.{maxHeader, maxAxes}
 use Rattle.format.specs.Lines.{Line, line, text, size, endingBytes}
-use Rattle.format.specs.Fields.{Given, given, descriptorOf, isGiven, otherField, fieldAt, needsDimension, needsSpace, dimension, sizes, space, spaceDimension, spaceOrigin, spaceDirections, measurementFrame}
+use Rattle.format.specs.Fields.{Given, given, named, descriptorOf, isGiven, otherField, fieldAt, needsDimension, needsSpace, dimension, sizes, space, spaceDimension, spaceOrigin, spaceDirections, measurementFrame}
 use Rattle.format.specs.Spaces.{Space, spaceRow, spaces, spaceCount, maxSpace, spaceNames, spaceAxes, spaceAt, spaceSize, spaceNamed}
 use Rattle.format.specs.Descriptors.{fromDescriptor, descriptor, meaning, noSpace, numberSaid, mayDescribe, dimensionOf, spaceSizeOf}
 use Rattle.format.specs.Header.{Entry, entry, linesOf, accepted, header, afterItem, headerLength}
@@ -44,16 +44,17 @@ line-short : {version : ℕ} {gs : List Given} {t : List ℕ} {f : ℕ} {d : Lis
 line-short {version} {gs} {t} {f} {d} w =
     omega (arith, ap length (w .descriptor-is), descriptor-short f (w .rest), ap length (w .marked .parted), length-append (w .name) (bytes ": " ++ w .rest), length-append (bytes ": ") (w .rest))
 
--- ---- what holds of no fields, and of one field more where it holds of those before it, holds of the fields of an accepted header
+-- ---- what holds of nothing given, and of one field or name more where it holds of what is given before, holds of what an accepted header gives
 
 module _ (P : List Given → Type 0) (first : P [])
-    (more : (version : ℕ) (gs : List Given) (t : List ℕ) (f : ℕ) (d : List ℕ) → length t ≤ maxHeader → FieldLine version gs t f d → P gs → P (given f d ∷ gs)) where
+    (more : (version : ℕ) (gs : List Given) (t : List ℕ) (f : ℕ) (d : List ℕ) → length t ≤ maxHeader → FieldLine version gs t f d → P gs → P (given f d ∷ gs))
+    (name : (gs : List Given) (n : List ℕ) → P gs → P (named n ∷ gs)) where
   fine-holds : (version : ℕ) (es : List Entry) (gs gs′ : List Given) (r : List Line) → Fine version gs es gs′ r → headerLength es ≤ maxHeader → P gs → P gs′
   fine-holds version [] gs gs′ r f b p = rw (f .3) p
   fine-holds version (entry l i ∷ es) gs gs′ r f b p =
       let n = length-unlines-cons l (linesOf es) in
       let h : length (text l) ≤ maxHeader = omega (arith, n, text-within l) in
-      let q = after-cases version gs (text l) P (f .0) p (λ g d w. more version gs (text l) g d h w p) in
+      let q = after-cases version gs (text l) P (f .0) p (λ g d w. more version gs (text l) g d h w p) (λ n w. name gs n p) in
       fine-cases version gs l i es gs′ r (λ es gs′. P gs′) f (λ k c x. q) (λ k c x. fine-holds version es (afterItem i gs) gs′ r x (omega (arith, n)) q)
 
   pub header-holds : (s : List ℕ) {es : List Entry} {gs : List Given} {r : List Line} → header s ≡ accepted es gs r → P gs
@@ -74,7 +75,7 @@ or-swap false true = refl
 or-swap false false = refl
 
 -- a number in a range
-within-range : (least most : ℕ) (o : Option ℕ) → within least most o ≡ true → (least ≤ orDefault 0 o) × (orDefault 0 o ≤ most)
+pub within-range : (least most : ℕ) (o : Option ℕ) → within least most o ≡ true → (least ≤ orDefault 0 o) × (orDefault 0 o ≤ most)
 within-range least most none e = absurd (false≢true e)
 within-range least most (some n) e = (leb-true least n (and-left (leb least n) (leb n most) e), leb-true n most (and-right (leb least n) (leb n most) e))
 
@@ -222,10 +223,16 @@ none-described : AllDescribed []
 unfolding descriptorOf
 none-described g t e = absurd (Option·none-ne-some _ e)
 
+-- a name changes no field
+named-described : (gs : List Given) (n : List ℕ) → AllDescribed gs → AllDescribed (named n ∷ gs)
+unfolding descriptorOf
+named-described gs n p g t e =
+    let x = p g t e in record { after-dimension = x .after-dimension; after-space = x .after-space; described = x .described; short = x .short }
+
 module _ (s : List ℕ) {es : List Entry} {gs : List Given} {r : List Line} (e : header s ≡ accepted es gs r) where
   -- each field's descriptor is one that it may have in this header
   pub header-described : (g : ℕ) (t : List ℕ) → descriptorOf g gs ≡ some t → Described gs g t
-  header-described = header-holds AllDescribed none-described (λ version gs t f d b w p. more-described version gs f d b w p) s e
+  header-described = header-holds AllDescribed none-described (λ version gs t f d b w p. more-described version gs f d b w p) named-described s e
 
   -- the dimension of the space, by what names it and by what gives it
   sized-by : (o : Option (List ℕ)) → descriptorOf space gs ≡ o → (p : Option (List ℕ)) → descriptorOf spaceDimension gs ≡ p

@@ -3,7 +3,7 @@
 use mathlib.Core.Path.{_≡_, refl, sym, ap, _∙_}
 use Prim.Native.Nat.{ℕ, _+_, _≤_}
 use native.Mathlib.Omega.{arith}
-use mathlib.Core.Bool.{Bool, true, false, not, _&&_}
+use mathlib.Core.Bool.{Bool, true, false, not, _&&_, false≢true}
 use mathlib.Core.List.{List, [], _∷_, _++_}
 use mathlib.Core.Option.{Option, none, some}
 use lib.Dec.{eqb}
@@ -13,7 +13,7 @@ use Rattle.format.specs.Bytes.{bytes, every, onto, isEmpty, LF, BACKSLAS
 use Rattle.format.specs.Pairs.{plain, unmarked, pairMark, mark, otherLine, kindOf, isOther, pairTexts, fieldTexts, escape, unescapeFrom, unescape}
 use Rattle.format.specs.Fields.{Given, given, fieldNamed}
 use Rattle.format.specs.Descriptors.{descriptor, namesFollow}
-use Rattle.format.specs.Header.{Item, magic, comment, field, pair, closing, pairOf, fieldOf, right, judge}
+use Rattle.format.specs.Header.{Item, magic, comment, field, pair, fileName, closing, pairOf, givenOf, right, judge}
 use Rattle.format.specs.Rules.{PairLine, Keeps}
 use Rattle.format.specs.Settings.{settable, keyFine, valueFine, pairText}
 use Rattle.format.proofs.Bytes.{and-left, and-right, every-append, every-left, every-right, every-weaker, onto-some}
@@ -175,9 +175,9 @@ pub record SetLine (version : ℕ) (t k v : List ℕ) : Type 0 where
   pub key : keyFine k ≡ true
   pub value : valueFine v ≡ true
 
-set-line : {version : ℕ} {t k v : List ℕ} → PairLine version t k v → SetLine version t k v
+set-line : {version : ℕ} {gs : List Given} {t k v : List ℕ} → PairLine version gs t k v → SetLine version t k v
 unfolding every pairText valueFine
-set-line {version} {t} {k} {v} p =
+set-line {version} {gs} {t} {k} {v} p =
     let q = rw (pair-of-first (p .marked)) at (mark-parts t) in
     let all = rw (q .0) at (p .other .all-plain) in
     let plain-key = every-left plain (p .key) (bytes ":=" ++ p .value) all in
@@ -222,21 +222,23 @@ fieldIn (some p) = namedField (fieldNamed (p .0)) (p .1)
 module _ (version : ℕ) (gs : List Given) (t : List ℕ) (names : namesFollow gs ≡ false) where
   kept-pair : (i : Item) → Keeps version gs t i → pairTexts (kindOf t) ≡ escapedPair (pairOf i)
   kept-pair (magic n) w = absurd w
-  kept-pair comment w = rw (is-comment t w)
+  kept-pair comment w = rw (is-comment t (w .1))
   kept-pair (field f d) w = rw (other-kind t (is-other t (w .other)), field-of-first (w .marked))
   kept-pair (pair k v) w = let s = set-line w in rw (s .text-is, kind-of-pair k v (s .key))
+  kept-pair (fileName n) w = absurd (false≢true (sym names ∙ w .follows))
   kept-pair closing w = rw w
 
-  kept-field : (i : Item) → Keeps version gs t i → fieldIn (fieldTexts (kindOf t)) ≡ fieldOf i
+  kept-field : (i : Item) → Keeps version gs t i → fieldIn (fieldTexts (kindOf t)) ≡ givenOf i
   kept-field (magic n) w = absurd w
-  kept-field comment w = rw (is-comment t w)
+  kept-field comment w = rw (is-comment t (w .1))
   kept-field (field f d) w = rw (other-kind t (is-other t (w .other)), field-of-first (w .marked), w .named, w .descriptor-is)
   kept-field (pair k v) w = rw (other-kind t (is-other t (w .other)), pair-of-first (w .marked))
+  kept-field (fileName n) w = absurd (false≢true (sym names ∙ w .follows))
   kept-field closing w = rw w
 
   -- its pair, and its field
   pub line-pair : {i : Item} → judge version gs t ≡ right i → pairTexts (kindOf t) ≡ escapedPair (pairOf i)
   line-pair {i} j = kept-pair i (judge-keeps version gs t j)
 
-  pub line-field : {i : Item} → judge version gs t ≡ right i → fieldIn (fieldTexts (kindOf t)) ≡ fieldOf i
+  pub line-field : {i : Item} → judge version gs t ≡ right i → fieldIn (fieldTexts (kindOf t)) ≡ givenOf i
   line-field {i} j = kept-field i (judge-keeps version gs t j)

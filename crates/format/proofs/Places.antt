@@ -14,10 +14,10 @@ use lib.Seq.{drop-drop}
 use borrow.Author.Tests.{lt-leb, ltb-false}
 use Rattle.format.specs.Bytes.{if_then_else_, andThen, LF}
 use Rattle.format.specs.Limits.{maxFile, maxExtent}
-use Rattle.format.specs.Refusals.{fileTooLong, placeTooLarge, dataTooShort, floatSamples, lentTooShort}
+use Rattle.format.specs.Refusals.{fileTooLong, severalFiles, placeTooLarge, dataTooShort, floatSamples, lentTooShort}
 use Rattle.format.specs.Lines.{Line, unlines}
 use Rattle.format.specs.Fields.{Given}
-use Rattle.format.specs.Descriptors.{ByteSkip, forward, fromEnd, isDetached, byteSkipOf, encodingOf, typeOf, numberKind, isFloating, extentOf, raw}
+use Rattle.format.specs.Descriptors.{ByteSkip, forward, fromEnd, isDetached, byteSkipOf, encodingOf, typeOf, numberKind, isFloating, extentOf, raw, fileCountOf}
 use Rattle.format.specs.Header.{Entry, linesOf, accepted, header, headerLength}
 use Rattle.format.specs.Data.{skipLine, skipLines, skipBytes, lastBytes, pastByteSkip, afterSkips, Place, nowhere, part, placeFrom, placeOf, partOf}
 use Rattle.format.specs.Calls.{dataAnswer, dataPlaceCall, dataCall, decoded, checkAt, checkSamplesCall, seenIn, listAfter, samplesCall}
@@ -98,16 +98,17 @@ module _ (gs : List Given) where
   pub place-numbered : (wanted : Bool) (h : ℕ) (file second : List ℕ) → NumberedPlace (placeOf wanted gs h file second)
   unfolding placeOf
   place-numbered wanted h file second =
-      go (isDetached gs && ltb maxFile (length second)) (wanted && isFloating (numberKind (typeOf gs))) (isDetached gs)
+      go (ltb 1 (fileCountOf gs)) (isDetached gs && ltb maxFile (length second)) (wanted && isFloating (numberKind (typeOf gs))) (isDetached gs)
     where
-      go : (a b c : Bool)
+      go : (m a b c : Bool)
           → NumberedPlace
-          (if a then nowhere fileTooLong else if b then nowhere floatSamples
+          (if m then nowhere severalFiles else if a then nowhere fileTooLong else if b then nowhere floatSamples
           else if c then placeFrom gs true (length second) (afterSkips gs second) else placeFrom gs false (length file) (afterSkips gs (drop h file)))
-      go true b c = omega arith
-      go false true c = omega arith
-      go false false true = from-numbered true (length second) (afterSkips gs second)
-      go false false false = from-numbered false (length file) (afterSkips gs (drop h file))
+      go true a b c = omega arith
+      go false true b c = omega arith
+      go false false true c = omega arith
+      go false false false true = from-numbered true (length second) (afterSkips gs second)
+      go false false false false = from-numbered false (length file) (afterSkips gs (drop h file))
 
 -- ---- the place of the data by what follows the header
 
@@ -163,7 +164,7 @@ place-past : (wanted : Bool) (gs : List Given) (h : ℕ) (file second : List ℕ
     → placeOf wanted gs h file second ≡ past h (placeOf wanted gs 0 (drop h file) second)
 unfolding placeOf
 place-past wanted gs h file second k l m =
-    go (isDetached gs && ltb maxFile (length second)) (wanted && isFloating (numberKind (typeOf gs))) (isDetached gs)
+    go (ltb 1 (fileCountOf gs)) (isDetached gs && ltb maxFile (length second)) (wanted && isFloating (numberKind (typeOf gs))) (isDetached gs)
   where
     there : Place
     there = placeFrom gs true (length second) (afterSkips gs second)
@@ -179,14 +180,15 @@ place-past wanted gs h file second k l m =
         rw whole
         (past-first gs h (length area) (omega (arith, whole)) m (afterSkips gs area) (skips-at-most gs area))
 
-    go : (a b c : Bool)
-        → (if a then nowhere fileTooLong else if b then nowhere floatSamples else if c then there else placeFrom gs false (length file) (afterSkips gs area))
+    go : (m a b c : Bool)
+        → (if m then nowhere severalFiles else if a then nowhere fileTooLong else if b then nowhere floatSamples else if c then there else placeFrom gs false (length file) (afterSkips gs area))
         ≡ past h
-        (if a then nowhere fileTooLong else if b then nowhere floatSamples else if c then there else placeFrom gs false (length area) (afterSkips gs area))
-    go true b c = refl
-    go false true c = refl
-    go false false true = past-second gs h (length second) (afterSkips gs second)
-    go false false false = here
+        (if m then nowhere severalFiles else if a then nowhere fileTooLong else if b then nowhere floatSamples else if c then there else placeFrom gs false (length area) (afterSkips gs area))
+    go true a b c = refl
+    go false true b c = refl
+    go false false true c = refl
+    go false false false true = past-second gs h (length second) (afterSkips gs second)
+    go false false false false = here
 
 -- the samples there are the same
 check-past : (gs : List Given) (h room : ℕ) (file second : List ℕ) (p : Place)
@@ -235,19 +237,20 @@ module _ (gs : List Given) (h : ℕ) (file second : List ℕ) (r : encodingOf gs
 
   place-at-end : byteSkipOf gs ≡ fromEnd → (wanted : Bool) → AtEnd gs h file second (placeOf wanted gs h file second)
   unfolding placeOf
-  place-at-end e wanted = go (isDetached gs && ltb maxFile (length second)) (wanted && isFloating (numberKind (typeOf gs))) (isDetached gs) refl
+  place-at-end e wanted = go (ltb 1 (fileCountOf gs)) (isDetached gs && ltb maxFile (length second)) (wanted && isFloating (numberKind (typeOf gs))) (isDetached gs) refl
     where
       left : (s : List ℕ) → Last (length s) (extentOf gs) (afterSkips gs s)
       left s = rw e (last-left _ (extentOf gs) s)
 
-      go : (a b c : Bool) → c ≡ isDetached gs
+      go : (m a b c : Bool) → c ≡ isDetached gs
           → AtEnd gs h file second
-          (if a then nowhere fileTooLong else if b then nowhere floatSamples
+          (if m then nowhere severalFiles else if a then nowhere fileTooLong else if b then nowhere floatSamples
           else if c then placeFrom gs true (length second) (afterSkips gs second) else placeFrom gs false (length file) (afterSkips gs (drop h file)))
-      go true b c d = tt
-      go false true c d = tt
-      go false false true d = from-at-end true (length second) (length second) d refl (omega arith) (afterSkips gs second) (left second)
-      go false false false d =
+      go true a b c d = tt
+      go false true b c d = tt
+      go false false true c d = tt
+      go false false false true d = from-at-end true (length second) (length second) d refl (omega arith) (afterSkips gs second) (left second)
+      go false false false false d =
           from-at-end false (length file) (length (drop h file)) d refl (omega (arith, length-drop h file)) (afterSkips gs (drop h file)) (left (drop h file))
 
 -- a header is no longer than its file

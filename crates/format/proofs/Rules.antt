@@ -1,20 +1,21 @@
 -- The headers that keep the rules (specs/Rules.antt) are those that are accepted: `keeps-accepted`, `accepted-keeps`.
 -- Assumes nothing.
 use mathlib.Core.Path.{_≡_, refl, sym, ap, _∙_}
-use Prim.Native.Nat.{ℕ}
+use Prim.Native.Nat.{ℕ, zero, suc, _-_, _%_, _≤_}
 use native.Mathlib.Omega.{arith}
 use mathlib.Core.Bool.{Bool, true, false, not, _&&_, _||_, false≢true}
 use mathlib.Core.List.{List, [], _∷_, _++_, cons≢nil, append-assoc, append-nil, map-append}
 use mathlib.Core.Option.{Option, none, some, Option·none-ne-some}
-use lib.Dec.{eqb}
-use lib.ListN.{length}
-use borrow.Author.Tests.{eqb-true}
+use lib.Dec.{eqb, ltb, leb}
+use lib.ListN.{length, drop, getD}
+use borrow.Author.Tests.{eqb-true, ne-eqb, eq-eqb, leb-true, le-leb, ltb-true, ltb-false, lt-ltb, le-ltb}
+use Rattle.format.specs.Bytes.{if_then_else_, between, orDefault}
 use Rattle.format.specs.declared.Refusal.{Refusal}
 use Rattle.format.specs.Lines.{Line, line, lf, crlf, eof, text, ending, lines}
-use Rattle.format.specs.Fields.{Given, isGiven, dimension, type, encoding, endian, sizes, dataFile}
-use Rattle.format.specs.Descriptors.{ByteSkip, forward, fromEnd, isFromEnd, endianNeeded, typeOf, encodingOf, byteSkipOf, raw, hasNeeded, endIsRaw}
-use Rattle.format.specs.Header.{Item, magic, closing, fieldOf, closes, Entry, entry, linesOf, magicVersion, versionOfLine, Outcome, refused, accepted, withField, afterItem, header}
-use Rattle.format.specs.Rules.{Keeps, hasEnding, fieldsOf, closed, Needed, KeepsRules}
+use Rattle.format.specs.Fields.{Given, isGiven, fileNames, dimension, type, encoding, endian, sizes, dataFile}
+use Rattle.format.specs.Descriptors.{ByteSkip, forward, fromEnd, isFromEnd, endianNeeded, typeOf, encodingOf, byteSkipOf, raw, hasNeeded, endIsRaw, dimensionOf, sizesOf, product, namesFollow, listEmpty, fileCountOf, coverOf, divides, coverFine, filesFit, filesFine}
+use Rattle.format.specs.Header.{Item, magic, closing, givenOf, closes, Entry, entry, linesOf, magicVersion, versionOfLine, Outcome, refused, accepted, withField, afterItem, header}
+use Rattle.format.specs.Rules.{Keeps, hasEnding, fieldsOf, closed, Needed, Covers, KeepsRules}
 use Rattle.format.proofs.Bytes.{and-left, and-right}
 use Rattle.format.proofs.Lines.{Shape, lf-line, crlf-line, eof-line, shape-of-lines, shape-after}
 use Rattle.format.proofs.Judged.{is-closing, keeps-judge}
@@ -70,6 +71,61 @@ end-with-raw gs h = go (byteSkipOf gs) refl
     go (forward n) e = refl
     go fromEnd e = rw (h e)
 
+-- a name follows LIST
+filled-list : (gs : List Given) → listEmpty gs ≡ false → namesFollow gs ≡ true → 1 ≤ length (fileNames gs)
+unfolding listEmpty
+filled-list gs h n = go (length (fileNames gs)) (rw n at h)
+  where
+    go : (k : ℕ) → eqb k 0 ≡ false → 1 ≤ k
+    go zero e = absurd (false≢true (sym e))
+    go (suc k) e = omega arith
+
+list-filled-is : (gs : List Given) → (namesFollow gs ≡ true → 1 ≤ length (fileNames gs)) → listEmpty gs ≡ false
+unfolding listEmpty
+list-filled-is gs h = go (namesFollow gs) refl
+  where
+    go : (x : Bool) → namesFollow gs ≡ x → (x && eqb (length (fileNames gs)) 0) ≡ false
+    go false e = refl
+    go true e = ne-eqb (length (fileNames gs)) 0 (λ z. omega (arith, h e, z))
+
+-- ---- the files and the axes that one covers
+
+module _ (n : ℕ) (ns : List ℕ) (k c : ℕ) where
+  covers-of : coverFine n ns k c ≡ true → Covers n ns k c
+  covers-of h =
+      let rule = if ltb c n then eqb k (product (drop c ns)) else divides k (getD ns (n - 1) 0) in
+      let i = and-left (between 1 n c) (rule && divides k (product ns)) h in
+      let j = and-right (between 1 n c) (rule && divides k (product ns)) h in
+      let r = and-left rule (divides k (product ns)) j in
+      record {
+        least = leb-true 1 c (and-left (leb 1 c) (leb c n) i);
+        most = leb-true c n (and-right (leb 1 c) (leb c n) i);
+        slices = λ l. eqb-true k (product (drop c ns)) (rw (lt-ltb c n l) at r);
+        slabs = λ e. eqb-true (getD ns (n - 1) 0 % k) 0 (rw (le-ltb c n (omega (arith, e))) at r);
+        shares = eqb-true (product ns % k) 0 (and-right rule (divides k (product ns)) j);
+      }
+
+  of-covers : Covers n ns k c → coverFine n ns k c ≡ true
+  of-covers w = rw (le-leb 1 c (w .least), le-leb c n (w .most), w .shares) (go (ltb c n) refl)
+    where
+      go : (x : Bool) → ltb c n ≡ x → ((if x then eqb k (product (drop c ns)) else divides k (getD ns (n - 1) 0)) && true) ≡ true
+      go true e = rw (w .slices (ltb-true c n e)) (ap (λ b. b && true) (eq-eqb (product (drop c ns)) (product (drop c ns)) refl))
+      go false e = rw (w .slabs (omega (arith, w .most, ltb-false c n e)))
+
+pub files-covered : (gs : List Given) → filesFine gs ≡ true → (axes : Option ℕ) → coverOf gs ≡ some axes
+    → Covers (dimensionOf gs) (sizesOf gs) (fileCountOf gs) (orDefault (dimensionOf gs - 1) axes)
+unfolding filesFine
+files-covered gs h axes e = covers-of (dimensionOf gs) (sizesOf gs) (fileCountOf gs) (orDefault (dimensionOf gs - 1) axes) (rw e at h)
+
+files-fine : (gs : List Given)
+    → ((axes : Option ℕ) → coverOf gs ≡ some axes → Covers (dimensionOf gs) (sizesOf gs) (fileCountOf gs) (orDefault (dimensionOf gs - 1) axes)) → filesFine gs ≡ true
+unfolding filesFine
+files-fine gs h = go (coverOf gs) refl
+  where
+    go : (o : Option (Option ℕ)) → coverOf gs ≡ o → filesFit (dimensionOf gs) (sizesOf gs) (fileCountOf gs) o ≡ true
+    go none e = refl
+    go (some axes) e = of-covers (dimensionOf gs) (sizesOf gs) (fileCountOf gs) (orDefault (dimensionOf gs - 1) axes) (h axes e)
+
 -- ---- the lines after line 1, from any of them on
 
 -- the entries es keep the rules of lines after the fields gs, only the last one may close the header, and gs′ are the fields after them
@@ -86,7 +142,7 @@ none-among (b ∷ before) e after h = cons≢nil (sym h)
 
 -- the fields given once a line is read
 after-item : (i : Item) (gs : List Given) → afterItem i [] ++ gs ≡ afterItem i gs
-after-item i gs = go (fieldOf i)
+after-item i gs = go (givenOf i)
   where
     go : (o : Option Given) → withField o [] ++ gs ≡ withField o gs
     go none = refl
@@ -219,7 +275,7 @@ keeps-accepted file {es} {gs} {r} k =
     } in
     rw (k .entries)
     (header-fine file (k .first) (k .version) (k .others) gs r (rw (k .entries) at (k .split)) (is-first (k .first) (k .first-magic) (k .first-ended))
-    (lined-fine (k .version) gs r (k .others) [] t (k .unclosed) (record { needed = of-needed gs (k .needed); fitting = end-with-raw gs (k .end-is-raw); small = k .extent-bytes }))
+    (lined-fine (k .version) gs r (k .others) [] t (k .unclosed) (record { filled = list-filled-is gs (k .list-filled); needed = of-needed gs (k .needed); fitting = end-with-raw gs (k .end-is-raw); small = k .extent-bytes; files = files-fine gs (k .files-cover) }))
     (rw (k .entries) at (k .header-bytes)) (rw (k .entries) at (k .header-lines)) (k .file-bytes))
 
 pub accepted-keeps : (file : List ℕ) {es : List Entry} {gs : List Given} {r : List Line} → header file ≡ accepted es gs r → KeepsRules file es gs r
@@ -244,11 +300,13 @@ accepted-keeps file {es} {gs} {r} e =
       unclosed = fine-unclosed (x .version) gs r (x .rest) [] (x .fine);
       fields = t .fields ∙ append-nil (fieldsOf (x .rest));
       needed = needed-of gs (c .needed);
+      list-filled = filled-list gs (c .filled);
       end-is-raw = raw-at-end gs (c .fitting);
       file-bytes = x .small;
       header-bytes = x .short;
       header-lines = x .few;
       extent-bytes = c .small;
+      files-cover = files-covered gs (c .files);
     }
 
 pub refused-keeps-none : (file : List ℕ) {x : Refusal} → header file ≡ refused x → (es : List Entry) (gs : List Given) (r : List Line) → KeepsRules file es gs r → ⊥

@@ -99,7 +99,7 @@ digits-few = of-decimal (λ n s. (k : ℕ) → n < 10 ^ suc k → length s ≤ s
     more n s h p (suc k) l = simp length-append (omega (arith, p k (omega (arith, pow-suc 10 (suc k)))))
 
 -- of a text that is not empty, `number` is `digitsFrom 0`
-number-from : (s : List ℕ) → 1 ≤ length s → number s ≡ digitsFrom 0 s
+pub number-from : (s : List ℕ) → 1 ≤ length s → number s ≡ digitsFrom 0 s
 unfolding number
 number-from [] h = absurd (omega arith)
 number-from (b ∷ s) h = refl

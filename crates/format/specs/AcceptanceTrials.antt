@@ -45,6 +45,8 @@ readingDetached =
       frame = false;
       space = 12;
       spacedimension = 0;
+      files = 1;
+      fieldlines = 9;
     }
 
 -- its second file: a line of 6 bytes and LF, 3 bytes, 4 bytes of data, one byte more
@@ -76,10 +78,10 @@ acceptanceTrials =
     -- the first mark decides: a field with `:=` in its descriptor, and a pair, which version 1 does not have
     ∷ trial Refusal (withLines 1 ("content: a:=b" ∷ [])) fine
     ∷ trial Refusal (withLines 1 ("content:=a: b" ∷ [])) (atLine 8 6)
-    -- what is no name of a data file; in small letters `list` is one
-    ∷ trial Refusal (withLines 1 ("data file: LIST" ∷ [])) (atLine 11 6)
-    ∷ trial Refusal (withLines 1 ("data file: LIST 2" ∷ [])) (atLine 11 6)
-    ∷ trial Refusal (withLines 1 ("data file: sweep%02d.raw" ∷ [])) (atLine 11 6)
+    -- what is no name of one data file is not in this version (document 02, W5); in small letters `list` is a name
+    ∷ trial Refusal (withLines 1 ("data file: LIST" ∷ [])) (atLine 8 6)
+    ∷ trial Refusal (withLines 1 ("data file: LIST 2" ∷ [])) (atLine 8 6)
+    ∷ trial Refusal (withLines 1 ("data file: sweep%02d.raw" ∷ [])) (atLine 8 6)
     ∷ trial Refusal (withLines 1 ("data file: list" ∷ [])) fine
     -- versions: each field that comes with a later version than 1, and key pairs
     ∷ since 2 [] "rig:=7"

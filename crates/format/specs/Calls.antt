@@ -23,9 +23,9 @@ use Rattle.format.specs.Limits.{maxAxes}
 use Rattle.format.specs.Refusals.{lentTooShort, badCoordinates, refusal, fine}
 use Rattle.format.specs.Lines.{text, size}
 use Rattle.format.specs.Pairs.{Marked, unmarked, fieldMark, pairMark, mark, escape}
-use Rattle.format.specs.Fields.{Given, given, isGiven, spaceOrigin, spaceDirections, measurementFrame}
-use Rattle.format.specs.Descriptors.{fromDescriptor, bytesForward, isFromEnd, isDetached, dimensionOf, typeOf, encodingOf, endianOf, sizesOf, lineSkipOf, byteSkipOf, spaceOf, spaceSizeOf, extentOf, sampleBytes, numberKind, product}
-use Rattle.format.specs.Header.{Item, pairOf, fieldOf, Entry, entry, Outcome, refused, accepted, header, versionOf, valueOf, valueIn, tableOf, headerLength}
+use Rattle.format.specs.Fields.{Given, given, named, isGiven, spaceOrigin, spaceDirections, measurementFrame}
+use Rattle.format.specs.Descriptors.{fromDescriptor, bytesForward, isFromEnd, isDetached, dimensionOf, typeOf, encodingOf, endianOf, sizesOf, lineSkipOf, byteSkipOf, spaceOf, spaceSizeOf, extentOf, sampleBytes, numberKind, product, fileCountOf}
+use Rattle.format.specs.Header.{Item, pairOf, givenOf, Entry, entry, Outcome, refused, accepted, header, versionOf, valueOf, valueIn, tableOf, headerLength, fieldLines}
 use Rattle.format.specs.Data.{Place, nowhere, part, placeOf, partOf}
 use Rattle.format.specs.Samples.{Decoded, samplesOf}
 use Rattle.format.specs.Axes.{inside, sampleNumber}
@@ -36,7 +36,7 @@ use Rattle.format.specs.Settings.{Lent, lent, Setting, setting, SetOutco
 
 unfoldable pub noReading : Reading
 noReading =
-    record { version = 0; form = 0; dimension = 0; sampletype = 0; encoding = 0; endian = 0; sizes = replicate maxAxes 0; lineskip = 0; byteskip = 0; extent = 0; length = 0; lines = 0; fromend = false; origin = false; directions = false; frame = false; space = 0; spacedimension = 0 }
+    record { version = 0; form = 0; dimension = 0; sampletype = 0; encoding = 0; endian = 0; sizes = replicate maxAxes 0; lineskip = 0; byteskip = 0; extent = 0; length = 0; lines = 0; fromend = false; origin = false; directions = false; frame = false; space = 0; spacedimension = 0; files = 0; fieldlines = 0 }
 
 abbrev pub formOf : List Given → ℕ
 formOf gs = if isDetached gs then 1 else 0
@@ -45,9 +45,9 @@ formOf gs = if isDetached gs then 1 else 0
 abbrev pub padded : List ℕ → List ℕ
 padded ns = ns ++ replicate (maxAxes - length ns) 0
 
--- the reading of a header of so many bytes and lines, by its version and the fields given
-abbrev pub readingAt : ℕ → List Given → ℕ → ℕ → Reading
-readingAt version gs bytes count =
+-- the reading of a header of so many bytes and lines, so many of them before the names under LIST, by its version and what is given
+abbrev pub readingAt : ℕ → List Given → ℕ → ℕ → ℕ → Reading
+readingAt version gs bytes count before =
     record {
       version = version;
       form = formOf gs;
@@ -67,10 +67,12 @@ readingAt version gs bytes count =
       frame = isGiven measurementFrame gs;
       space = spaceOf gs;
       spacedimension = spaceSizeOf gs;
+      files = fileCountOf gs;
+      fieldlines = before;
     }
 
 unfoldable pub readingOf : List Entry → List Given → Reading
-readingOf es gs = readingAt (versionOf es) gs (headerLength es) (length es)
+readingOf es gs = readingAt (versionOf es) gs (headerLength es) (length es) (fieldLines es)
 
 abbrev pub readAnswer : Outcome → ReadAnswer
 readAnswer (refused r) = record { refusal = r; reading = noReading }
@@ -136,9 +138,10 @@ beforeDescriptor f t = length t - length (fromDescriptor f (afterMark (mark t)))
 abbrev pub givenPlace : ℕ → ℕ → List ℕ → Option Given → FindAnswer → FindAnswer
 givenPlace f at t none rest = rest
 givenPlace f at t (some (given g d)) rest = if eqb f g then foundAt (at + beforeDescriptor f t) (length d) else rest
+givenPlace f at t (some (named n)) rest = rest
 
 abbrev pub descriptorPlace : ℕ → ℕ → List ℕ → Item → FindAnswer → FindAnswer
-descriptorPlace f at t i rest = givenPlace f at t (fieldOf i) rest
+descriptorPlace f at t i rest = givenPlace f at t (givenOf i) rest
 
 unfoldable pub fieldPlace : ℕ → ℕ → List Entry → FindAnswer
 fieldPlace f at [] = noPlace fine

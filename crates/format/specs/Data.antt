@@ -1,5 +1,5 @@
 -- The place of the data (document 01, "Data and samples", the first paragraph; a byte skip of -1: document 02, W1).
--- After the reading its refusals are tried in this order: 1 (a detached header's second file), 19 (where samples are wanted), 16, 17, 18.
+-- After the reading its refusals are tried in this order: 33 (more than one file: document 02, W5), 1 (a detached header's second file), 19 (where samples are wanted), 16, 17, 18.
 use Prim.Native.Nat.{ℕ, zero, suc, _+_, _-_, _^_}
 use mathlib.Core.Bool.{Bool, true, false, _&&_}
 use mathlib.Core.List.{List, [], _∷_}
@@ -8,9 +8,9 @@ use lib.Dec.{eqb, ltb, leb}
 use lib.ListN.{length, take, drop}
 use Rattle.format.specs.Bytes.{if_then_else_, andThen, LF}
 use Rattle.format.specs.Limits.{maxFile}
-use Rattle.format.specs.Refusals.{fileTooLong, skipPastEnd, placeTooLarge, dataTooShort, floatSamples}
+use Rattle.format.specs.Refusals.{fileTooLong, severalFiles, skipPastEnd, placeTooLarge, dataTooShort, floatSamples}
 use Rattle.format.specs.Fields.{Given}
-use Rattle.format.specs.Descriptors.{ByteSkip, forward, fromEnd, isDetached, lineSkipOf, byteSkipOf, encodingOf, typeOf, numberKind, isFloating, extentOf, raw}
+use Rattle.format.specs.Descriptors.{ByteSkip, forward, fromEnd, isDetached, lineSkipOf, byteSkipOf, encodingOf, typeOf, numberKind, isFloating, extentOf, raw, fileCountOf}
 
 -- ---- the skips: first lines, then bytes; none where a skip passes the end
 
@@ -63,7 +63,8 @@ placeFrom gs second whole (some left) =
 -- the place of the data of a header of h bytes with these fields; `wanted`: its samples are wanted
 unfoldable pub placeOf : Bool → List Given → ℕ → List ℕ → List ℕ → Place
 placeOf wanted gs h file second =
-    if isDetached gs && ltb maxFile (length second) then nowhere fileTooLong
+    if ltb 1 (fileCountOf gs) then nowhere severalFiles
+    else if isDetached gs && ltb maxFile (length second) then nowhere fileTooLong
     else if wanted && isFloating (numberKind (typeOf gs)) then nowhere floatSamples
     else if isDetached gs then placeFrom gs true (length second) (afterSkips gs second)
     else placeFrom gs false (length file) (afterSkips gs (drop h file))

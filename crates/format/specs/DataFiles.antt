@@ -1,6 +1,6 @@
 -- What a data file descriptor says (document 02, W5; source 000, section 3; document 01, "Understood fields", the last sentence).
 -- It has one of three forms, told apart in this order: LIST, after which names stand on lines of their own; a pattern, which holds a `%`,
--- with the numbers that go into it; and else the name of one file. The text is a descriptor: no space or tab stands at its ends.
+-- with the numbers that go into it; and else, if it is not empty, the name of one file. The text is a descriptor: no space or tab stands at its ends.
 use Prim.Native.Nat.{ℕ, _+_, _-_, _/_}
 use mathlib.Core.Bool.{Bool, true, false, not, _&&_, _||_}
 use mathlib.Core.List.{List, [], _∷_}
@@ -14,7 +14,7 @@ use Rattle.format.specs.Decimals.{digitsOf, afterDigits}
 
 -- ---- the forms
 
--- `LIST` in capitals, or it begins with `LIST ` (a tab in place of the space makes a name)
+-- `LIST` in capitals, or it begins with `LIST ` (with a tab in place of the space it is not this form)
 abbrev pub isList : List ℕ → Bool
 isList t = same t (bytes "LIST") || beginsWith (bytes "LIST ") t
 
@@ -22,22 +22,22 @@ isList t = same t (bytes "LIST") || beginsWith (bytes "LIST ") t
 abbrev pub hasPercent : List ℕ → Bool
 hasPercent t = isIn PERCENT t
 
--- no name of one file: one of the two forms that are there from version 4, also where it is a bad one
+-- LIST or a pattern: the two forms that are there from version 4, also where it is a bad one
 abbrev pub isManyForm : List ℕ → Bool
 isManyForm t = isList t || hasPercent t
 
 -- ---- a pattern
 
--- what stands before its `%`; whether numbers are padded by zeros (true) or by spaces; the width that they are padded to, 0 where none is said; what stands after its `d`
+-- what stands before its `%`; whether numbers are padded by zeros (true) or by spaces; the width that they are padded to; what stands after its `d`. For `%d` these are spaces and the width 0.
 pub data Pattern : Type 0 where
   pattern : List ℕ → Bool → ℕ → List ℕ → Pattern
 
--- the digits of a width: 1 to 99 without a leading zero; none at all only where no zero stands before them
+-- the digits of a width: 1 to 99 without a leading zero (48 is `0`); none at all only where no zero stands before them
 abbrev pub widthFine : Bool → List ℕ → Bool
 widthFine zeros [] = not zeros
 widthFine zeros (b ∷ w) = not (eqb b 48) && numberIn 1 maxWidth (b ∷ w)
 
--- the digits w of a width, and what follows them: `d`, and a rest without a `%`
+-- the digits w of a width, and what follows them: `d` (100), and a rest without a `%`
 abbrev pub afterWidth : Bool → List ℕ → List ℕ → Option Pattern
 afterWidth zeros w [] = none
 afterWidth zeros w (b ∷ s) =
@@ -65,23 +65,24 @@ patternOf (b ∷ s) = if eqb b PERCENT then afterPercent s else byteBefore b (pa
 pub data Numbering : Type 0 where
   numbering : ℕ → Bool → ℕ → ℕ → Numbering
 
--- how many of low, low + size, low + 2 × size .. are at most high
+-- how many of low, low + size, low + 2 × size .. are at most high, for a size of at least 1
 abbrev pub countUp : ℕ → ℕ → ℕ → ℕ
 countUp low high size = if ltb high low then 0 else (high - low) / size + 1
 
--- from the first to the last of them: falling numbers are as many as rising ones from the last to the first
+-- from the first to the last of them: falling numbers are as many as rising ones from the last to the first would be, though not always the same ones
 abbrev pub countNumbers : Bool → ℕ → ℕ → ℕ → ℕ
 countNumbers false first last size = countUp first last size
 countNumbers true first last size = countUp last first size
 
--- at least one number
+-- none where there is no number: no file (refusal 11)
 abbrev pub withSome : ℕ → Bool → ℕ → ℕ → Option Numbering
 withSome first falls size count = if eqb count 0 then none else some (numbering first falls size count)
 
--- a step: whether it is negative, and its size
+-- the size of a step, 1 to the largest
 abbrev pub sized : Bool → List ℕ → Option (Bool × ℕ)
 sized falls t = if numberIn 1 maxFileNumber t then some (falls, valueOfNumber t) else none
 
+-- a step: whether a `-` stands before its size; `+` is not taken, and 0 is no size
 abbrev pub stepSaid : List ℕ → Option (Bool × ℕ)
 stepSaid [] = none
 stepSaid (b ∷ t) = if eqb b MINUS then sized true t else sized false (b ∷ t)
@@ -107,7 +108,7 @@ abbrev pub axesNumber : Option ℕ → Option (Option ℕ)
 axesNumber none = none
 axesNumber (some n) = some (some n)
 
--- the words after those of the form: none, or such a number
+-- the words after those of the form: no word, or one that is such a number; whether it is 1 to the dimension is told at the header's end (`filesFine`)
 abbrev pub axesSaid : List (List ℕ) → Option (Option ℕ)
 axesSaid [] = some none
 axesSaid (w ∷ []) = axesNumber (number w)
@@ -141,24 +142,24 @@ dataFileSaid t =
 
 -- ---- what it means for the number of files
 
--- how many files there are, where so many names follow
 abbrev pub countNumbered : Numbering → ℕ
 countNumbered (numbering first falls size count) = count
 
+-- how many files there are, where so many names follow; a header without a data file is attached and counts as one file
 abbrev pub filesSaid : Option DataFile → ℕ → ℕ
 filesSaid none names = 1
 filesSaid (some (oneFile t)) names = 1
 filesSaid (some (numberedFiles p k axes)) names = countNumbered k
 filesSaid (some (listedFiles axes)) names = names
 
--- how many axes one file covers: none for one file, which is held to no rule; else the number, if it is said
+-- how many axes one file covers: none for a single name and for an attached header, which are held to no rule; else the number, if it is said
 abbrev pub coverSaid : Option DataFile → Option (Option ℕ)
 coverSaid none = none
 coverSaid (some (oneFile t)) = none
 coverSaid (some (numberedFiles p k axes)) = some axes
 coverSaid (some (listedFiles axes)) = some axes
 
--- the number of the last file of a pattern, counted from 0, and 0 for the other forms
+-- the place of a pattern's last file, counted from 0; 0 where the form is no pattern, also for LIST, where it says nothing
 abbrev pub lastNumbered : Option DataFile → ℕ
 lastNumbered none = 0
 lastNumbered (some (oneFile t)) = 0

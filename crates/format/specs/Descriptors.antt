@@ -1,18 +1,19 @@
 -- Descriptors and what they mean (document 01, "Lines and headers", point 5; "Understood fields", "Needed", "Types";
--- "Data and samples", extent; document 02, W1, byte skips, and W2, orientation).
-use Prim.Native.Nat.{ℕ, _+_, _-_, _*_, min}
+-- "Data and samples", extent; document 02, W1, byte skips, W2, orientation, and W5, data files).
+use Prim.Native.Nat.{ℕ, _+_, _-_, _*_, _%_, min}
 use Prim.Native.String.{String}
 use mathlib.Core.Bool.{Bool, true, false, not, _&&_, _||_}
 use mathlib.Core.List.{List, [], _∷_, map}
 use mathlib.Core.Option.{Option, none, some}
 use lib.Dec.{eqb, ltb}
-use lib.ListN.{length, getD}
-use Rattle.format.specs.Bytes.{if_then_else_, bytes, same, beginsWith, isIn, isEmpty, rowOf, isSome, orDefault, PERCENT}
+use lib.ListN.{length, drop, getD}
+use Rattle.format.specs.Bytes.{if_then_else_, bytes, between, same, rowOf, isSome, orDefault}
 use Rattle.format.specs.Words.{trimFront, trimEnd, numberIn, valueOfNumber, words, numbersIn}
 use Rattle.format.specs.Limits.{maxAxes, maxSize, maxSkip, pastExtent}
-use Rattle.format.specs.Fields.{Given, descriptorOf, isGiven, isUnderstood, dimension, type, encoding, endian, sizes, lineSkip, byteSkip, dataFile, space, spaceDimension, spaceOrigin, spaceDirections, measurementFrame}
+use Rattle.format.specs.Fields.{Given, descriptorOf, isGiven, fileNames, fieldSince, manyFilesSince, isUnderstood, dimension, type, encoding, endian, sizes, lineSkip, byteSkip, dataFile, space, spaceDimension, spaceOrigin, spaceDirections, measurementFrame}
 use Rattle.format.specs.Spaces.{spaceCount, maxSpace, spaceSize, spaceNamed}
 use Rattle.format.specs.Vectors.{vectorsSaid, directionsSaid}
+use Rattle.format.specs.DataFiles.{isList, isManyForm, DataFile, dataFileSaid, filesSaid, coverSaid, lastNumbered}
 
 -- ---- the text of a descriptor
 
@@ -156,7 +157,7 @@ abbrev pub noSpace : ℕ
 noSpace = spaceCount
 
 -- the number that a field's descriptor says: of a type, an encoding, an endian or a space the one of its name, of dimension, line skip and space dimension
--- their value, of a byte skip the number of bytes; 0 for a field that says none
+-- their value, of a byte skip the number of bytes, of a data file the number of the last one where a pattern names them; 0 for a field that says none
 abbrev pub numberSaid : ℕ → List ℕ → ℕ
 numberSaid f t =
     if eqb f type then orDefault 0 (typeNamed t)
@@ -166,6 +167,7 @@ numberSaid f t =
     else if eqb f byteSkip then bytesForward (byteSkipSaid t)
     else if eqb f space then orDefault noSpace (spaceNamed t)
     else if eqb f spaceDimension then valueOfNumber t
+    else if eqb f dataFile then lastNumbered (dataFileSaid t)
     else 0
 
 -- the number of a field that is not given
@@ -213,24 +215,37 @@ sizesOf gs = meaning [] sizesSaid (descriptorOf sizes gs)
 abbrev pub isDetached : List Given → Bool
 isDetached gs = isGiven dataFile gs
 
+-- ---- data files (document 02, W5; source 000, section 3)
+
+-- what the data file field says, if it is given
+abbrev pub dataFileOf : List Given → Option DataFile
+dataFileOf gs = meaning none dataFileSaid (descriptorOf dataFile gs)
+
+-- the lines after these are names, whatever their text is: a data file of the form LIST is given
+unfoldable pub namesFollow : List Given → Bool
+namesFollow gs = meaning false isList (descriptorOf dataFile gs)
+
+-- no name follows LIST
+unfoldable pub listEmpty : List Given → Bool
+listEmpty gs = namesFollow gs && eqb (length (fileNames gs)) 0
+
+-- how many files hold the data: an attached header counts as one file
+unfoldable pub fileCountOf : List Given → ℕ
+fileCountOf gs = filesSaid (dataFileOf gs) (length (fileNames gs))
+
+-- how many axes one file covers: none where that is not asked; else the number, if it is said
+abbrev pub coverOf : List Given → Option (Option ℕ)
+coverOf gs = coverSaid (dataFileOf gs)
+
+-- the version from which a field may have the descriptor t: LIST and patterns, also bad ones, come later than the field
+unfoldable pub since : ℕ → List ℕ → ℕ
+since f t = if eqb f dataFile && isManyForm t then manyFilesSince else fieldSince f
+
 -- ---- the descriptor that a field may have (refusal 11)
 
 -- as many sizes as the dimension
 abbrev pub sizesFine : ℕ → List (List ℕ) → Bool
 sizesFine n ws = eqb (length ws) n && numbersIn 1 maxSize ws
-
--- a data file descriptor of the form LIST, after which names stand on lines of their own
-abbrev pub isList : List ℕ → Bool
-isList t = same t (bytes "LIST") || beginsWith (bytes "LIST ") t
-
--- a name is not empty, not `LIST`, does not start with `LIST `, and has no `%`
-abbrev pub isName : List ℕ → Bool
-isName t = not (isEmpty t) && (not (isList t) && not (isIn PERCENT t))
-
--- Whether the lines after these fields are names, whatever their text is. In a header that is accepted it is never so,
--- since `isName` refuses the form (law `header-no-names`, proofs/Header.antt).
-unfoldable pub namesFollow : List Given → Bool
-namesFollow gs = meaning false isList (descriptorOf dataFile gs)
 
 -- the field may have the descriptor t in a header of dimension n, in a space of dimension m; a carried field may have any
 unfoldable pub mayDescribe : ℕ → ℕ → ℕ → List ℕ → Bool
@@ -242,7 +257,7 @@ mayDescribe n m f t =
     else if eqb f sizes then sizesFine n (words t)
     else if eqb f lineSkip then numberIn 0 maxSkip t
     else if eqb f byteSkip then isMinusOne t || numberIn 0 maxSkip t
-    else if eqb f dataFile then isName t
+    else if eqb f dataFile then isSome (dataFileSaid t)
     else if eqb f space then isSome (spaceNamed t)
     else if eqb f spaceDimension then numberIn 1 maxSpace t
     else if eqb f spaceOrigin then isSome (vectorsSaid 1 m t)
@@ -275,6 +290,28 @@ extent ns t = product ns * sampleBytes t
 
 abbrev pub extentOf : List Given → ℕ
 extentOf gs = extent (sizesOf gs) (typeOf gs)
+
+-- ---- how many files there may be, and what each covers (11 with line 0)
+
+-- k divides n
+abbrev pub divides : ℕ → ℕ → Bool
+divides k n = eqb (n % k) 0
+
+-- Each of k files covers the c fastest of n axes. Where these are fewer than all, there is a file for every place on the others; where they are all, the files are slabs along the slowest.
+-- And k divides the number of samples, which follows from either rule (law `files-divide`).
+abbrev pub coverFine : ℕ → List ℕ → ℕ → ℕ → Bool
+coverFine n ns k c =
+    between 1 n c
+    && ((if ltb c n then eqb k (product (drop c ns)) else divides k (getD ns (n - 1) 0))
+    && divides k (product ns))
+
+-- a number of axes that is left open is one less than the dimension; a single name and an attached header are held to nothing
+abbrev pub filesFit : ℕ → List ℕ → ℕ → Option (Option ℕ) → Bool
+filesFit n ns k none = true
+filesFit n ns k (some axes) = coverFine n ns k (orDefault (n - 1) axes)
+
+unfoldable pub filesFine : List Given → Bool
+filesFine gs = filesFit (dimensionOf gs) (sizesOf gs) (fileCountOf gs) (coverOf gs)
 
 -- a number, or the least that is no extent for all that are above it
 abbrev pub capped : ℕ → ℕ

@@ -4,7 +4,7 @@
 use Prim.Native.Nat.{ℕ}
 use Prim.Native.String.{String}
 use mathlib.Core.Bool.{Bool, true, false, not, _&&_, _||_}
-use mathlib.Core.List.{List, [], _∷_, map}
+use mathlib.Core.List.{List, [], _∷_, _++_, map}
 use mathlib.Core.Option.{Option, none, some}
 use lib.Dec.{eqb}
 use lib.ListN.{length, getD}
@@ -162,18 +162,32 @@ measurementFrame = 21
 abbrev pub pairsSince : ℕ
 pairsSince = 2
 
--- ---- the fields given so far, the last one first: the field and its descriptor
+-- data files by a pattern or under LIST are there from version 4 (document 02, W5)
+abbrev pub manyFilesSince : ℕ
+manyFilesSince = 4
+
+-- ---- what the lines so far gave, the last one first
 
 pub data Given : Type 0 where
+  -- a field and its descriptor
   given : ℕ → List ℕ → Given
+  -- a file's name under LIST (document 02, W5)
+  named : List ℕ → Given
 
 -- the descriptor of a field, if it is given
 unfoldable pub descriptorOf : ℕ → List Given → Option (List ℕ)
 descriptorOf f [] = none
 descriptorOf f (given g d ∷ gs) = if eqb f g then some d else descriptorOf f gs
+descriptorOf f (named t ∷ gs) = descriptorOf f gs
 
 abbrev pub isGiven : ℕ → List Given → Bool
 isGiven f gs = isSome (descriptorOf f gs)
+
+-- the names under LIST, in their order
+unfoldable pub fileNames : List Given → List (List ℕ)
+fileNames [] = []
+fileNames (given f d ∷ gs) = fileNames gs
+fileNames (named t ∷ gs) = fileNames gs ++ (t ∷ [])
 
 -- ---- repeated fields
 

@@ -27,7 +27,7 @@ abbrev pub numberAt : Numbering → ℕ → ℕ
 numberAt (numbering first false size count) n = first + n * size
 numberAt (numbering first true size count) n = first - n * size
 
--- the name of the n-th file, counted from 0, where these names follow: that of an attached header, which has no data file, is empty
+-- the name of the n-th file, counted from 0, where these names follow, for an n below the number of files: that of an attached header, which has no data file, is empty
 unfoldable pub nameSaid : Option DataFile → List (List ℕ) → ℕ → List ℕ
 nameSaid none names n = []
 nameSaid (some (oneFile t)) names n = t
@@ -45,4 +45,4 @@ shareFile samples files s = s / share samples files
 
 -- the raw byte of that file's share where the sample starts, with samples of w bytes; skips do not count
 abbrev pub shareByte : ℕ → ℕ → ℕ → ℕ → ℕ
-shareByte samples files w s = s % share samples files * w
+shareByte samples files w s = (s % share samples files) * w

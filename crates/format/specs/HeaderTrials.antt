@@ -107,6 +107,8 @@ readingPosed =
       frame = true;
       space = 0;
       spacedimension = 3;
+      files = 1;
+      fieldlines = 10;
     }
 
 abbrev pub originPosed : List Decimal

@@ -1,5 +1,5 @@
 -- The laws that make the definitions believable, as one statement: `Laws`. proofs/ proves them; the crates above use most of them.
-use Prim.Native.Nat.{ℕ, _+_, _^_, _/_, _≤_, _<_}
+use Prim.Native.Nat.{ℕ, _+_, _-_, _^_, _/_, _%_, _≤_, _<_}
 use mathlib.Core.Path.{_≡_}
 use mathlib.Core.Bool.{Bool, true, false, not}
 use mathlib.Core.List.{List, [], _∷_, _++_}
@@ -11,12 +11,12 @@ use Rattle.format.specs.declared.Decimal.{Decimal}
 use Rattle.format.specs.declared.Refusal.{Refusal}
 use Rattle.format.specs.Bytes.{if_then_else_, every, over, LF, CR}
 use Rattle.format.specs.Limits.{maxFile}
-use Rattle.format.specs.Lines.{Line, line, lf, crlf, eof, lines, unlines, starts}
+use Rattle.format.specs.Lines.{Line, line, lf, crlf, eof, text, lines, unlines, starts}
 use Rattle.format.specs.Pairs.{pairMark, mark, escape, unescape}
-use Rattle.format.specs.Fields.{pairsSince, Given, isUnderstood}
+use Rattle.format.specs.Fields.{pairsSince, Given, fileNames, isUnderstood}
 use Rattle.format.specs.Words.{number}
-use Rattle.format.specs.Descriptors.{NumberKind, signed, fromEnd, byteSkipOf, isDetached, extentOf, namesFollow, mayDescribe}
-use Rattle.format.specs.Header.{Entry, linesOf, right, judge, pair, refused, accepted, header, headerLength}
+use Rattle.format.specs.Descriptors.{NumberKind, signed, fromEnd, byteSkipOf, isDetached, sizesOf, product, extentOf, namesFollow, fileCountOf, mayDescribe}
+use Rattle.format.specs.Header.{Entry, linesOf, right, judge, pair, refused, accepted, header, headerLength, fieldLines}
 use Rattle.format.specs.Rules.{closed, KeepsRules}
 use Rattle.format.specs.Data.{part, placeOf}
 use Rattle.format.specs.Samples.{inType, sampleValue, valueBytes, hexRun, hexBytes, tokenValue, samplesOf}
@@ -94,8 +94,14 @@ pub record Laws : Type 0 where
   pub keeps-none-refused : (file : List ℕ) → ((es : List Entry) (gs : List Given) (r : List Line) → KeepsRules file es gs r → ⊥) → (x : Refusal) × (header file ≡ refused x)
   -- a field that is not understood may have any descriptor
   pub carried-any : (n m f : ℕ) (t : List ℕ) → isUnderstood f ≡ false → mayDescribe n m f t ≡ true
-  -- no names follow the fields of an accepted header: a data file of the form LIST is refused
-  pub no-names : (file : List ℕ) {es : List Entry} {gs : List Given} {r : List Line} → header file ≡ accepted es gs r → namesFollow gs ≡ false
+  -- the n-th name of an accepted header, counted from 0, is the text of the line that n others part from LIST's, and this line is one of the header's
+  pub names-are-lines : (file : List ℕ) {es : List Entry} {gs : List Given} {r : List Line} → header file ≡ accepted es gs r → (n : ℕ) → n < length (fileNames gs) → (getD (fileNames gs) n [] ≡ text (getD (lines file) (fieldLines es + n) (line [] eof))) × (fieldLines es + n < length es)
+  -- an accepted header has at least one file
+  pub files-some : (file : List ℕ) {es : List Entry} {gs : List Given} {r : List Line} → header file ≡ accepted es gs r → 1 ≤ fileCountOf gs
+  -- all its files have equal shares of the samples
+  pub shares-fit : (file : List ℕ) {es : List Entry} {gs : List Given} {r : List Line} → header file ≡ accepted es gs r → product (sizesOf gs) % fileCountOf gs ≡ 0
+  -- where k files cover c of n axes as they should, k divides the number of samples: that the shares are equal is no rule of its own
+  pub files-divide : (n : ℕ) (ns : List ℕ) (k c : ℕ) → length ns ≡ n → 1 ≤ c → c ≤ n → (c < n → k ≡ product (drop c ns)) → (c ≡ n → getD ns (n - 1) 0 % k ≡ 0) → product ns % k ≡ 0
   -- what follows the closing line decides nothing about the header; the data area is what follows it
   pub header-ends : (s : List ℕ) {es : List Entry} {gs : List Given} {r : List Line} → header s ≡ accepted es gs r → closed es ≡ true → (d : List ℕ) → length (unlines (linesOf es) ++ d) ≤ maxFile → header (unlines (linesOf es) ++ d) ≡ accepted es gs (lines d)
   pub data-area : (s : List ℕ) {es : List Entry} {gs : List Given} {r : List Line} → header s ≡ accepted es gs r → drop (headerLength es) s ≡ unlines r

@@ -22,6 +22,7 @@ pub mod FileNames
 pub mod HeaderWriter
 pub mod Settings
 pub mod Calls
+pub mod Files
 pub mod Orientation
 pub mod Listing
 pub mod Found
@@ -37,6 +38,8 @@ pub mod EntryTrials
 pub mod SkipTrials
 pub mod OrientationTrials
 pub mod HeaderTrials
+pub mod FilesTrials
+pub mod ListTrials
 pub mod FurtherTrials
 pub mod Rules
 pub mod Laws

@@ -44,7 +44,7 @@ hasMark unmarked = false
 hasMark (fieldMark n d) = true
 hasMark (pairMark k v) = true
 
--- ---- what a line is by its text alone: that counts where no names follow the fields before it (`Descriptors.namesFollow`), which is so in every accepted header
+-- ---- what a line is by its text alone: that counts where no names follow the fields before it (`Descriptors.namesFollow`)
 
 -- empty; a comment, whose first byte is `#`; or any other line, by its mark
 pub data LineKind : Type 0 where

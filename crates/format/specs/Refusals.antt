@@ -1,6 +1,6 @@
 -- The numbers of refusal by name, in the order of document 01 ("Numbers of refusal") and of document 02.
 -- A refusal is one record: its number, and the line at which the reader met it (numbers 2 to 12); 0 where no line is meant,
--- as for the 11 of a byte skip of -1 with text or hex (document 02, W1).
+-- as for the 11 of a byte skip of -1 with text or hex (document 02, W1), and of the number of files or of the axes that one covers (W5).
 use Prim.Native.Nat.{ℕ}
 use Rattle.format.specs.declared.Refusal.{Refusal}
 use Rattle.format.specs.declared.RefusalNumbers.{RefusalNumbers}
@@ -45,7 +45,7 @@ repeatedField = 9
 abbrev pub outOfOrder : ℕ
 outOfOrder = 10
 
--- a descriptor that its field cannot have; with line 0, a byte skip of -1 with text or hex; from the writer, a number that is not in its list or range
+-- a descriptor that its field cannot have, and LIST without names; with line 0, a byte skip of -1 with text or hex, or a number of files or of axes that does not fit the sizes; from the writer, a number that is not in its list or range
 abbrev pub badDescriptor : ℕ
 badDescriptor = 11
 
@@ -93,7 +93,7 @@ dataEndsEarly = 21
 abbrev pub lentTooShort : ℕ
 lentTooShort = 22
 
--- coordinates that are not one for each axis, each below its size
+-- coordinates that are not one for each axis, each below its size; a sample number that is not below the product of the sizes
 abbrev pub badCoordinates : ℕ
 badCoordinates = 23
 
@@ -116,6 +116,14 @@ wrongCount = 27
 -- the file is no sweep of the roof rig, its key `utc offset` is wrong, or the largest step is outside its range (document 02, W4)
 abbrev pub noSweep : ℕ
 noSweep = 28
+
+-- a file number past the last (document 02, W5)
+abbrev pub noSuchFile : ℕ
+noSuchFile = 29
+
+-- the data is in more than one file (document 02, W5)
+abbrev pub severalFiles : ℕ
+severalFiles = 33
 
 -- each by its name
 abbrev pub refusalNumbers : RefusalNumbers
@@ -149,6 +157,8 @@ refusalNumbers =
       wrongtable = wrongTable;
       wrongcount = wrongCount;
       nosweep = noSweep;
+      nosuchfile = noSuchFile;
+      severalfiles = severalFiles;
     }
 
 -- ---- the record

@@ -9,7 +9,7 @@ use Rattle.format.specs.declared.Refusal.{Refusal}
 use Rattle.format.specs.declared.Reading.{Reading}
 use Rattle.format.specs.declared.FindAnswer.{FindAnswer}
 use Rattle.format.specs.declared.ValueAnswer.{ValueAnswer}
-use Rattle.format.specs.Limits.{maxLines, maxAxes, maxSpace}
+use Rattle.format.specs.Limits.{maxHeader, maxLines, maxAxes, maxSpace, maxWidth}
 use Rattle.format.specs.Refusals.{lentTooShort}
 use Rattle.format.specs.Descriptors.{product}
 use Rattle.format.specs.Header.{Outcome, refused, accepted}
@@ -56,6 +56,12 @@ pub record Copied (p : FindAnswer) (a : ValueAnswer) : Type 0 where
   pub found : a .found ≡ p .found
   pub short : a .length ≤ p .length
   pub enough : Enough (a .refusal)
+
+-- ---- the name of a data file
+
+-- bytes for the name of any file of a header (document 02, W5): it stands in the header, or a pattern does, whose number takes at most as many bytes as the largest width
+abbrev pub nameRoom : ℕ
+nameRoom = maxHeader + maxWidth
 
 -- ---- samples
 

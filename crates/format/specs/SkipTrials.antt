@@ -68,6 +68,8 @@ readingAtEnd =
       frame = false;
       space = 12;
       spacedimension = 0;
+      files = 1;
+      fieldlines = 8;
     }
 
 -- a detached header with these lines too; the data, a double, is the end of the second file

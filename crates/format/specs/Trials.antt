@@ -94,6 +94,8 @@ readingS =
       frame = false;
       space = 12;
       spacedimension = 0;
+      files = 1;
+      fieldlines = 10;
     }
 
 -- ---- calls

@@ -36,7 +36,7 @@ pub const MAX_SPACE: u64 = 8;
 
 pub const SPACE: usize = MAX_SPACE as usize;
 
-// The largest number of a file name pattern, and the largest width that it pads a number to.
+// The largest first and last number and step of a file name pattern, and the largest width that it pads a number to.
 pub const MAX_FILE_NUMBER: u64 = 4294967295;
 
 pub const MAX_WIDTH: u64 = 99;
@@ -58,6 +58,9 @@ pub const MAX_LISTING: usize = MAX_READING + LISTED_HEADER + 4 * MAX_LINES as us
 
 // The first version that has key pairs.
 pub const PAIRS_SINCE: u32 = 2;
+
+// The first version that has data files by a pattern or under LIST.
+pub const MANY_FILES_SINCE: u32 = 4;
 
 // The numbers of refusal.
 pub const FILE_TOO_LONG: u32 = 1;
@@ -115,6 +118,10 @@ pub const WRONG_TABLE: u32 = 26;
 pub const WRONG_COUNT: u32 = 27;
 
 pub const NO_SWEEP: u32 = 28;
+
+pub const NO_SUCH_FILE: u32 = 29;
+
+pub const SEVERAL_FILES: u32 = 33;
 
 // Encodings and endians are numbered from 0 as document 01 lists them: those that the code asks for. The types are in `format_values::types`.
 pub const RAW: u32 = 0;
@@ -188,9 +195,11 @@ pub struct RefusalNumbers {
     pub wrongtable: u32,
     pub wrongcount: u32,
     pub nosweep: u32,
+    pub nosuchfile: u32,
+    pub severalfiles: u32,
 }
 
-// A refusal: its number, and the line at which the reader met it (numbers 2 to 12); 0 where no line is meant, as for the 11 of a byte skip of -1 with text or hex. Number 0: nothing is refused.
+// A refusal: its number, and the line at which the reader met it (numbers 2 to 12); 0 where no line is meant, as for the 11 of a byte skip of -1 with text or hex, and of data files that do not fit the sizes. Number 0: nothing is refused.
 #[repr(C)]
 pub struct Refusal {
     pub number: u32,
@@ -263,6 +272,10 @@ pub struct Reading {
     pub space: u32,
     // the dimension of the space, by its name or as given, 1 to `MAX_SPACE`; 0 where there is none
     pub spacedimension: u32,
+    // how many data files there are: 1 for an attached header and for one name
+    pub files: u32,
+    // the lines before the names under LIST, that of LIST included; all lines where there is no LIST
+    pub fieldlines: u32,
 }
 
 // The answer of the reading calls.
@@ -298,7 +311,7 @@ pub struct DataAnswer {
     pub length: u64,
 }
 
-// The answer of the sample calls: how many samples there are.
+// The answer of the sample calls and of the call for the number of files: how many there are.
 #[repr(C)]
 pub struct CountAnswer {
     pub refusal: Refusal,
@@ -312,11 +325,19 @@ pub struct NumberAnswer {
     pub number: u64,
 }
 
-// The answer of the writer: how many bytes it wrote.
+// The answer of the writers and of the call for a file's name: how many bytes they wrote.
 #[repr(C)]
 pub struct WriteAnswer {
     pub refusal: Refusal,
     pub length: u64,
+}
+
+// The answer of the call for a sample's place: the number of its file, and the raw byte of that file's share where it starts.
+#[repr(C)]
+pub struct ShareAnswer {
+    pub refusal: Refusal,
+    pub file: u64,
+    pub byte: u64,
 }
 
 // The answer of a setting: the new length and the new number of lines, or those lent where it is refused.
@@ -382,6 +403,8 @@ pub fn refusal_numbers() -> RefusalNumbers
         wrongtable: WRONG_TABLE,
         wrongcount: WRONG_COUNT,
         nosweep: NO_SWEEP,
+        nosuchfile: NO_SUCH_FILE,
+        severalfiles: SEVERAL_FILES,
     }
 }
 

@@ -4,14 +4,14 @@
 //   0    the room: how many entries the lent table has, at most 16,384
 //   4    the refusal by `read`, zeros where it accepts
 //   16   the same for `read_header`
-//   28   the 33 numbers of the reading, in the order of `format::Reading`, 1 for true, all 0 where `read_header` refuses
-//   160  a run, the file
+//   28   the 35 numbers of the reading, in the order of `format::Reading`, 1 for true, all 0 where `read_header` refuses
+//   168  a run, the file
 //   a run, the entries that `read` writes, as numbers
 //   for each of the 30 fields, in the order of the definitions (`fieldTable`): a text, the descriptor
 //   the number of keys; for each a run, the key; a text, the value as it stands in the file; a run, the value
 //
 // The table is filled with 7 before the call; its entries past those written must still be 7. `read` must answer the same reading as
-// `read_header`, or 33 zeros where it refuses. Of a file that is refused each look-up must answer the refusal.
+// `read_header`, or 35 zeros where it refuses. Of a file that is refused each look-up must answer the refusal.
 //
 // The parts of a case: 1 the answer of `read`, 2 the table, 3 the answer of `read_header`, 4 fields, 5 keys and values.
 // Where the input does not fit the frame the run ends with the line `malformed`.
@@ -75,6 +75,11 @@ fn orientation_right(r: Reading, s: &[u8]) -> bool {
     given & (r.space == number_at(s, 124)) & (r.spacedimension == number_at(s, 128))
 }
 
+// Whether the numbers of the data files are those of the frame.
+fn files_right(r: Reading, s: &[u8]) -> bool {
+    (r.files == number_at(s, 132)) & (r.fieldlines == number_at(s, 136))
+}
+
 // Whether the sizes are those of the frame.
 fn sizes_right(sizes: &[u64; 16], s: &[u8]) -> bool {
     let mut right = true;
@@ -86,7 +91,7 @@ fn sizes_right(sizes: &[u64; 16], s: &[u8]) -> bool {
     right
 }
 
-// Whether the answer has the refusal and the 33 numbers at the front of `s`, zeros where they are missing.
+// Whether the answer has the refusal and the 35 numbers at the front of `s`, zeros where they are missing.
 fn answer_right(a: ReadAnswer, refusal: Refusal, s: &[u8]) -> bool {
     let told = a.refusal;
     let r = a.reading;
@@ -96,12 +101,13 @@ fn answer_right(a: ReadAnswer, refusal: Refusal, s: &[u8]) -> bool {
         & sizes_right(&sizes, s)
         & lengths_right(r, s)
         & orientation_right(r, s)
+        & files_right(r, s)
 }
 
-// How many of the 132 bytes of a reading an answer with this refusal has.
+// How many of the 140 bytes of a reading an answer with this refusal has.
 fn reading_bytes(refusal: Refusal) -> usize {
     if refusal.number == 0 {
-        return 132;
+        return 140;
     }
     0
 }
@@ -246,7 +252,7 @@ fn header_fault(file: &[u8], s: &[u8], from: usize) -> u32 {
     if keys.at != s.len() {
         return MALFORMED;
     }
-    if !answer_right(answer, refusal, part(s, 28, 132)) {
+    if !answer_right(answer, refusal, part(s, 28, 140)) {
         return 3;
     }
     if !fields.right {
@@ -272,8 +278,8 @@ fn case_fault(s: &[u8]) -> u32 {
     if 16384 < room {
         return MALFORMED;
     }
-    let file = run_at(s, 160);
-    let at = run_end(s, 160);
+    let file = run_at(s, 168);
+    let at = run_end(s, 168);
     let refusal = refusal_at(s, 4);
     let mut table = [7u32; 16384];
     let answer = read_to(file, &mut table, room);

@@ -63,6 +63,13 @@ fn same_sizes(a: &[u64; 16], b: &[u64; 16]) -> bool {
     right
 }
 
+// Whether two readings have as many data files, and as many lines from the first name under LIST on.
+fn same_files(a: Reading, b: Reading) -> bool {
+    let before = std::num::wrapping_sub_u32(a.lines, a.fieldlines);
+    let after = std::num::wrapping_sub_u32(b.lines, b.fieldlines);
+    (a.files == b.files) & (before == after)
+}
+
 // Whether two readings differ in nothing but the header's bytes and lines.
 fn same_reading(a: Reading, b: Reading) -> bool {
     let kinds = (a.version == b.version) & (a.form == b.form) & (a.dimension == b.dimension);
@@ -74,7 +81,8 @@ fn same_reading(a: Reading, b: Reading) -> bool {
     let spaces = (a.space == b.space) & (a.spacedimension == b.spacedimension);
     let x = a.sizes;
     let y = b.sizes;
-    kinds & samples & skips & vectors & spaces & (a.extent == b.extent) & same_sizes(&x, &y)
+    let rest = same_files(a, b) & (a.extent == b.extent) & same_sizes(&x, &y);
+    kinds & samples & skips & vectors & spaces & rest
 }
 
 // What follows the first `n` bytes of a file.

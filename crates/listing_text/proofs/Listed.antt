@@ -17,19 +17,21 @@ use Rattle.format.specs.declared.WriteAnswer.{WriteAnswer}
 use Rattle.format.specs.Bytes.{if_then_else_, bytes, same, isSome, orElse}
 use Rattle.format.specs.Limits.{maxLines, maxListed}
 use Rattle.format.specs.Refusals.{lentTooShort, refusal, fine}
-use Rattle.format.specs.Lines.{Line, line, lf, crlf, eof, text}
+use Rattle.format.specs.Lines.{Line, line, lf, crlf, eof, text, lines, unlines}
 use Rattle.format.specs.Pairs.{mark, escape}
 use Rattle.format.specs.Fields.{Given}
-use Rattle.format.specs.Descriptors.{isDetached, encodings, encodingOf, endianOf, typeOf, extentOf, sizesOf}
-use Rattle.format.specs.Header.{pairOf, Entry, entry, lineOf, linesOf, magicVersion, versionOfLine, Outcome, refused, accepted, header, versionOf, valueFor, valueIn, valueOf, headerLength}
+use Rattle.format.specs.Descriptors.{isDetached, namesFollow, encodings, encodingOf, endianOf, typeOf, extentOf, sizesOf}
+use Rattle.format.specs.Header.{Item, pairOf, Entry, entry, lineOf, linesOf, magicVersion, versionOfLine, Outcome, refused, accepted, header, versionOf, valueFor, valueIn, valueOf, headerLength, beforeNames, fieldLines}
 use Rattle.format.specs.Data.{Place, nowhere, part, placeOf}
 use Rattle.format.specs.Settings.{hasKey}
 use Rattle.format.specs.Calls.{formOf, readAnswer, readHeaderCall, readingOf, dataAnswer}
 use Rattle.format.specs.Writer.{decimal, spaced, nameAt}
 use Rattle.format.specs.Listing.{shown, shownRefusal, shownPair, shownKeys, shownReading, shownForm, shownPlace, shownHeader, listing, listingCall}
 use Rattle.format.proofs.Bytes.{same-refl, same-true}
+use Rattle.format.proofs.Lines.{length-unlines-append}
 use Rattle.format.proofs.Pairs.{escape-injective, escapedPair}
-use Rattle.format.proofs.Header.{header-sound}
+use Rattle.format.proofs.Header.{Fine, header-sound}
+use Rattle.format.proofs.Named.{fine-under, no-value-under, fromNames, before-lines, before-few, before-first, header-before}
 use Rattle.format.proofs.Numbered.{NumberedOutcome, header-numbered}
 use Rattle.format.proofs.Places.{NumberedPlace, place-numbered}
 use Rattle.read_header.specs.Accepted.{Items}
@@ -82,6 +84,30 @@ unfolding shownLines shownKeys
 lines-shown [] h = refl
 lines-shown (entry l i ∷ es) h = rw (item-pair (h .0), pair-shown (pairOf i) es (h .1), lines-shown es (h .1))
 
+-- ---- no key stands under LIST
+
+-- of lines and those of them before the names: the keys that they show, and the value of each key
+abbrev SameKeys : List Entry → List Entry → Type 0
+SameKeys es fs = (shownKeys es ≡ shownKeys fs) × ((k : List ℕ) → valueOf k es ≡ valueOf k fs)
+
+keys-under : (version : ℕ) (gs : List Given) (es : List Entry) (gs′ : List Given) (r : List Line) → Fine version gs es gs′ r → namesFollow gs ≡ true → SameKeys es []
+unfolding shownKeys valueOf
+keys-under version gs es gs′ r f n =
+    (fine-under version gs′ r (λ at es. shownKeys es ≡ []) (λ at. refl) (λ at l e. refl) (λ at l es e p. p) 0 gs es f n, λ k. no-value-under version gs′ r k gs es f n)
+
+-- one line more
+keys-more : (l : Line) (i : Item) (es fs : List Entry) → SameKeys es fs → SameKeys (entry l i ∷ es) (entry l i ∷ fs)
+unfolding shownKeys valueOf
+keys-more l i es fs h = (rw (h .0) (ap (λ s. s ++ shownKeys fs) (pair (pairOf i))), λ k. rw (h .1 k))
+  where
+    pair : (o : Option (List ℕ × List ℕ)) → shownPair o es ≡ shownPair o fs
+    pair none = refl
+    pair (some p) = rw (h .1 (p .0))
+
+keys-before : (file : List ℕ) {es : List Entry} {gs : List Given} {ls : List Line} → header file ≡ accepted es gs ls → shownKeys es ≡ shownKeys (beforeNames es)
+keys-before file e =
+    header-before (λ at es fs. SameKeys es fs) (λ at. (refl, λ k. refl)) (λ version at. keys-under version) (λ at l i es fs h p. keys-more l i es fs p) file e .0
+
 -- ---- line 1
 
 abbrev Unmarked : List ℕ → Option ℕ → Type 0
@@ -122,28 +148,37 @@ regroup : (a b c d e f g h k : List ℕ)
 regroup a b c d e f g h k = simp append-assoc
 
 module _ (file : List ℕ) {es : List Entry} {gs : List Given} {ls : List Line} (e : header file ≡ accepted es gs ls) where
-  header-lines : linesFrom file 0 (length es) ≡ linesOf es
-  header-lines = ap (take (length es)) (header-sound file e .split) ∙ take-at (linesOf es) ls (length es) (length-map es lineOf)
+  -- the lines before the names, and those after them
+  header-split : lines file ≡ linesOf (beforeNames es) ++ (linesOf (fromNames es) ++ ls)
+  header-split = header-sound file e .split ∙ ap (λ (x : List Line). x ++ ls) (before-lines es) ∙ append-assoc (linesOf (beforeNames es)) (linesOf (fromNames es)) ls
 
-  header-within : Within file 0 (length es)
+  header-lines : linesFrom file 0 (fieldLines es) ≡ linesOf (beforeNames es)
+  header-lines =
+      ap (take (fieldLines es)) header-split
+      ∙ take-at (linesOf (beforeNames es)) (linesOf (fromNames es) ++ ls) (fieldLines es) (length-map (beforeNames es) lineOf)
+
+  header-within : Within file 0 (fieldLines es)
   header-within =
       let x = header-sound file e in
+      let n = ap (λ (y : List Line). length (unlines y)) (before-lines es) in
       record {
         inside = omega arith;
-        there = omega (arith, ap length (x .split), length-append (linesOf es) ls, length-map es lineOf);
-        short = rw header-lines (omega (arith, x .short));
+        there = omega (arith, ap length header-split, length-append (linesOf (beforeNames es)) (linesOf (fromNames es) ++ ls), length-map (beforeNames es) lineOf);
+        short = rw header-lines (omega (arith, x .short, n, length-unlines-append (linesOf (beforeNames es)) (linesOf (fromNames es))));
       }
 
-  header-shown : shownLines (linesFrom file 0 (length es)) ≡ shownKeys es
+  header-shown : shownLines (linesFrom file 0 (fieldLines es)) ≡ shownKeys es
   unfolding shownLines shownKeys
   header-shown =
       let x = header-sound file e in
-      let n = ap (λ (o : Option (List ℕ × List ℕ)). shownTexts o (linesOf (x .rest))) (first-unmarked (x .first) (x .magical)) in
+      let rest = beforeNames (x .rest) in
+      let n = ap (λ (o : Option (List ℕ × List ℕ)). shownTexts o (linesOf rest)) (first-unmarked (x .first) (x .magical)) in
       ap shownLines header-lines
-      ∙ ap (λ (y : List Entry). shownLines (linesOf y)) (x .entries)
-      ∙ ap (λ (s : List ℕ). s ++ shownLines (linesOf (x .rest))) n
-      ∙ lines-shown (x .rest) (header-items x)
-      ∙ sym (ap shownKeys (x .entries))
+      ∙ ap (λ (y : List Entry). shownLines (linesOf y)) (before-first x)
+      ∙ ap (λ (s : List ℕ). s ++ shownLines (linesOf rest)) n
+      ∙ lines-shown rest (header-items x)
+      ∙ sym (ap shownKeys (before-first x))
+      ∙ sym (keys-before file e)
 
 form-is : (gs : List Given) → formText (formOf gs) ≡ shownForm gs
 form-is gs = go (isDetached gs)
@@ -153,13 +188,13 @@ form-is gs = go (isDetached gs)
     go false = refl
 
 module _ {file : List ℕ} {x : Reading} {es : List Entry} {gs : List Given} (w : IsReading file x es gs) where
-  pub reading-within : Within file 0 (x .lines)
+  pub reading-within : Within file 0 (x .fieldlines)
   unfolding readingOf
   reading-within = rw (w .is) (header-within file (w .header-is))
 
-  pub reading-few : x .lines ≤ maxLines
+  pub reading-few : x .fieldlines ≤ maxLines
   unfolding readingOf
-  reading-few = rw (w .is) (header-sound file (w .header-is) .few)
+  reading-few = rw (w .is) (omega (arith, before-few es, header-sound file (w .header-is) .few))
 
   pub reading-axes : x .dimension ≤ length (x .sizes)
   unfolding readingOf

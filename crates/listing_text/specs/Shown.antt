@@ -51,8 +51,8 @@ pub record Within (file : List ℕ) (at count : ℕ) : Type 0 where
   pub there : count ≤ length (lines (drop at file))
   pub short : at + length (unlines (linesFrom file at count)) ≤ maxHeader
 
--- ---- all lines of a reading; the data starts at `start`
+-- ---- all lines of a reading; the data starts at `start`, and the keys are those of the lines before the names under LIST
 
 unfoldable pub readingText : List ℕ → Reading → ℕ → List ℕ
 readingText file x start =
-    topText x ++ (middleText x ++ (endText start (x .extent) ++ shownLines (linesFrom file 0 (x .lines))))
+    topText x ++ (middleText x ++ (endText start (x .extent) ++ shownLines (linesFrom file 0 (x .fieldlines))))

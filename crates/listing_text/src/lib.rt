@@ -24,15 +24,15 @@ fn put_refusal(out: &mut [u8], refusal: Refusal) -> usize
     listing_print::put::put_number(out, e, b" line ", refusal.line as u64)
 }
 
-// The lines of a reading; the data starts at `start`.
+// The lines of a reading; the data starts at `start`. No key stands under LIST, whatever a name looks like.
 fn put_reading(file: &[u8], out: &mut [u8], reading: Reading, start: u64) -> usize
-    requires { ⌜ Within (now file) 0 (reading .lines) × (reading .lines ≤ maxLines) × (length (now file) ≤ maxListed) × (reading .dimension ≤ length (reading .sizes)) ⌝ }
+    requires { ⌜ Within (now file) 0 (reading .fieldlines) × (reading .fieldlines ≤ maxLines) × (length (now file) ≤ maxListed) × (reading .dimension ≤ length (reading .sizes)) ⌝ }
     ensures { λ r. ⌜ Printed maxListing (now (out .entry)) 0 (readingText (now (file .entry)) reading start) (now (out .exit)) r ⌝ }
 {
     let a = listing_print::head::put_top(out, reading);
     let b = listing_print::head::put_middle(out, a, reading);
     let e = listing_print::head::put_end(out, b, start, reading.extent);
-    keys::put_keys(file, out, e, reading.lines)
+    keys::put_keys(file, out, e, reading.fieldlines)
 }
 
 // The whole listing, as far as it fits, and its length.

@@ -84,7 +84,7 @@ unfolding numberFrom
 number-append [] es m = refl
 number-append (b ∷ ds) es m = number-append ds es (m * 10 + (b - 48))
 
-all-digits : (ds : List ℕ) (m : ℕ) → every isDigit ds ≡ true → digitsFrom m ds ≡ some (numberFrom m ds)
+pub all-digits : (ds : List ℕ) (m : ℕ) → every isDigit ds ≡ true → digitsFrom m ds ≡ some (numberFrom m ds)
 unfolding numberFrom digitsFrom every
 all-digits [] m h = refl
 all-digits (b ∷ ds) m h =

@@ -9,7 +9,7 @@ ghost use Rattle.format.specs.Decimals.{pastNumber, maxPower, inf, minusInf, ma
 ghost use Rattle.read_decimals.specs.Components.{componentAnswer, powerOf, valuedNumber};
 use format::Decimal;
 
-mod parts;
+pub mod parts;
 
 // Whether a text is a component, and its value.
 pub struct Component {

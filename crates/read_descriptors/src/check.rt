@@ -10,20 +10,23 @@ ghost use Prim.Native.Nat.{ℕ, _≤_};
 ghost use Rattle.format.specs.Bytes.{isSome, orDefault};
 ghost use lib.ListN.{length};
 ghost use Rattle.format.specs.Limits.{maxSize, maxSkip, maxHeader};
-ghost use Rattle.format.specs.Fields.{sizes};
+ghost use Rattle.format.specs.Fields.{sizes, dataFile};
 ghost use Rattle.format.specs.Spaces.{maxSpace};
 ghost use Rattle.format.specs.Vectors.{vectorsSaid, directionsSaid};
 ghost use Rattle.format.specs.Words.{numberIn, valueOfNumber};
-ghost use Rattle.format.specs.Descriptors.{isName, mayDescribe, numberSaid, isMinusOne, byteSkipSaid, bytesForward, isFromEnd};
+ghost use Rattle.format.specs.Descriptors.{mayDescribe, numberSaid, isMinusOne, byteSkipSaid, bytesForward, isFromEnd};
 ghost use Rattle.read_text.specs.Rows.{rowAnswer};
 ghost use Rattle.read_descriptors.specs.declared.check.Checked.{Checked};
-ghost use Rattle.read_descriptors.specs.Checked.{found, checked, asked, NoneOf};
+ghost use Rattle.read_descriptors.specs.Checked.{found, answered, checked, asked, NoneOf};
 
-// Whether the descriptor is one that the field may have; the number that it says, 0 where it says none or is wrong; whether it says that the data is found from the end.
+// Whether the descriptor is one that the field may have; the number that it says, 0 where it says none or is wrong; whether it says that the data is found from the end;
+// whether it is LIST, after which names stand on lines of their own; and how many axes one data file covers, as `read_files::said` tells it.
 pub struct Checked {
     pub fine: bool,
     pub number: u32,
     pub fromend: bool,
+    pub list: bool,
+    pub cover: u32,
 }
 
 // A descriptor that is fine or not, and says no number.
@@ -34,6 +37,8 @@ fn says_none(fine: bool) -> Checked
         fine: fine,
         number: 0,
         fromend: false,
+        list: false,
+        cover: 0,
     }
 }
 
@@ -46,6 +51,8 @@ fn check_number(t: &[u8], least: u64, most: u64) -> Checked
         fine: false,
         number: 0,
         fromend: false,
+        list: false,
+        cover: 0,
     };
     let x = read_text::numbers::read_number(t);
     match x {
@@ -60,6 +67,8 @@ fn check_number(t: &[u8], least: u64, most: u64) -> Checked
                 fine: true,
                 number: n as u32,
                 fromend: false,
+                list: false,
+                cover: 0,
             }
         }
         Number::Wrong => wrong,
@@ -75,6 +84,8 @@ fn check_byte_skip(t: &[u8]) -> Checked
             fine: true,
             number: 0,
             fromend: true,
+            list: false,
+            cover: 0,
         };
     }
     check_number(t, 0, format::MAX_SKIP)
@@ -89,11 +100,15 @@ fn check_row(row: Row) -> Checked
             fine: true,
             number: n,
             fromend: false,
+            list: false,
+            cover: 0,
         },
         Row::Unknown => Checked {
             fine: false,
             number: 0,
             fromend: false,
+            list: false,
+            cover: 0,
         },
     }
 }
@@ -108,6 +123,8 @@ fn check_sizes(t: &[u8], dimension: u32, kept: &mut [u64; format::AXES]) -> Chec
             fine: false,
             number: 0,
             fromend: false,
+            list: false,
+            cover: 0,
         };
     }
     let said = x.sizes;
@@ -116,23 +133,23 @@ fn check_sizes(t: &[u8], dimension: u32, kept: &mut [u64; format::AXES]) -> Chec
         fine: true,
         number: 0,
         fromend: false,
+        list: false,
+        cover: 0,
     }
 }
 
-// Whether the text is a name of one data file.
-fn is_name(t: &[u8]) -> bool
-    ensures { λ r. ⌜ r ≡ isName (now (t .entry)) ⌝ }
+// What a data file descriptor says: a name, a pattern with its numbers, or LIST.
+fn check_files(t: &[u8]) -> Checked
+    ensures { λ r. ⌜ ((n m : ℕ) → r ≡ answered n m dataFile (now (t .entry))) ⌝ }
 {
-    if t.len() == 0 {
-        return false;
+    let x = read_files::said(t);
+    Checked {
+        fine: x.fine,
+        number: x.last,
+        fromend: false,
+        list: x.list,
+        cover: x.cover,
     }
-    if read_text::bytes::is_same(t, b"LIST") {
-        return false;
-    }
-    if read_text::bytes::begins_with(b"LIST ", t) {
-        return false;
-    }
-    read_text::bytes::find_byte(t, b'%') == t.len()
 }
 
 // So many vectors in a space of this dimension. No space has more dimensions, and no header is longer: both are told here once for all that follows.
@@ -195,7 +212,7 @@ pub fn check(
         field::SIZES => check_sizes(t, dimension, kept),
         field::LINE_SKIP => check_number(t, 0, format::MAX_SKIP),
         field::BYTE_SKIP => check_byte_skip(t),
-        field::DATA_FILE => says_none(is_name(t)),
+        field::DATA_FILE => check_files(t),
         _ => check_orientation(f, t, dimension, space),
     }
 }

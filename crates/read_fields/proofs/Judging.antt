@@ -9,16 +9,18 @@ use mathlib.Core.Option.{Option, none, some}
 use lib.Dec.{ltb, eqb}
 use lib.ListN.{length, take, drop, getD, length-drop}
 use lib.Seq.{take-length, getD-take}
-use borrow.Author.Tests.{lt-ltb, le-ltb, ltb-true, eqb-true, eqb-false, ne-eqb}
+use borrow.Author.Tests.{lt-ltb, le-ltb, ltb-true, eqb-true, eqb-false, eq-eqb, ne-eqb}
 use Rattle.format.specs.Bytes.{if_then_else_, every, isSome}
 use Rattle.format.specs.Limits.{maxAxes, maxHeader}
 use Rattle.format.specs.Spaces.{maxSpace}
 use Rattle.format.specs.Refusals.{badByte, noMark, notInVersion, repeatedField, outOfOrder, badBackslash}
 use Rattle.format.specs.Pairs.{plain, unmarked, pairMark, LineKind, otherLine, kindOf, unescape}
-use Rattle.format.specs.Fields.{FieldRow, fieldTable, noField, fieldAt, spaceBefore, pairsSince, fieldSince, fieldCount, Given, isGiven, dimension, space, spaceDimension, spaceOrigin, spaceDirections, measurementFrame, otherField, isRepeated, needsDimension, needsSpace, inOrder}
-use Rattle.format.specs.Descriptors.{descriptor, mayDescribe, dimensionOf, spaceSizeOf}
+use Rattle.format.specs.Fields.{FieldRow, fieldTable, noField, fieldAt, spaceBefore, pairsSince, manyFilesSince, fieldSince, fieldCount, dataFile, Given, isGiven, dimension, space, spaceDimension, spaceOrigin, spaceDirections, measurementFrame, otherField, isRepeated, needsDimension, needsSpace, inOrder}
+use Rattle.format.specs.Descriptors.{descriptor, since, mayDescribe, dimensionOf, spaceSizeOf, namesFollow}
+use Rattle.format.specs.DataFiles.{isManyForm}
 use Rattle.format.specs.Header.{Judged, wrong, right, unescaped, onPair, onField, onKind, judge}
 use Rattle.format.proofs.Descriptors.{descriptor-le}
+use Rattle.format.proofs.Judged.{judge-by-text}
 use Rattle.read_fields.specs.declared.state.Step.{Step}
 use Rattle.read_fields.specs.States.{flags, spaceFor, described, stepOf, stepped, wrongOf}
 use Rattle.read_fields.proofs.States.{flags-at}
@@ -170,26 +172,62 @@ module _ (version : ℕ) (gs : List Given) (t ns : List ℕ) where
   pub unmarked-line : stepped (wrong (if every plain t then noMark else badByte)) ns ≡ stepped (onKind version gs t (otherLine unmarked)) ns
   unmarked-line = plain-step noMark (wrong noMark) refl
 
+-- ---- whether this version has a field with its descriptor
+
+module _ (version f : ℕ) (t : List ℕ) where
+  -- the field comes later
+  pub too-new : version < fieldSince f → true ≡ ltb version (since f t)
+  unfolding since fieldAt
+  too-new h = go (eqb f dataFile) refl (isManyForm t)
+    where
+      go : (x : Bool) → eqb f dataFile ≡ x → (y : Bool) → true ≡ ltb version (if x && y then manyFilesSince else fieldSince f)
+      go false e y = sym (lt-ltb version (fieldSince f) h)
+      go true e false = sym (lt-ltb version (fieldSince f) h)
+      go true e true = let k = rw (eqb-true f dataFile e) at h in sym (lt-ltb version manyFilesSince (omega arith))
+
+  module _ (h : fieldSince f ≤ version) where
+    -- it is no data file
+    pub other-version : (f ≡ dataFile → ⊥) → false ≡ ltb version (since f t)
+    unfolding since
+    other-version n = rw (ne-eqb f dataFile n) (sym (le-ltb version (fieldSince f) h))
+
+    -- it is one, and its form counts
+    pub form-version : f ≡ dataFile → version < manyFilesSince → isManyForm t ≡ ltb version (since f t)
+    unfolding since
+    form-version e l = rw (eq-eqb f dataFile e) (go (isManyForm t))
+      where
+        go : (y : Bool) → y ≡ ltb version (if y then manyFilesSince else fieldSince f)
+        go true = sym (lt-ltb version manyFilesSince l)
+        go false = sym (le-ltb version (fieldSince f) h)
+
+    pub any-version : manyFilesSince ≤ version → false ≡ ltb version (since f t)
+    unfolding since
+    any-version l = go (eqb f dataFile && isManyForm t)
+      where
+        go : (y : Bool) → false ≡ ltb version (if y then manyFilesSince else fieldSince f)
+        go true = sym (le-ltb version manyFilesSince l)
+        go false = sym (le-ltb version (fieldSince f) h)
+
 -- ---- a field along its tests
 
 module _ (version : ℕ) (gs : List Given) (f : ℕ) (rest : List ℕ) where
-  pub field-old : version < fieldSince f → onField version gs (some f) rest ≡ wrong notInVersion
+  pub field-old : ltb version (since f (descriptor f rest)) ≡ true → onField version gs (some f) rest ≡ wrong notInVersion
   unfolding onField
-  field-old n = rw (lt-ltb version (fieldSince f) n)
+  field-old n = rw n
 
-  module _ (n : fieldSince f ≤ version) where
+  module _ (n : ltb version (since f (descriptor f rest)) ≡ false) where
     pub field-again : isRepeated f gs ≡ true → onField version gs (some f) rest ≡ wrong repeatedField
     unfolding onField
-    field-again g = rw (le-ltb version (fieldSince f) n, g)
+    field-again g = rw (n, g)
 
     pub field-early : isRepeated f gs ≡ false → inOrder f gs ≡ false → onField version gs (some f) rest ≡ wrong outOfOrder
     unfolding onField
-    field-early g o = rw (le-ltb version (fieldSince f) n, g, o)
+    field-early g o = rw (n, g, o)
 
     pub field-here : isRepeated f gs ≡ false → inOrder f gs ≡ true
         → onField version gs (some f) rest ≡ described (dimensionOf gs) (spaceSizeOf gs) f (descriptor f rest)
     unfolding onField
-    field-here g o = rw (le-ltb version (fieldSince f) n, g, o)
+    field-here g o = rw (n, g, o)
 
 -- a field that comes here, by what `take_field` answers of its descriptor t in a header of dimension k, with m handed on for the space
 pub take-known : (version : ℕ) (gs : List Given) (f : ℕ) (rest ns : List ℕ) {k m : ℕ} {t : List ℕ} {x : Step × List ℕ}
@@ -211,6 +249,5 @@ to-end t i = rw (← length-drop i t, take-length)
 pub rest-le : (t : List ℕ) (i : ℕ) {most : ℕ} → length t ≤ most → length (take (length t - i) (drop i t)) ≤ most
 rest-le t i l = let e = length-drop i t in rw (to-end t i) (omega arith)
 
-pub line-is : (version : ℕ) (gs : List Given) (t ns : List ℕ) {k : LineKind} → kindOf t ≡ k → stepped (onKind version gs t k) ns ≡ stepped (judge version gs t) ns
-unfolding judge
-line-is version gs t ns e = rw e
+pub line-is : (version : ℕ) (gs : List Given) (t ns : List ℕ) {k : LineKind} → namesFollow gs ≡ false → kindOf t ≡ k → stepped (onKind version gs t k) ns ≡ stepped (judge version gs t) ns
+line-is version gs t ns n e = rw (judge-by-text version gs t n, e)

@@ -8,6 +8,7 @@ ghost use mathlib.Core.Bool.{not, _||_};
 ghost use mathlib.Core.List.{List};
 ghost use mathlib.Core.Option.{some};
 ghost use Prim.Native.Nat.{ℕ, _+_, _≤_, _<_};
+ghost use lib.Dec.{ltb};
 ghost use lib.ListN.{length, take, drop};
 ghost use Rattle.format.specs.Bytes.{every, if_then_else_};
 ghost use Rattle.format.specs.Limits.{maxAxes, maxHeader};
@@ -15,7 +16,7 @@ ghost use Rattle.format.specs.Spaces.{maxSpace};
 ghost use Rattle.format.specs.Refusals.{badByte};
 ghost use Rattle.format.specs.Pairs.{plain, fieldMark, otherLine};
 ghost use Rattle.format.specs.Fields.{Given, fieldCount, isGiven, dimension, isRepeated, needsDimension, inOrder};
-ghost use Rattle.format.specs.Descriptors.{spaceSizeOf};
+ghost use Rattle.format.specs.Descriptors.{since, spaceSizeOf};
 ghost use Rattle.format.specs.Header.{wrong, onPair, onField, onKind, judge};
 ghost use Rattle.read_fields.specs.declared.state.Step.{Step};
 ghost use Rattle.read_fields.specs.States.{wrongOf, flags, numbersOf, spaceFor, Known, described, stepOf, stepped};
@@ -94,6 +95,8 @@ fn without_field(number: u32) -> Step
         field: field::COUNT,
         number: 0,
         fromend: false,
+        list: false,
+        cover: 0,
     }
 }
 
@@ -117,7 +120,25 @@ fn take_field(
         field: f,
         number: x.number,
         fromend: x.fromend,
+        list: x.list,
+        cover: x.cover,
     }
+}
+
+// Whether the field, with this descriptor, is there only from a later version on: patterns and LIST come later than the field data file.
+fn is_too_new(version: u32, f: usize, t: &[u8]) -> bool
+    ensures { λ r. ⌜ r ≡ ltb version (since f (now (t .entry))) ⌝ }
+{
+    if version < format_values::fields::since(f) {
+        return true;
+    }
+    if f != field::DATA_FILE {
+        return false;
+    }
+    if version < format::MANY_FILES_SINCE {
+        return read_files::is_many_form(t);
+    }
+    false
 }
 
 // A known field: not in this version 8, repeated 9, out of order 10, bad descriptor 11.
@@ -132,7 +153,8 @@ fn on_known(
     requires { ⌜ f < fieldCount ⌝ }
     ensures { λ r. ⌜ ((gs : List Given) → Known (now (given .entry)) (now (numbers .entry)) gs → length (now (rest .entry)) ≤ maxHeader → _≡_ {A = Step × List ℕ} (r, now (sizes .exit)) (stepped (onField version gs (some f) (now (rest .entry))) (now (sizes .entry)))) ⌝ }
 {
-    if version < format_values::fields::since(f) {
+    let t = read_descriptors::place::descriptor_of(f, rest);
+    if is_too_new(version, f, t) {
         return without_field(format::NOT_IN_VERSION);
     }
     if is_repeated(f, given) {
@@ -143,13 +165,7 @@ fn on_known(
     }
     let dimension = numbers[field::DIMENSION];
     let space = space_for(f, given, numbers);
-    take_field(
-        f,
-        read_descriptors::place::descriptor_of(f, rest),
-        dimension,
-        space,
-        sizes,
-    )
+    take_field(f, t, dimension, space, sizes)
 }
 
 // The line t of a field whose mark stands at i: a byte that it may not hold 5, unknown 7, not in this version 8, repeated 9, out of order 10, bad descriptor 11.
@@ -184,7 +200,7 @@ fn plain_first(t: &[u8], number: u32) -> u32
     format::BAD_BYTE
 }
 
-// One line after line 1, by its text, after the fields given, by what is kept of them: with no mark 6. A right line of sizes changes the sizes.
+// One line after line 1, by its text, after the fields given, by what is kept of them, where no names follow them: with no mark 6. A right line of sizes changes the sizes.
 pub fn judge_line(
     version: u32,
     given: &[bool; field::COUNT],
@@ -201,6 +217,8 @@ pub fn judge_line(
             field: field::COUNT,
             number: 0,
             fromend: false,
+            list: false,
+            cover: 0,
         },
         Kind::Comment => without_field(0),
         Kind::Field(i) => on_field(version, given, numbers, t, i, sizes),

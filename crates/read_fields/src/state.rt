@@ -1,4 +1,4 @@
-// What the reader keeps of the fields given so far: flags, numbers, sizes, and whether the data is found from the end; and the answer that they make.
+// What the reader keeps of the fields given so far: flags, numbers, sizes, whether the data is found from the end, and how many axes a data file covers; and the answer that they make.
 use format::ReadAnswer;
 use format::Reading;
 use format::field;
@@ -8,25 +8,27 @@ use format_values::types;
 ghost use mathlib.Core.Path.{_≡_};
 ghost use mathlib.Core.Bool.{true, not, _||_};
 ghost use mathlib.Core.List.{List, []};
-ghost use Prim.Native.Nat.{_≤_};
+ghost use Prim.Native.Nat.{_+_, _≤_};
 ghost use lib.Dec.{eqb};
 ghost use lib.ListN.{take};
-ghost use Rattle.format.specs.Limits.{maxAxes};
+ghost use Rattle.format.specs.Limits.{maxAxes, maxExtent};
 ghost use Rattle.format.specs.Refusals.{atLine};
 ghost use Rattle.format.specs.Fields.{Given};
-ghost use Rattle.format.specs.Descriptors.{raw, spaceSizeOf, endianNeeded, extent, hasNeeded, capped};
+ghost use Rattle.format.specs.Descriptors.{raw, spaceSizeOf, endianNeeded, extent, hasNeeded, capped, fileCountOf};
 ghost use Rattle.format.specs.Header.{refused};
 ghost use Rattle.format.specs.Calls.{padded, readAnswer};
-ghost use Rattle.read_fields.specs.States.{flags, numbersOf, keptAt, Holds, finished};
+ghost use Rattle.read_fields.specs.States.{flags, numbersOf, keptAt, coverKept, Holds, finished};
 
 // What a line comes to: the number of its refusal or 0, whether it closes the header, and the field that it gives, `field::COUNT` where it gives none, with its number
-// and whether it says that the data is found from the end.
+// whether it says that the data is found from the end, whether it says that names follow, and how many axes a data file covers, as `read_files::said` tells it.
 pub struct Step {
     pub wrong: u32,
     pub closes: bool,
     pub field: usize,
     pub number: u32,
     pub fromend: bool,
+    pub list: bool,
+    pub cover: u32,
 }
 
 // No field is given: the flags.
@@ -68,6 +70,16 @@ pub fn keep(
     }
 }
 
+// How many axes a data file covers once a line is read: as it says, or as before where it says nothing of it.
+pub fn keep_cover(new: u32, old: u32) -> u32
+    ensures { λ r. ⌜ r ≡ coverKept new old ⌝ }
+{
+    if new == 0 {
+        return old;
+    }
+    new
+}
+
 // A refusal at a line, 0 where no line is meant.
 pub fn refuse(number: u32, line: u32) -> ReadAnswer
     ensures { λ r. ⌜ r ≡ readAnswer (refused (atLine number line)) ⌝ }
@@ -93,11 +105,13 @@ pub fn refuse(number: u32, line: u32) -> ReadAnswer
             frame: false,
             space: 0,
             spacedimension: 0,
+            files: 0,
+            fieldlines: 0,
         },
     }
 }
 
-fn wide(n: u32) -> u64
+pub(crate) fn wide(n: u32) -> u64
     ensures { λ r. ⌜ r ≡ n ⌝ }
 {
     n as u64
@@ -152,17 +166,31 @@ fn extent(dimension: u32, sampletype: u32, sizes: [u64; format::AXES]) -> u64
     )
 }
 
-// The answer at the end of a header of so many bytes and lines.
+// How many files there are where the last one has this number, counted from 0.
+fn count_files(last: u32) -> u32
+    ensures { λ r. ⌜ (last + 1 ≤ maxExtent → r ≡ last + 1) ⌝ }
+{
+    // no accepted header has more files than samples
+    if last < u32::MAX {
+        return last + 1;
+    }
+    last
+}
+
+// The answer at the end of a header of so many bytes and lines, `before` of them before the names under LIST; `last` is the number of the last data file, counted from 0.
 pub fn finish(
     version: u32,
     given: &[bool; field::COUNT],
     numbers: &[u32; field::COUNT],
     sizes: [u64; format::AXES],
     fromend: bool,
+    cover: u32,
+    last: u32,
     bytes: usize,
     count: u32,
+    before: u32,
 ) -> ReadAnswer
-    ensures { λ r. ⌜ ((gs : List Given) → Holds (now (given .entry)) (now (numbers .entry)) sizes fromend gs → r ≡ finished version gs bytes count) ⌝ }
+    ensures { λ r. ⌜ ((gs : List Given) → Holds (now (given .entry)) (now (numbers .entry)) sizes fromend cover gs → last + 1 ≡ fileCountOf gs → r ≡ finished version gs bytes count before) ⌝ }
 {
     if !has_needed(given, numbers) {
         return refuse(format::MISSING_FIELD, 0);
@@ -177,6 +205,10 @@ pub fn finish(
     if format::MAX_EXTENT < x {
         return refuse(format::EXTENT_TOO_LARGE, 0);
     }
+    if !crate::files::fit(dimension, sizes, cover, last) {
+        return refuse(format::BAD_DESCRIPTOR, 0);
+    }
+    let files = count_files(last);
     let endian = numbers[field::ENDIAN];
     let form = given[field::DATA_FILE] as u32;
     let lineskip = wide(numbers[field::LINE_SKIP]);
@@ -208,6 +240,8 @@ pub fn finish(
             frame: frame,
             space: space,
             spacedimension: spacedimension,
+            files: files,
+            fieldlines: before,
         },
     }
 }

@@ -10,34 +10,33 @@ use lib.ListN.{length}
 use denote.Enum.Declared.{tagOf}
 use types.Run.{OneOf, miss}
 use Rattle.format.specs.declared.ReadAnswer.{ReadAnswer}
-use Rattle.format.specs.Lines.{Line, text, lines}
+use Rattle.format.specs.Lines.{Line, lines}
 use Rattle.format.specs.Pairs.{kindOf, pairTexts, fieldTexts}
 use Rattle.format.specs.Fields.{Given}
-use Rattle.format.specs.Descriptors.{namesFollow}
-use Rattle.format.specs.Header.{Item, pairOf, fieldOf, Entry, entry, linesOf, Outcome, refused, accepted, afterItem, header}
+use Rattle.format.specs.Header.{Item, pairOf, givenOf, Entry, linesOf, Outcome, refused, accepted, header, beforeNames, fieldLines}
 use Rattle.format.specs.Calls.{noReading, readingOf, readAnswer, readHeaderCall}
 use Rattle.format.proofs.Lines.{length-lines-le}
-use Rattle.format.proofs.Judged.{no-names-after, no-names}
 use Rattle.format.proofs.Pairs.{escapedPair, fieldIn, line-pair, line-field}
-use Rattle.format.proofs.Header.{Fine, fine-cases, IsHeader, header-sound}
+use Rattle.format.proofs.Header.{IsHeader, header-sound}
+use Rattle.format.proofs.Named.{fine-by-text, before-first, before-few}
 use Rattle.read_text.specs.declared.lines.Kind.{Kind}
 use Rattle.read_text.specs.declared.lines.Kind.the-variants.{Empty, Comment, Field, Pair, Neither}
 use Rattle.read_text.specs.Places.{kindPlace}
 use Rattle.read_text.proofs.Places.{kind-told}
 use Rattle.read_text.proofs.lines.Kind.{the-type}
-use Rattle.read_header.specs.Accepted.{Headed, IsItem, Items}
+use Rattle.read_header.specs.Accepted.{Fielded, IsItem, Items}
 
 -- there is a byte in an accepted file, and a line in its header
-pub some-byte : (file : List ℕ) {n : ℕ} → Headed file n → 0 < length file
+pub some-byte : (file : List ℕ) {n : ℕ} → Fielded file n → 0 < length file
 some-byte file a =
     let x = header-sound file (a .is) in
     let c = x .split ∙ ap (λ es. linesOf es ++ a .after) (x .entries) in
     omega (arith, length-lines-le file, ap length c)
 
-some-line : (file : List ℕ) {es : List Entry} {gs : List Given} {ls : List Line} → header file ≡ accepted es gs ls → 0 < length es
-some-line file e = let x = header-sound file e in rw (x .entries) (omega arith)
+some-line : (file : List ℕ) {es : List Entry} {gs : List Given} {ls : List Line} → header file ≡ accepted es gs ls → 0 < fieldLines es
+some-line file e = let x = header-sound file e in omega (arith, ap length (before-first x))
 
-pub some-lines : (file : List ℕ) {n : ℕ} → Headed file n → 1 ≤ n
+pub some-lines : (file : List ℕ) {n : ℕ} → Fielded file n → 1 ≤ n
 some-lines file a = omega (arith, some-line file (a .is), a .many)
 
 module _ (file : List ℕ) (read : ReadAnswer) (e : read ≡ readHeaderCall file) where
@@ -47,33 +46,27 @@ module _ (file : List ℕ) (read : ReadAnswer) (e : read ≡ readHeaderCall file
     where
       go : (o : Outcome) → header file ≡ o → read ≡ readAnswer o → header file ≡ refused (read .refusal)
       go (refused r) p q = p ∙ ap refused (sym (ap (λ a. a .refusal) q))
-      go (accepted es gs ls) p q = absurd (omega (arith, some-line file p, ap (λ a. a .reading .lines) q))
+      go (accepted es gs ls) p q = absurd (omega (arith, some-line file p, before-few es, ap (λ a. a .reading .lines) q))
 
-  pub was-accepted : (read .reading .lines ≡ 0 → ⊥) → Headed file (read .reading .lines)
+  pub was-accepted : (read .reading .lines ≡ 0 → ⊥) → Fielded file (read .reading .fieldlines)
   unfolding readingOf noReading
   was-accepted z = go (header file) refl e
     where
-      go : (o : Outcome) → header file ≡ o → read ≡ readAnswer o → Headed file (read .reading .lines)
+      go : (o : Outcome) → header file ≡ o → read ≡ readAnswer o → Fielded file (read .reading .fieldlines)
       go (refused r) p q = absurd (z (ap (λ a. a .reading .lines) q))
-      go (accepted es gs ls) p q = record { entries = es; fields = gs; after = ls; is = p; many = ap (λ a. a .reading .lines) q }
+      go (accepted es gs ls) p q = record { entries = es; fields = gs; after = ls; is = p; many = ap (λ a. a .reading .fieldlines) q }
 
--- the lines of a fine header were judged to be its items
-items : (version : ℕ) (es : List Entry) (gs gs′ : List Given) (r : List Line) → namesFollow gs ≡ false → Fine version gs es gs′ r → Items es
-items version [] gs gs′ r n f = tt
-items version (entry l i ∷ es) gs gs′ r n f = (
-  record { version = version; before = gs; judged = f .0; no-names = n },
-  fine-cases version gs l i es gs′ r (λ es gs′. Items es) f (λ s c k. tt) (λ s c g. items version es (afterItem i gs) gs′ r (no-names-after version gs (text l) (f .0) n) g),
-)
-
-pub header-items : {file : List ℕ} {es : List Entry} {gs : List Given} {r : List Line} (x : IsHeader file es gs r) → Items (x .rest)
-header-items {file} {es} {gs} {r} x = items (x .version) (x .rest) [] gs r no-names (x .fine)
+-- the lines before the names were judged to be the header's items
+pub header-items : {file : List ℕ} {es : List Entry} {gs : List Given} {r : List Line} (x : IsHeader file es gs r) → Items (beforeNames (x .rest))
+header-items {file} {es} {gs} {r} x =
+    fine-by-text Items tt (λ version before l i es j n p. (record { version = version; before = before; judged = j; no-names = n }, p)) (x .version) [] (x .rest) gs r (x .fine)
 
 -- what such a line says by its text: its pair, its field
 module _ {t : List ℕ} {i : Item} (w : IsItem t i) where
   pub item-pair : pairTexts (kindOf t) ≡ escapedPair (pairOf i)
   item-pair = line-pair (w .version) (w .before) t (w .no-names) (w .judged)
 
-  pub item-field : fieldIn (fieldTexts (kindOf t)) ≡ fieldOf i
+  pub item-field : fieldIn (fieldTexts (kindOf t)) ≡ givenOf i
   item-field = line-field (w .version) (w .before) t (w .no-names) (w .judged)
 
 -- an answer that is not a pair, and one that is not a field

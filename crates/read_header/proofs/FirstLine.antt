@@ -12,7 +12,7 @@ use Rattle.format.specs.Bytes.{orDefault}
 use Rattle.format.specs.Limits.{maxFile}
 use Rattle.format.specs.Refusals.{fileTooLong, noMagic}
 use Rattle.format.specs.Lines.{Ending, lf, crlf, eof, Line, line, size, lines}
-use Rattle.format.specs.Header.{magic, entry, magicVersion, versionOfLine, Outcome, refused, accepted, withEntry, walk, afterMagic, header, headerLength}
+use Rattle.format.specs.Header.{magic, entry, magicVersion, versionOfLine, Outcome, refused, accepted, withEntry, walk, afterMagic, header, headerLength, beforeNames, fieldLines}
 use Rattle.format.specs.Calls.{readAnswer, readHeaderCall}
 use Rattle.format.proofs.Lines.{lines-none, length-unlines-cons}
 use Rattle.format.proofs.Header.{magic-line}
@@ -49,11 +49,13 @@ by-number l v = go (versionOfLine l) refl
 
 -- the answer with line 1 in front
 first-answer : (l : Line) (v : ℕ) (o : Outcome) → readAnswer (withEntry (entry l (magic v)) o) ≡ answerFrom v 2 (size l) o
+unfolding beforeNames
 first-answer l v (refused r) = refl
 first-answer l v (accepted es gs ls) =
     let b : headerLength (entry l (magic v) ∷ es) ≡ size l + headerLength es = rw length-unlines-cons in
     let c : suc (length es) ≡ 2 - 1 + length es = omega arith in
-    rw (reading-at (entry l (magic v) ∷ es) gs, b, c)
+    let d : suc (fieldLines es) ≡ 2 - 1 + fieldLines es = omega arith in
+    rw (reading-at (entry l (magic v) ∷ es) gs, b, c, d)
 
 module _ (file : List ℕ) where
   pub read-long : maxFile < length file → refusedAt fileTooLong 0 ≡ readHeaderCall file

@@ -4,15 +4,19 @@ use format::field;
 use read_lines::Span;
 ghost use mathlib.Core.Path.{_≡_};
 ghost use mathlib.Core.List.{List, []};
-ghost use Prim.Native.Nat.{ℕ, _≤_};
+ghost use mathlib.Core.Bool.{true};
+ghost use Prim.Native.Nat.{ℕ, _+_, _≤_};
 ghost use lib.ListN.{length, drop};
 ghost use Rattle.format.specs.declared.ReadAnswer.{ReadAnswer};
 ghost use Rattle.format.specs.Bytes.{orDefault};
-ghost use Rattle.format.specs.Limits.{maxHeader};
+ghost use Rattle.format.specs.Limits.{maxHeader, maxLines};
+ghost use Rattle.format.specs.Fields.{Given, fileNames};
+ghost use Rattle.format.specs.Descriptors.{namesFollow};
 ghost use Rattle.format.specs.Lines.{lines};
 ghost use Rattle.format.specs.Header.{magicVersion, walk};
 ghost use Rattle.format.specs.Calls.{readHeaderCall, readCall};
-ghost use Rattle.read_fields.specs.States.{answerFrom};
+ghost use Rattle.read_fields.specs.States.{Holds, answerFrom, namedFrom};
+ghost use Rattle.read_header.specs.Listed.{namesEnded};
 ghost use Rattle.format.specs.EntryPoints.{readEntry};
 ghost use Rattle.read_header.specs.Tables.{readInto};
 ghost use Rattle.format.specs.Room.{Enough, tableEntries, tableRoom};
@@ -42,6 +46,102 @@ fn magic_version(t: &[u8]) -> u32
     0
 }
 
+// The end of a header under LIST, which is line `list`, after so many names: 11 at LIST's line where there are none.
+fn end_names(
+    version: u32,
+    given: &[bool; field::COUNT],
+    numbers: &[u32; field::COUNT],
+    sizes: [u64; format::AXES],
+    fromend: bool,
+    cover: u32,
+    names: u32,
+    bytes: usize,
+    count: u32,
+    list: u32,
+) -> ReadAnswer
+    ensures { λ r. ⌜ ((gs : List Given) → Holds (now (given .entry)) (now (numbers .entry)) sizes fromend cover gs → namesFollow gs ≡ true → names ≡ length (fileNames gs) → r ≡ namesEnded list version gs bytes count) ⌝ }
+{
+    if names == 0 {
+        return read_fields::state::refuse(format::BAD_DESCRIPTOR, list);
+    }
+    read_fields::state::finish(
+        version,
+        given,
+        numbers,
+        sizes,
+        fromend,
+        cover,
+        names - 1,
+        bytes,
+        count,
+        list,
+    )
+}
+
+// The lines under LIST, which is line `list` and ends at `from`: names, whatever they look like, up to an empty line or the end of the bytes.
+fn read_names(
+    file: &[u8],
+    from: usize,
+    version: u32,
+    given: &[bool; field::COUNT],
+    numbers: &[u32; field::COUNT],
+    sizes: [u64; format::AXES],
+    fromend: bool,
+    cover: u32,
+    list: u32,
+) -> ReadAnswer
+    requires { ⌜ (from ≤ length (now file)) × (from ≤ maxHeader) × (2 ≤ list) × (list ≤ maxLines) ⌝ }
+    ensures { λ r. ⌜ ((gs : List Given) → Holds (now (given .entry)) (now (numbers .entry)) sizes fromend cover gs → namesFollow gs ≡ true → fileNames gs ≡ [] → r ≡ namedFrom list version (list + 1) from (walk version (list + 1) from gs (lines (drop from (now (file .entry)))))) ⌝ }
+{
+    let mut at = from;
+    let mut n: u32 = list + 1;
+    while at < file.len() {
+        match read_lines::line_at(file, at) {
+            Span::Past => {
+                return read_fields::state::refuse(format::HEADER_TOO_LONG, n);
+            }
+            Span::Found(text_end, next) => {
+                if format::MAX_LINES < n {
+                    return read_fields::state::refuse(format::TOO_MANY_LINES, n);
+                }
+                if at == text_end {
+                    let names = n - 1 - list;
+                    return end_names(
+                        version,
+                        given,
+                        numbers,
+                        sizes,
+                        fromend,
+                        cover,
+                        names,
+                        next,
+                        n,
+                        list,
+                    );
+                }
+                if !read_text::bytes::is_plain(&file[at..text_end]) {
+                    return read_fields::state::refuse(format::BAD_BYTE, n);
+                }
+                at = next;
+                n += 1;
+            }
+        }
+    }
+    let names = n - 1 - list;
+    end_names(
+        version,
+        given,
+        numbers,
+        sizes,
+        fromend,
+        cover,
+        names,
+        at,
+        n - 1,
+        list,
+    )
+}
+
 // The lines after line 1, which ends at `from`.
 fn read_lines(file: &[u8], from: usize, version: u32) -> ReadAnswer
     requires { ⌜ (from ≤ length (now file)) × (from ≤ maxHeader) ⌝ }
@@ -51,6 +151,7 @@ fn read_lines(file: &[u8], from: usize, version: u32) -> ReadAnswer
     let mut numbers = read_fields::state::no_numbers();
     let mut sizes = read_fields::state::no_sizes();
     let mut fromend = false;
+    let mut cover: u32 = 0;
     let mut at = from;
     let mut n: u32 = 2;
     while at < file.len() {
@@ -73,25 +174,56 @@ fn read_lines(file: &[u8], from: usize, version: u32) -> ReadAnswer
                     return read_fields::state::refuse(step.wrong, n);
                 }
                 if step.closes {
+                    let last = numbers[field::DATA_FILE];
                     return read_fields::state::finish(
                         version,
                         &given,
                         &numbers,
                         sizes,
                         fromend,
+                        cover,
+                        last,
                         next,
+                        n,
                         n,
                     );
                 }
                 read_fields::state::keep(&mut given, &mut numbers, step.field, step.number);
                 fromend = step.fromend | fromend;
+                cover = read_fields::state::keep_cover(step.cover, cover);
                 at = next;
+                if step.list {
+                    return read_names(
+                        file,
+                        at,
+                        version,
+                        &given,
+                        &numbers,
+                        sizes,
+                        fromend,
+                        cover,
+                        n,
+                    );
+                }
                 n += 1;
             }
         }
     }
     if given[field::DATA_FILE] {
-        return read_fields::state::finish(version, &given, &numbers, sizes, fromend, at, n - 1);
+        let last = numbers[field::DATA_FILE];
+        let count = n - 1;
+        return read_fields::state::finish(
+            version,
+            &given,
+            &numbers,
+            sizes,
+            fromend,
+            cover,
+            last,
+            at,
+            count,
+            count,
+        );
     }
     read_fields::state::refuse(format::NO_END, 0)
 }

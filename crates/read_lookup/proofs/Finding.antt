@@ -1,11 +1,11 @@
--- Laws of the look-ups: what a line gives a key or a field, and the entries that are left of a header.
+-- Laws of the look-ups: what a line gives a key or a field, and the entries that are left of a header, up to the names under LIST.
 -- Assumes nothing.
 use Prim.Native.Nat.{ℕ, _+_, _-_, _≤_, _<_}
 use native.Mathlib.Nat.{zero-add}
 use native.Mathlib.Omega.{arith}
 use mathlib.Core.Path.{_≡_, refl, sym, ap, _∙_, subst}
 use mathlib.Core.Bool.{Bool, true, false, false≢true}
-use mathlib.Core.List.{List, [], _∷_, _++_}
+use mathlib.Core.List.{List, [], _∷_, _++_, append-assoc}
 use mathlib.Core.Option.{Option, none, some, Option·none-ne-some}
 use lib.Dec.{eqb}
 use lib.ListN.{length, take, drop, length-append, length-drop, length-map}
@@ -17,22 +17,23 @@ use Rattle.format.specs.Limits.{maxHeader}
 use Rattle.format.specs.Refusals.{fine}
 use Rattle.format.specs.Lines.{Line, line, text, size, lines, unlines}
 use Rattle.format.specs.Pairs.{LineKind, kindOf, pairTexts, fieldTexts, escape, unescape}
-use Rattle.format.specs.Fields.{fieldNamed, Given, given}
+use Rattle.format.specs.Fields.{fieldNamed, Given, given, named}
 use Rattle.format.specs.Descriptors.{fromDescriptor, descriptor}
-use Rattle.format.specs.Header.{Item, magic, pairOf, fieldOf, Entry, entry, lineOf, linesOf, headerLength, valueFor, valueIn, valueOf}
+use Rattle.format.specs.Header.{Item, magic, pairOf, givenOf, Entry, entry, lineOf, linesOf, headerLength, beforeNames, valueFor, valueIn, valueOf}
 use Rattle.format.specs.Calls.{noPlace, foundAt, pairPlace, valuePlace, keyPlace, findKeyIn, findKeyCall, beforeDescriptor, givenPlace, descriptorPlace, fieldPlace, findFieldIn, findFieldCall}
-use Rattle.format.proofs.Lines.{length-lines-le, length-unlines-cons, lines-after}
+use Rattle.format.proofs.Lines.{length-lines-le, length-unlines-cons, length-unlines-append, lines-after}
 use Rattle.format.proofs.Marks.{mark-of-kind}
 use Rattle.format.proofs.Pairs.{unescape-of-escape, escapedPair, namedField, fieldIn}
 use Rattle.format.proofs.Descriptors.{from-le}
 use Rattle.format.proofs.Header.{header-sound, magic-line}
+use Rattle.format.proofs.Named.{fromNames, before-lines, before-first, key-place-before, field-place-before}
 use Rattle.read_text.specs.declared.lines.Kind.the-variants.{Field, Pair}
 use Rattle.read_text.specs.declared.words.Row.the-variants.{Number, Unknown}
 use Rattle.read_text.specs.Rows.{rowAnswer}
 use Rattle.read_text.specs.Meanings.{meansKey}
 use Rattle.read_text.proofs.Places.{KindAt}
 use Rattle.read_lines.specs.Spans.{LineAt, PastAt}
-use Rattle.read_header.specs.Accepted.{Headed, IsItem, Items}
+use Rattle.read_header.specs.Accepted.{Fielded, IsItem, Items}
 use Rattle.read_lines.proofs.LineCuts.{rest-of}
 use Rattle.read_header.proofs.Accepted.{header-items, item-pair, item-field}
 use Rattle.read_lookup.specs.Lookup.{Left, latestOf, keyThen, keyElse, KeyLeft, FieldLeft, isField, SecondAt}
@@ -145,7 +146,7 @@ module _ (f at : ℕ) (rest : FindAnswer) {t : List ℕ} {i : Item} (w : IsItem 
 module _ (f at : ℕ) (t : List ℕ) (i : Item) (rest : FindAnswer) where
   -- the line has the field
   pub field-told : descriptorPlace f at t i (noPlace fine) .found ≡ true → descriptorPlace f at t i (noPlace fine) ≡ descriptorPlace f at t i rest
-  field-told = go (fieldOf i)
+  field-told = go (givenOf i)
     where
       by : (x : Bool) (p : FindAnswer) → (if x then p else noPlace fine) .found ≡ true → (if x then p else noPlace fine) ≡ (if x then p else rest)
       by true p e = refl
@@ -153,11 +154,12 @@ module _ (f at : ℕ) (t : List ℕ) (i : Item) (rest : FindAnswer) where
 
       go : (o : Option Given) → givenPlace f at t o (noPlace fine) .found ≡ true → givenPlace f at t o (noPlace fine) ≡ givenPlace f at t o rest
       go none e = absurd (false≢true e)
+      go (some (named n)) e = absurd (false≢true e)
       go (some (given g d)) e = by (eqb f g) (foundAt (at + beforeDescriptor f t) (length d)) e
 
   -- the line does not have it
   pub field-next : descriptorPlace f at t i (noPlace fine) .found ≡ false → descriptorPlace f at t i rest ≡ rest
-  field-next = go (fieldOf i)
+  field-next = go (givenOf i)
     where
       by : (x : Bool) (p : FindAnswer) → p .found ≡ true → (if x then p else noPlace fine) .found ≡ false → (if x then p else rest) ≡ rest
       by true p h e = absurd (false≢true (sym e ∙ h))
@@ -165,6 +167,7 @@ module _ (f at : ℕ) (t : List ℕ) (i : Item) (rest : FindAnswer) where
 
       go : (o : Option Given) → givenPlace f at t o (noPlace fine) .found ≡ false → givenPlace f at t o rest ≡ rest
       go none e = refl
+      go (some (named n)) e = refl
       go (some (given g d)) e = by (eqb f g) (foundAt (at + beforeDescriptor f t) (length d)) refl e
 
 -- ---- the entries that are left
@@ -297,36 +300,41 @@ module _ (file : List ℕ) where
       let y : w .first ≡ l = cc in
       absurd (omega (arith, w .long, ap size y))
 
--- the lines after line 1 are those of the entries after it
-module _ (file : List ℕ) {n at : ℕ} (a : Headed file n) (s : SecondAt file at) where
-  start : (Q : List Entry → Type 0) → ((l : Line) (v : ℕ) (es : List Entry) → at ≡ size l → a .entries ≡ entry l (magic v) ∷ es → Q es)
+-- the lines after line 1, up to the names under LIST, are those of the entries after it
+module _ (file : List ℕ) {n at : ℕ} (a : Fielded file n) (s : SecondAt file at) where
+  start : (Q : List Entry → Type 0) → ((l : Line) (v : ℕ) (es : List Entry) → at ≡ size l → beforeNames (a .entries) ≡ entry l (magic v) ∷ es → Q es)
       → Left Q file at (n - 1)
   unfolding unlines
   start Q f =
       let x = header-sound file (a .is) in
       let l = x .first in
+      let before = beforeNames (x .rest) in
+      let names = linesOf (fromNames (x .rest)) in
+      let m : linesOf (x .rest) ≡ linesOf before ++ names = before-lines (x .rest) in
       let c : lines file ≡ l ∷ (linesOf (x .rest) ++ a .after) = x .split ∙ ap (λ es. linesOf es ++ a .after) (x .entries) in
       let e : at ≡ size l = s l (linesOf (x .rest) ++ a .after) c (omega (arith, magic-line l (x .magical) .0)) in
       let u : length (unlines (l ∷ [])) ≡ at = length-unlines-cons l [] ∙ omega arith in
       let b = ap headerLength (x .entries) ∙ length-unlines-cons l (linesOf (x .rest)) in
+      let d = ap (λ ls. length (unlines ls)) m ∙ length-unlines-append (linesOf before) names in
       record {
-        entries = x .rest;
-        after = a .after;
-        split = ap (λ i. lines (drop i file)) (sym u) ∙ lines-after file (l ∷ []) (linesOf (x .rest) ++ a .after) c;
+        entries = before;
+        after = names ++ a .after;
+        split =
+            ap (λ i. lines (drop i file)) (sym u) ∙ lines-after file (l ∷ []) (linesOf (x .rest) ++ a .after) c ∙ ap (λ ls. ls ++ a .after) m ∙ append-assoc (linesOf before) names (a .after);
         items = header-items x;
-        short = omega (arith, x .short, b);
-        many = omega (arith, a .many, ap length (x .entries));
-        holds = f l (x .version) (x .rest) e (x .entries);
+        short = omega (arith, x .short, b, d);
+        many = omega (arith, a .many, ap length (before-first x));
+        holds = f l (x .version) before e (before-first x);
       }
 
   pub key-start : (k : List ℕ) → KeyLeft file k at (n - 1) (noPlace fine)
   unfolding keyPlace
   key-start k =
       start (λ es. findKeyCall file k ≡ keyElse k at es (noPlace fine)) λ l v es e q.
-      ap (findKeyIn k) (a .is) ∙ ap (keyPlace k 0) q ∙ rw (zero-add, e)
+      ap (findKeyIn k) (a .is) ∙ key-place-before file (a .is) k ∙ ap (keyPlace k 0) q ∙ rw (zero-add, e)
 
   pub field-start : (f : ℕ) → FieldLeft file f at (n - 1)
   unfolding fieldPlace
   field-start f =
       start (λ es. findFieldCall file f ≡ fieldPlace f at es) λ l v es e q.
-      ap (findFieldIn f) (a .is) ∙ ap (fieldPlace f 0) q ∙ rw (zero-add, e)
+      ap (findFieldIn f) (a .is) ∙ field-place-before file (a .is) f ∙ ap (fieldPlace f 0) q ∙ rw (zero-add, e)

@@ -1,4 +1,4 @@
--- Internal to this crate. The look-up of a key and of a field: a second pass over the lines of an accepted header.
+-- Internal to this crate. The look-up of a key and of a field: a second pass over the lines of an accepted header, up to the names under LIST.
 use Prim.Native.Nat.{ℕ, _+_, _≤_}
 use mathlib.Core.Path.{_≡_}
 use mathlib.Core.Bool.{Bool, false}
@@ -37,11 +37,11 @@ keyThen k at i found = if isSome (valueIn k i) then valuePlace at i else found
 abbrev pub keyElse : List ℕ → ℕ → List Entry → FindAnswer → FindAnswer
 keyElse k at es found = if hasKey k es then keyPlace k at es else found
 
--- the entries left of a header: what they give, or else what was found before them, is the answer
+-- the entries left of a header before the names: what they give, or else what was found before them, is the answer
 abbrev pub KeyLeft : List ℕ → List ℕ → ℕ → ℕ → FindAnswer → Type 0
 KeyLeft file k at count found = Left (λ es. findKeyCall file k ≡ keyElse k at es found) file at count
 
--- the entries left of a header: what they give is the answer
+-- the entries left of a header before the names: what they give is the answer
 abbrev pub FieldLeft : List ℕ → ℕ → ℕ → ℕ → Type 0
 FieldLeft file f at count = Left (λ es. findFieldCall file f ≡ fieldPlace f at es) file at count
 

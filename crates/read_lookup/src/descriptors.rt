@@ -13,7 +13,7 @@ ghost use Rattle.format.specs.Descriptors.{fromDescriptor, descriptor};
 ghost use Rattle.format.specs.Header.{Item, header};
 ghost use Rattle.format.specs.Calls.{noPlace, foundAt, descriptorPlace, findFieldCall};
 ghost use Rattle.format.specs.Found.{FindsField};
-ghost use Rattle.read_header.specs.Accepted.{Headed, IsItem};
+ghost use Rattle.read_header.specs.Accepted.{Fielded, IsItem};
 ghost use Rattle.read_lookup.specs.Lookup.{isField, FieldLeft};
 
 // Whether a name means the field.
@@ -78,9 +78,10 @@ fn first_field(file: &[u8], field: u32, from: usize, count: u32) -> FindAnswer
     crate::places::absent()
 }
 
-// Where the descriptor of a field lies in a file whose header has so many lines, or nowhere if the field is not given.
+// Where the descriptor of a field lies in a file whose header has so many lines before the names under LIST, or nowhere if the field is not given.
+// A name under LIST is no field, whatever it looks like.
 pub fn find_field_in(file: &[u8], field: u32, lines: u32) -> FindAnswer
-    requires { ⌜ Headed (now file) lines ⌝ }
+    requires { ⌜ Fielded (now file) lines ⌝ }
     ensures { λ r. ⌜ r ≡ findFieldCall (now (file .entry)) field ⌝ }
 {
     first_field(file, field, crate::places::second_line(file), lines - 1)
@@ -94,9 +95,11 @@ pub fn find_field(file: &[u8], field: u32) -> FindAnswer
     let read = read_header::read::read_header(file);
     let refusal = read.refusal;
     let count = read.reading.lines;
+    // a field stands before the names under LIST
+    let before = read.reading.fieldlines;
     // a refused file has no lines
     if count == 0 {
         return crate::places::nowhere(refusal);
     }
-    find_field_in(file, field, count)
+    find_field_in(file, field, before)
 }

@@ -13,7 +13,7 @@ ghost use Rattle.format.specs.Refusals.{fine};
 ghost use Rattle.format.specs.Header.{Item, header};
 ghost use Rattle.format.specs.Calls.{noPlace, findKeyCall, copyValueCall};
 ghost use Rattle.format.specs.Found.{FindsKey};
-ghost use Rattle.read_header.specs.Accepted.{Headed, IsItem};
+ghost use Rattle.read_header.specs.Accepted.{Fielded, IsItem};
 ghost use Rattle.format.specs.Room.{valueRoom, Copied};
 ghost use Rattle.read_lookup.specs.Lookup.{keyThen, latestOf, KeyLeft};
 
@@ -69,9 +69,10 @@ fn last_pair(file: &[u8], key: &[u8], from: usize, count: u32) -> FindAnswer
     found
 }
 
-// Where the value's text of a key lies in a file whose header has so many lines: in the last line with the key.
+// Where the value's text of a key lies in a file whose header has so many lines before the names under LIST: in the last line with the key.
+// A name under LIST is no pair, whatever it looks like.
 pub fn find_key_in(file: &[u8], key: &[u8], lines: u32) -> FindAnswer
-    requires { ⌜ Headed (now file) lines ⌝ }
+    requires { ⌜ Fielded (now file) lines ⌝ }
     ensures { λ r. ⌜ r ≡ findKeyCall (now (file .entry)) (now (key .entry)) ⌝ }
 {
     last_pair(file, key, crate::places::second_line(file), lines - 1)
@@ -85,11 +86,13 @@ pub fn find_key(file: &[u8], key: &[u8]) -> FindAnswer
     let read = read_header::read::read_header(file);
     let refusal = read.refusal;
     let count = read.reading.lines;
+    // a key stands before the names under LIST
+    let before = read.reading.fieldlines;
     // a refused file has no lines
     if count == 0 {
         return crate::places::nowhere(refusal);
     }
-    find_key_in(file, key, count)
+    find_key_in(file, key, before)
 }
 
 // Writes the value of a key to the front of `out`, escapes resolved. Where `out` is too short nothing is written; the length that `find_key` tells is enough.

@@ -18,7 +18,7 @@ use Rattle.format.specs.Calls.{readingOf, readAnswer, readHeaderCall, findField
 use Rattle.format.specs.Found.{Finds, FindsField}
 use Rattle.format.proofs.Found.{field-found}
 use Rattle.format.proofs.Oriented.{header-described, space-few, space-some}
-use Rattle.read_header.specs.Accepted.{Headed}
+use Rattle.read_header.specs.Accepted.{Fielded}
 use Rattle.read_orientation.specs.declared.place.Field.{Field}
 use Rattle.read_orientation.specs.Told.{noField, ToldBy, Told, Bounded}
 
@@ -31,7 +31,7 @@ pub told-refused : (file : List ℕ) (f : ℕ) (x : Field) (r : Refusal) → hea
 told-refused file f x r h e = (rw h e, no-bounds file x r 0 e)
 
 -- the header is accepted, and the field is looked up in it
-module _ (file : List ℕ) (f : ℕ) (read : ReadAnswer) (e : read ≡ readHeaderCall file) {lines : ℕ} (w : Headed file lines) (place : FindAnswer) (p : place ≡ findFieldCall file f) where
+module _ (file : List ℕ) (f : ℕ) (read : ReadAnswer) (e : read ≡ readHeaderCall file) {lines : ℕ} (w : Fielded file lines) (place : FindAnswer) (p : place ≡ findFieldCall file f) where
   read-is : read ≡ readAnswer (accepted (w .entries) (w .fields) (w .after))
   read-is = e ∙ ap readAnswer (w .is)
 

@@ -47,7 +47,8 @@ pub(crate) fn field_of(file: &[u8], field: u32) -> Field
         return absent(refusal, 0);
     }
     let axes = reading.dimension;
-    let place = read_lookup::descriptors::find_field_in(file, field, lines);
+    // a field stands before the names under LIST
+    let place = read_lookup::descriptors::find_field_in(file, field, reading.fieldlines);
     if !place.found {
         return absent(refusals::FINE, axes);
     }

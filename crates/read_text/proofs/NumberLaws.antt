@@ -74,6 +74,28 @@ module _ (s : List ℕ) (i v : ℕ) where
   unfolding digitsFrom
   digits-end h = rw (drop-of-length-le s h)
 
+-- ---- a number as it is answered: the number itself, or that it is none that any field has
+
+pub number-is : (o : Option ℕ) (n : ℕ) → Value n ≡ numberAnswer o → (o ≡ some n) × (n ≤ maxSize)
+number-is none n e = let z : _≡_ {A = ℕ} 0 1 = cc in absurd (omega arith)
+number-is (some m) n e = go (leb m maxSize) refl e
+  where
+    go : (x : Bool) → leb m maxSize ≡ x → Value n ≡ (if x then Value m else Wrong) → (some m ≡ some n) × (n ≤ maxSize)
+    go true f e = let g : n ≡ m = cc in (cc, omega (arith, leb-true))
+    go false f e = let z : _≡_ {A = ℕ} 0 1 = cc in absurd (omega arith)
+
+pub number-wrong : (o : Option ℕ) → Wrong ≡ numberAnswer o → (least most : ℕ) → most ≤ maxSize → within least most o ≡ false
+number-wrong none e least most h = refl
+number-wrong (some m) e least most h = go (leb m maxSize) refl e
+  where
+    above : (x : Bool) → (x && false) ≡ false
+    above true = refl
+    above false = refl
+
+    go : (x : Bool) → leb m maxSize ≡ x → Wrong ≡ (if x then Value m else Wrong) → within least most (some m) ≡ false
+    go true f e = cc
+    go false f e = let g = leb-false m maxSize f in rw (lt-leb m most (omega arith)) (above (leb least m))
+
 -- ---- a size, which is 0 where the number is none or above the largest
 
 -- of an answer with a value it is that value, and of one without it is 0
@@ -94,7 +116,7 @@ wrong-size (some n) e = go (leb n maxSize) e
     go false e = refl
 
 -- it is 0 where the number is not from 1 to the largest, and the number itself where it is
-size-out : (o : Option ℕ) → sizeAnswer o ≡ 0 → within 1 maxSize o ≡ false
+pub size-out : (o : Option ℕ) → sizeAnswer o ≡ 0 → within 1 maxSize o ≡ false
 size-out none e = refl
 size-out (some n) e = go (leb n maxSize) refl e
   where
@@ -102,7 +124,7 @@ size-out (some n) e = go (leb n maxSize) refl e
     go true d e = rw e
     go false d e = rw (le-leb 1 n (omega (arith, leb-false)))
 
-size-in : (o : Option ℕ) → (sizeAnswer o ≡ 0 → ⊥) → (within 1 maxSize o ≡ true) × (orDefault 0 o ≡ sizeAnswer o)
+pub size-in : (o : Option ℕ) → (sizeAnswer o ≡ 0 → ⊥) → (within 1 maxSize o ≡ true) × (orDefault 0 o ≡ sizeAnswer o)
 size-in none f = absurd (f refl)
 size-in (some n) f = go (leb n maxSize) f
   where

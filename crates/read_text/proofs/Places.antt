@@ -5,13 +5,13 @@ use native.Mathlib.Nat.{zero-add, add-zero, le-of-suc-le-suc, not-suc-le-zero}
 use native.Mathlib.Numerals.{add-one, one-add}
 use native.Mathlib.Omega.{arith}
 use mathlib.Core.Path.{_≡_, refl, sym, ap, _∙_, subst}
-use mathlib.Core.Bool.{Bool, true, false, _&&_, _||_, and-assoc, and-true, false≢true}
+use mathlib.Core.Bool.{Bool, true, false, not, _&&_, _||_, and-assoc, and-true, false≢true}
 use mathlib.Core.List.{List, [], _∷_, _++_}
-use lib.Dec.{eqb}
+use lib.Dec.{eqb, eqb·zero-suc, eqb·suc-suc}
 use lib.ListN.{length, take, drop, getD, length-append, length-drop, take-append-drop, drop-of-length-le}
 use lib.Seq.{drop-cons, drop-drop, take-length, length-take-le, take-suc, take-at, drop-append-add}
-use borrow.Author.Tests.{eq-eqb, ne-eqb, eqb-true}
-use Rattle.format.specs.Bytes.{LF, CR, TAB, SPACE, COLON, EQUALS, spaceOrTab, every, same, beginsWith, if_then_else_}
+use borrow.Author.Tests.{eq-eqb, ne-eqb, eqb-true, eqb-false}
+use Rattle.format.specs.Bytes.{LF, CR, TAB, SPACE, COLON, EQUALS, spaceOrTab, every, same, beginsWith, isIn, if_then_else_}
 use Rattle.format.specs.Lines.{lf, crlf, eof, line, size, extend, lines}
 use Rattle.format.specs.Pairs.{Marked, unmarked, fieldMark, pairMark, moreBefore, firstMark, mark, LineKind, emptyLine, commentLine, otherLine, kindOf}
 use Rattle.format.specs.Words.{trimFront, trimByte, trimEnd}
@@ -90,6 +90,25 @@ module _ (b : ℕ) where
   -- the bytes before b, b, and the bytes after it
   pub before-cut : (s : List ℕ) → before b s < length s → s ≡ take (before b s) s ++ b ∷ drop (before b s + 1) s
   before-cut s h = sym (take-append-drop (before b s) s) ∙ rw (drop-next s (before b s) h, before-at s h)
+
+-- the order of two numbers that are compared does not matter
+pub eqb-comm : (a b : ℕ) → eqb a b ≡ eqb b a
+eqb-comm a b = go (eqb a b) refl
+  where
+    go : (x : Bool) → eqb a b ≡ x → x ≡ eqb b a
+    go true e = sym (eq-eqb b a (sym (eqb-true a b e)))
+    go false e = sym (ne-eqb b a (λ q. eqb-false a b e (sym q)))
+
+-- a byte is not in a text where all bytes stand before it
+pub not-in-text : (b : ℕ) (t : List ℕ) → not (isIn b t) ≡ eqb (before b t) (length t)
+unfolding isIn before
+not-in-text b [] = refl
+not-in-text b (c ∷ t) = rw (eqb-comm b c) (go (eqb c b) (not-in-text b t))
+  where
+    go : (x : Bool) → not (isIn b t) ≡ eqb (before b t) (length t)
+        → not (x || isIn b t) ≡ eqb (if x then 0 else suc (before b t)) (suc (length t))
+    go true h = sym (eqb·zero-suc (length t))
+    go false h = h ∙ sym (eqb·suc-suc (before b t) (length t))
 
 -- none of the bytes before the first LF is LF
 pub no-lf-before : (s : List ℕ) → NoLF (take (before LF s) s)

@@ -143,8 +143,9 @@ kindTrials =
 
 abbrev pub orderTrials : List Trial
 orderTrials =
-    -- all of these lack the key, and the largest step is 0: the refusals of the sample call come first, one of the reading with its line, then 19, 22, 20, 21
+    -- all of these lack the key, and the largest step is 0: the refusals of the sample call come first, one of the reading with its line, then 33, 19, 22, 20, 21
     trial Swept (swept (keyless "type: uint32" "sizes: 2" "8 9") 0) (unswept (atLine 11 4))
+    ∷ trial Swept (swept (textFile "NRRD0004" "type: float" "dimension: 2" "sizes: 4 2" ("data file: LIST" ∷ "a" ∷ "b" ∷ []) []) 0) (unswept (refusal 33))
     ∷ trial Swept (swept (keyless "type: float" "sizes: 2 1" "8 9") 0) (unswept (refusal 19))
     ∷ trial Swept (swept (keyless "type: uint32" "sizes: 2 4" "8 9") 0) (unswept (refusal 22))
     ∷ trial Swept (swept (keyless "type: uint32" "sizes: 2 1" "8 4294967296") 0) (unswept (refusal 20))

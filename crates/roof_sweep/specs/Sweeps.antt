@@ -29,7 +29,7 @@ attached = 0
 abbrev pub uint32 : ℕ
 uint32 = 5
 
--- attached, uint32, of two axes. A detached header does not get this far: its second file is empty, so the sample call refuses it
+-- attached, uint32, of two axes. A detached header does not get this far: its data is in several files, or in the second one, which is empty, and the sample call refuses either
 abbrev pub isSweep : Reading → Bool
 isSweep r = eqb (r .form) attached && (eqb (r .sampletype) uint32 && eqb (r .dimension) 2)
 

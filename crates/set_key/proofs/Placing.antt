@@ -15,7 +15,7 @@ use Rattle.format.specs.Limits.{maxHeader}
 use Rattle.format.specs.Lines.{Ending, Line, line, text, ending, endingBytes, lineBytes, size, lines, unlines, starts}
 use Rattle.format.specs.Pairs.{escape}
 use Rattle.format.specs.Fields.{Given}
-use Rattle.format.specs.Header.{Item, magic, pairOf, Entry, entry, lineOf, linesOf, right, accepted, header, headerLength, valueFor, valueIn, valueOf}
+use Rattle.format.specs.Header.{Item, magic, pairOf, Entry, entry, lineOf, linesOf, right, accepted, afterItem, header, headerLength, valueFor, valueIn, valueOf}
 use Rattle.format.specs.Settings.{pairText, hasKey, replaced, newLines}
 use Rattle.format.specs.Calls.{foundAt, valuePlace, keyPlace, findKeyIn, findKeyCall}
 use Rattle.format.specs.Found.{Finds, escaped, FindsKey}
@@ -23,16 +23,33 @@ use Rattle.format.proofs.Bytes.{same-true}
 use Rattle.format.proofs.Lines.{size-line}
 use Rattle.format.proofs.Judged.{is-pair}
 use Rattle.format.proofs.Pairs.{pair-line, length-pair}
-use Rattle.format.proofs.Header.{header-sound, magic-line}
+use Rattle.format.proofs.Header.{Fine, fine-cases, header-sound, magic-line}
 use Rattle.format.proofs.Found.{key-found}
-use Rattle.read_header.specs.Accepted.{Headed, IsItem, Items}
+use Rattle.read_header.specs.Accepted.{Fielded}
 use Rattle.read_lines.specs.Spans.{LineAt, PastAt}
-use Rattle.read_header.proofs.Accepted.{header-items}
 use Rattle.set_splice.specs.Edited.{edited}
 use Rattle.set_key.specs.declared.place.Place.{Place}
 use Rattle.read_table.specs.Shifts.{movedBy, shifted}
 use Rattle.set_key.specs.Edits.{FirstAt, Placed}
 use Rattle.read_table.proofs.Shifting.{moved-below, cons, starts-moved}
+
+-- ---- the lines of pairs
+
+-- the text of a line that is a pair is the one with which the pair is set
+abbrev PairIn : Line → Item → Type 0
+PairIn l i = (p : List ℕ × List ℕ) → pairOf i ≡ some p → text l ≡ pairText (p .0) (p .1)
+
+abbrev PairLines : List Entry → Type 0
+PairLines [] = Unit {0}
+PairLines (entry l i ∷ es) = PairIn l i × PairLines es
+
+-- so it is in a header, and a name under LIST is no pair
+fine-pairs : (version : ℕ) (gs : List Given) (es : List Entry) (gs′ : List Given) (r : List Line) → Fine version gs es gs′ r → PairLines es
+fine-pairs version gs [] gs′ r f = tt
+fine-pairs version gs (entry l i ∷ es) gs′ r f = (
+  λ p q. pair-line version gs (text l) (p .0) (p .1) (f .0 ∙ ap right (is-pair i q)) .text-is,
+  fine-cases version gs l i es gs′ r (λ es gs′. PairLines es) f (λ s c k. tt) (λ s c g. fine-pairs version (afterItem i gs) es gs′ r g),
+)
 
 -- ---- the last line of a key
 
@@ -96,7 +113,7 @@ here k at t e i es w q h g p =
           (starts-moved (linesOf es) x y (at + size (line t e)) (at + size (line r e)) (omega (arith, ap length q)) (omega (arith, ap length q))));
     }
 
-one : (k : List ℕ) (at : ℕ) (l : Line) (i : Item) (es : List Entry) → IsItem (text l) i → hasKey k es ≡ false → isSome (valueIn k i) ≡ true
+one : (k : List ℕ) (at : ℕ) (l : Line) (i : Item) (es : List Entry) → PairIn l i → hasKey k es ≡ false → isSome (valueIn k i) ≡ true
     → Spot k at (entry l i ∷ es) (keyPlace k at (entry l i ∷ es))
 one k at (line t e) i es w h g = go (pairOf i) refl g
   where
@@ -108,9 +125,9 @@ one k at (line t e) i es w h g = go (pairOf i) refl g
     go none q y = absurd (false≢true y)
     go (some p) q y =
         let s : k ≡ p .0 = same-true k (p .0) (is-same (same k (p .0)) (p .1) y) in
-        here k at t e i es (p .1) (rw s (pair-line (w .version) (w .before) t (p .0) (p .1) (w .judged ∙ ap right (is-pair i q)) .text-is)) h g (rw (q, s))
+        here k at t e i es (p .1) (rw s (w p q)) h g (rw (q, s))
 
-spot-of : (k : List ℕ) (at : ℕ) (es : List Entry) → Items es → hasKey k es ≡ true → Spot k at es (keyPlace k at es)
+spot-of : (k : List ℕ) (at : ℕ) (es : List Entry) → PairLines es → hasKey k es ≡ true → Spot k at es (keyPlace k at es)
 unfolding valueOf
 spot-of k at [] w h = absurd (false≢true h)
 spot-of k at (entry l i ∷ es) w h = go (valueOf k es) refl h (λ q. spot-of k (at + size l) es (w .1) q)
@@ -121,7 +138,7 @@ spot-of k at (entry l i ∷ es) w h = go (valueOf k es) refl h (λ q. spot-of k 
     go none e g on = one k at l i es (w .0) (ap isSome e) g
 
 -- line 1 is no pair
-spot-after : (k : List ℕ) (l : Line) (v : ℕ) (es : List Entry) → Items es → hasKey k (entry l (magic v) ∷ es) ≡ true
+spot-after : (k : List ℕ) (l : Line) (v : ℕ) (es : List Entry) → PairLines es → hasKey k (entry l (magic v) ∷ es) ≡ true
     → Spot k 0 (entry l (magic v) ∷ es) (keyPlace k 0 (entry l (magic v) ∷ es))
 unfolding valueOf
 spot-after k l v es w h =
@@ -152,7 +169,7 @@ module _ (file k : List ℕ) (p : FindAnswer) (is : p ≡ findKeyCall file k) wh
         let x = header-sound file e in
         let h : hasKey k (entry (x .first) (magic (x .version)) ∷ x .rest) ≡ true = rw (x .entries) at (sym (has e) ∙ there) in
         subst (Spot k 0 es) (sym (in-header e))
-        (rw (x .entries) (spot-after k (x .first) (x .version) (x .rest) (header-items x) h))
+        (rw (x .entries) (spot-after k (x .first) (x .version) (x .rest) (fine-pairs (x .version) [] (x .rest) gs ls (x .fine)) h))
 
     -- where the line's text starts and ends
     module _ (m : ℕ) (n : m ≡ min (length (escape k)) (maxHeader + 1)) where
@@ -172,7 +189,7 @@ module _ (file k : List ℕ) (p : FindAnswer) (is : p ≡ findKeyCall file k) wh
           let w = s .within in
           record { front = omega arith; starts = omega arith; ends = omega arith; short = omega arith }
 
-      pub found-safe : {n : ℕ} → Headed file n → (m + 2 ≤ p .start) × (p .start + p .length ≤ maxHeader)
+      pub found-safe : {n : ℕ} → Fielded file n → (m + 2 ≤ p .start) × (p .start + p .length ≤ maxHeader)
       found-safe h = let b = bounds (h .is) in (b .front, b .short)
 
       pub found-placed : (es : List Entry) (gs : List Given) (ls : List Line) → header file ≡ accepted es gs ls

@@ -15,13 +15,13 @@ use Rattle.format.specs.Limits.{maxFile, maxHeader, maxLines}
 use Rattle.format.specs.Refusals.{fileTooLong, headerTooLong, tooManyLines, notInVersion, lentTooShort, badKey, badValue, wrongTable, refusal, fine}
 use Rattle.format.specs.Lines.{Line, unlines, starts}
 use Rattle.format.specs.Fields.{Given, pairsSince}
-use Rattle.format.specs.Header.{Entry, lineOf, linesOf, accepted, header, headerLength, versionOf, tableOf}
+use Rattle.format.specs.Header.{Entry, lineOf, linesOf, accepted, header, headerLength, fieldLines, versionOf, tableOf}
 use Rattle.format.specs.Settings.{keyFine, valueFine, pairText, newLines, tableFine, SetOutcome, lent, kept, changed, refilled, store, setRead}
 use Rattle.format.specs.Calls.{readAnswer, readHeaderCall, readingOf}
 use Rattle.format.proofs.Bytes.{or-false}
 use Rattle.format.proofs.Header.{header-sound, length-table}
 use Rattle.format.proofs.Numbered.{NumberedOutcome, header-numbered}
-use Rattle.read_header.specs.Accepted.{Headed}
+use Rattle.read_header.specs.Accepted.{Fielded}
 use Rattle.read_header.proofs.Accepted.{was-refused, was-accepted}
 use Rattle.read_header.proofs.Calls.{starts-of, header-lined}
 use Rattle.read_table.specs.Tables.{Lined, startsOf}
@@ -42,6 +42,7 @@ pub record Read (file : List ℕ) (a : ReadAnswer) : Type 0 where
   pub is : header file ≡ accepted entries fields after
   pub version : a .reading .version ≡ versionOf entries
   pub lines : a .reading .lines ≡ length entries
+  pub before-names : a .reading .fieldlines ≡ fieldLines entries
   pub bytes : a .reading .length ≡ headerLength entries
 
 module _ (file : List ℕ) (a : ReadAnswer) (is : a ≡ readHeaderCall file) where
@@ -57,6 +58,7 @@ module _ (file : List ℕ) (a : ReadAnswer) (is : a ≡ readHeaderCall file) whe
         is = w .is;
         version = ap (λ x. x .reading .version) q;
         lines = ap (λ x. x .reading .lines) q;
+        before-names = w .many;
         bytes = ap (λ x. x .reading .length) q;
       }
 
@@ -68,8 +70,8 @@ module _ (file : List ℕ) (a : ReadAnswer) (is : a ≡ readHeaderCall file) whe
       let n = subst NumberedOutcome e (header-numbered file) in
       record { refuses = λ h buf used q. rw e; ready = λ h. absurd (omega (arith, n)) }
 
-pub headed : {file : List ℕ} {a : ReadAnswer} → Read file a → Headed file (a .reading .lines)
-headed r = record { entries = r .entries; fields = r .fields; after = r .after; is = r .is; many = r .lines }
+pub fielded : {file : List ℕ} {a : ReadAnswer} → Read file a → Fielded file (a .reading .fieldlines)
+fielded r = record { entries = r .entries; fields = r .fields; after = r .after; is = r .is; many = r .before-names }
 
 -- its lines are there, and their starts are its table
 module _ {file : List ℕ} {a : ReadAnswer} (r : Read file a) where

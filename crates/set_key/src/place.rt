@@ -7,7 +7,7 @@ ghost use lib.ListN.{length};
 ghost use Rattle.format.specs.Lines.{Line};
 ghost use Rattle.format.specs.Fields.{Given};
 ghost use Rattle.format.specs.Header.{Entry, accepted, header};
-ghost use Rattle.read_header.specs.Accepted.{Headed};
+ghost use Rattle.read_header.specs.Accepted.{Fielded};
 ghost use Rattle.set_key.specs.Edits.{FirstAt, Placed};
 
 // The pair's text goes between the bytes before `from` and those from `to` on. With a new line `to` is below `from`: the ending of line 1
@@ -38,9 +38,9 @@ fn after_first(file: &[u8]) -> Place
     }
 }
 
-// The place of a key's line in a file whose header has so many lines: its last one, or a new one after line 1.
+// The place of a key's line in a file whose header has so many lines before the names under LIST: its last one, or a new one after line 1.
 pub(crate) fn find_place(file: &[u8], lines: u32, key: &[u8]) -> Place
-    requires { ⌜ Headed (now file) lines ⌝ }
+    requires { ⌜ Fielded (now file) lines ⌝ }
     ensures { λ r. ⌜ ((es : List Entry) (gs : List Given) (ls : List Line) → header (now (file .entry)) ≡ accepted es gs ls → Placed (now (key .entry)) es r) ⌝ }
 {
     let found = read_lookup::keys::find_key_in(file, key, lines);

@@ -125,7 +125,8 @@ pub(crate) fn prepare(
     if number != 0 {
         return refuse(number);
     }
-    let place = crate::place::find_place(file, read.reading.lines, key);
+    // a key stands before the names under LIST
+    let place = crate::place::find_place(file, read.reading.fieldlines, key);
     let m = set_pair::pair_length(key, value);
     fit(
         place,

@@ -196,6 +196,9 @@ carried-at first table es gs ls b u (lent buf used t n) done e f s =
       origin = λ list. rw (s .reading, e);
       directions = λ list. rw (s .reading, e);
       frame = λ list. rw (s .reading, e);
+      files = s .files;
+      name = s .name;
+      sampleFile = s .sampleFile;
       samples = λ second list. ap (λ (a : CountAnswer × List ℤ). (a .0, lentSamples (a .1) list)) (s .samples second (samplesLent list));
     }
 

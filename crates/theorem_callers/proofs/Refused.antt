@@ -5,7 +5,7 @@ use Prim.Native.Nat.{ℕ, _/_}
 use mathlib.Core.Bool.{Bool, true, false, not, _&&_}
 use mathlib.Core.List.{List, flatMap}
 use mathlib.Core.Option.{Option, none, some}
-use lib.Dec.{eqb, ltb}
+use lib.Dec.{eqb, ltb, leb}
 use lib.IntN.{ℤ}
 use lib.ListN.{length}
 use borrow.Author.Tests.{ne-eqb}
@@ -18,9 +18,10 @@ use Rattle.format.specs.declared.CountAnswer.{CountAnswer}
 use Rattle.format.specs.Bytes.{if_then_else_, isEmpty}
 use Rattle.format.specs.Refusals.{lentTooShort}
 use Rattle.format.specs.Header.{Outcome, refused, accepted, header, valueOf}
-use Rattle.format.specs.Descriptors.{spaceSizeOf}
+use Rattle.format.specs.Descriptors.{spaceSizeOf, fileCountOf}
 use Rattle.format.specs.Settings.{Lent, lent, setting}
 use Rattle.format.specs.Calls.{withTable, copyValue, copyValueIn, writeAnswer, seenIn, listAfter, samplesCall, setKeyCall, left}
+use Rattle.format.specs.Files.{fileNameOf, fileNameIn}
 use Rattle.format.specs.Orientation.{originOf, directionsOf, frameOf, listed, originListed, directionDecimals, directionsListed, frameListed}
 use Rattle.format.specs.Writer.{fileBytes, writable, writeRefusal}
 use Rattle.format.specs.HeaderWriter.{Orientation, orientedBytes, spaceListed, inVersion, afterReading, writeHeader}
@@ -55,6 +56,13 @@ value-kept key out (accepted es gs ls) = go (valueOf key es)
     go : (v : Option (List ℕ)) → Kept (λ (a : ValueAnswer). a .refusal) out (copyValue out v)
     go none = λ h. refl
     go (some v) = either (λ (a : ValueAnswer). a .refusal) out (ltb (length out) (length v)) _ _ (λ h. refl) (λ h. absurd (h refl))
+
+-- a file's name: 29, 22, or the name
+name-kept : (n : ℕ) (out : List ℕ) (o : Outcome) → Kept (λ (a : WriteAnswer). a .refusal) out (fileNameIn n out o)
+name-kept n out (refused r) = λ h. refl
+name-kept n out (accepted es gs ls) =
+    either (λ (a : WriteAnswer). a .refusal) out (leb (fileCountOf gs) n) _ _ (λ h. refl)
+    (either (λ (a : WriteAnswer). a .refusal) out (ltb (length out) (length (fileNameOf gs n))) _ _ (λ h. refl) (λ h. absurd (h refl)))
 
 -- a list of decimals, or 22
 listed-kept : (ds : List Decimal) (list : List ℕ) → Kept (λ (a : CountAnswer). a .refusal) list (listed ds list)
@@ -115,6 +123,7 @@ keeps =
       origin = λ file list. origin-kept (header file) list;
       directions = λ file list. directions-kept (header file) list;
       frame = λ file list. frame-kept (header file) list;
+      name = λ file n out. name-kept n out (header file);
       written-header = entry-kept;
       write = λ version sizes t e endian samples out h.
           let ns = numbersOf wordBytes sizes in

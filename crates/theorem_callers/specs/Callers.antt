@@ -16,10 +16,11 @@ use Rattle.format.specs.Refusals.{fine}
 use Rattle.format.specs.Lines.{Line}
 use Rattle.format.specs.Fields.{Given}
 use Rattle.format.specs.Descriptors.{sampleBytes}
-use Rattle.format.specs.Header.{Entry, accepted, header, valueOf, headerLength}
+use Rattle.format.specs.Header.{Entry, accepted, header, valueOf, headerLength, fieldLines}
 use Rattle.format.specs.Writer.{dataBytes}
 use Rattle.format.specs.Settings.{Lent, lent, Setting}
 use Rattle.format.specs.Calls.{readHeaderCall, copyValue, copyValueCall, dataPlaceCall, callOn, left, setKeysBy, setKeys}
+use Rattle.format.specs.Files.{fileCountCall, fileNameCall, sampleFileCall}
 use Rattle.format.specs.Listing.{listingCall}
 use Rattle.format.specs.Boundary.{entryBytes, wordBytes, numbersOf, samplesLent, decimalsLent}
 use Rattle.format.specs.Orientation.{originCall, directionCall, frameCall, listed, directionDecimals, originEntry, directionsEntry, frameEntry}
@@ -56,6 +57,9 @@ pub record RefusedKeeps : Type 0 where
       → Refused (directionsEntry file list .0 .refusal) → directionsEntry file list .1 ≡ list
   pub frame : (file list : List ℕ)
       → Refused (frameEntry file list .0 .refusal) → frameEntry file list .1 ≡ list
+  -- craneholt_file_name: the buffer (document 02, W5)
+  pub name : (file : List ℕ) (n : ℕ) (out : List ℕ)
+      → Refused (fileNameCall file n out .0 .refusal) → fileNameCall file n out .1 ≡ out
   -- craneholt_write: the buffer
   pub write : (version : ℕ) (sizes : List ℕ) (t e endian : ℕ) (samples out : List ℕ)
       → Refused (writeEntry version sizes t e endian samples out .0 .refusal) → writeEntry version sizes t e endian samples out .1 ≡ out
@@ -157,12 +161,12 @@ pub record Carried (first table : List ℕ) (after : Lent) (done : List Setting)
   pub room : bytesCounted after ≤ length (tableIn after)
   pub long : length (tableIn after) ≡ length table
   pub past : drop (bytesCounted after) (tableIn after) ≡ drop (bytesCounted after) table
-  -- a fresh craneholt_read with a table of its own, which has room, answers the first reading but for the header's length and lines, which
-  -- are as many as the count, and leaves the very bytes of the carried table
+  -- a fresh craneholt_read with a table of its own, which has room, answers the first reading but for the header's length, its lines, which
+  -- are as many as the count, and those before the names under LIST, and leaves the very bytes of the carried table
   pub fresh : (own : List ℕ) → AllBytes own → bytesCounted after ≤ length own
       → readEntry (fileIn after) own
       ≡ (
-        record { refusal = fine; reading = resized (headerLength (settled .entries)) (countIn after) (readHeaderCall first .reading) },
+        record { refusal = fine; reading = resized (headerLength (settled .entries)) (countIn after) (fieldLines (settled .entries)) (readHeaderCall first .reading) },
         over (take (bytesCounted after) (tableIn after)) own,
       )
   -- craneholt_copy_value: the value accepted last for the key, or else the one that it had in the first reading
@@ -171,6 +175,10 @@ pub record Carried (first table : List ℕ) (after : Lent) (done : List Setting)
   pub origin : (list : List ℕ) → originEntry (fileIn after) list ≡ originEntry first list
   pub directions : (list : List ℕ) → directionsEntry (fileIn after) list ≡ directionsEntry first list
   pub frame : (list : List ℕ) → frameEntry (fileIn after) list ≡ frameEntry first list
+  -- craneholt_files, craneholt_file_name and craneholt_sample_file answer and leave what they did before, with any number and buffer (document 02, W5)
+  pub files : fileCountCall (fileIn after) ≡ fileCountCall first
+  pub name : (n : ℕ) (out : List ℕ) → fileNameCall (fileIn after) n out ≡ fileNameCall first n out
+  pub sampleFile : (s : ℕ) → sampleFileCall (fileIn after) s ≡ sampleFileCall first s
   -- craneholt_samples answers and leaves what it did before, with any second file and list
   pub samples : (second list : List ℕ) → samplesEntry (fileIn after) second list ≡ samplesEntry first second list
 

@@ -13,7 +13,7 @@ use Rattle.format.specs.Bytes.{isSome}
 use Rattle.format.specs.Limits.{maxExtent}
 use Rattle.format.specs.Lines.{Line}
 use Rattle.format.specs.Fields.{Given, descriptorOf, isRepeated, inOrder, fieldAt, dimension, type, encoding, endian, sizes, dataFile, space, spaceDimension, spaceOrigin, spaceDirections, measurementFrame}
-use Rattle.format.specs.Descriptors.{mayDescribe, namesFollow, hasNeeded, endIsRaw, endians, endianNeeded, extent}
+use Rattle.format.specs.Descriptors.{mayDescribe, namesFollow, listEmpty, filesFine, hasNeeded, endIsRaw, endians, endianNeeded, extent}
 use Rattle.format.specs.Header.{magic, entry, lineOf, linesOf, accepted, header}
 use Rattle.format.specs.Writer.{decimal, nameAt}
 use Rattle.format.specs.HeaderWriter.{spaceText, originText, directionsText, frameText, ifGiven}
@@ -37,13 +37,15 @@ module _ (put : Inputs) (w : Numbers put) (listed : Listed put) (p : Parts put) 
   -- ---- the fields are complete
 
   complete-fields : Complete (withFrame put)
-  unfolding hasNeeded endIsRaw descriptorOf
+  unfolding hasNeeded endIsRaw descriptorOf namesFollow listEmpty filesFine
   complete-fields =
       let x = means put w listed p in
       record {
+        filled = rw (look put dataFile);
         needed = rw (x .type-is, x .encoding-is, look put dimension, look put type, look put encoding, look put sizes, look put endian) (go (endianNeeded (put .t) (put .e)));
         fitting = rw (x .no-byte-skip);
         small = rw (x .sizes-are, x .type-is) small;
+        files = rw (look put dataFile);
       }
     where
       go : (y : Bool) → (isSome (mapped (nameAt endians) (ifGiven y (put .n))) || not y) ≡ true

@@ -14,11 +14,11 @@ use Rattle.format.specs.Bytes.{if_then_else_, isSome, orDefault}
 use Rattle.format.specs.Limits.{maxFile, maxExtent}
 use Rattle.format.specs.Refusals.{fine, refusal, badDescriptor, notInVersion}
 use Rattle.format.specs.Lines.{Line, lines, unlines}
-use Rattle.format.specs.Fields.{Given, isGiven, dataFile}
+use Rattle.format.specs.Fields.{Given, isGiven, fileNames, dataFile}
 use Rattle.format.specs.Spaces.{spaceCount}
 use Rattle.format.specs.Vectors.{Direction, without, along}
 use Rattle.format.specs.Descriptors.{extent, spaceOf}
-use Rattle.format.specs.Header.{Entry, entry, lineOf, linesOf, magic, Outcome, refused, accepted, header}
+use Rattle.format.specs.Header.{Entry, entry, lineOf, linesOf, magic, Outcome, refused, accepted, header, beforeNames, fieldLines}
 use Rattle.format.specs.Rules.{closed}
 use Rattle.format.specs.Calls.{readingOf}
 use Rattle.format.specs.Orientation.{noVector, vectorGiven, directionGiven}
@@ -37,6 +37,7 @@ use Rattle.theorem_headers.specs.HeadersBack.{mapped, keptAlong, ifThere
 use Rattle.theorem_headers.proofs.Lined.{If}
 use Rattle.theorem_headers.proofs.Told.{Inputs, inputs, Listed, Numbers, Told, lines-are, text, told, whole}
 use Rattle.theorem_headers.proofs.Meant.{Means, means}
+use Rattle.theorem_headers.proofs.NoNames.{all-before, none-named}
 use Rattle.theorem_headers.proofs.Taken.{fitting-of, parts-of, text-short}
 use Rattle.theorem_headers.proofs.Built.{header-built}
 
@@ -132,6 +133,14 @@ module _ (put : Inputs) (shaped : Bool) (out : List ℕ)
       go es true q h = q
       go es false q h = absurd (false≢true (sym (meaning-is .attached) ∙ h q .1))
 
+  -- no line is a name
+  every-before : beforeNames (a .es) ≡ a .es
+  unfolding beforeNames
+  every-before =
+      let k = accepted-keeps (text put) (a .reads) in
+      let none = all-before (k .others) (ap fileNames (sym (k .fields) ∙ says .fields) ∙ none-named put) in
+      rw (k .entries, none)
+
   -- with any bytes after it
   header-is : (s : List ℕ) → length (file s) ≤ maxFile → header (file s) ≡ accepted (a .es) (a .gs) (lines s)
   header-is s h =
@@ -151,7 +160,7 @@ module _ (put : Inputs) (shaped : Bool) (out : List ℕ)
         directions-are = m .directions-are;
         frame-is = m .frame-is;
         one-each = m .one-each;
-        reading = rw (is, m .attached, m .dimension-is, m .type-is, m .encoding-is, m .endian-is, m .sizes-are, m .no-line-skip, m .no-byte-skip, m .origin-given, m .directions-given, m .frame-given, m .space-size, space-read, says .version-is, ap length text-of, count);
+        reading = rw (is, m .attached, m .dimension-is, m .type-is, m .encoding-is, m .endian-is, m .sizes-are, m .no-line-skip, m .no-byte-skip, m .origin-given, m .directions-given, m .frame-given, m .space-size, space-read, m .one-file, says .version-is, ap length text-of, before, count);
         origin = rw (is, m .origin-given, m .origin-is) (origin-by (put .origin));
         direction = λ axis l. rw (is, m .dimension-is, lt-ltb axis (length (put .ns)) l, m .directions-given, m .directions-are) (direction-by axis (put .directions));
         frame = rw (is, m .frame-is);
@@ -162,6 +171,9 @@ module _ (put : Inputs) (shaped : Bool) (out : List ℕ)
 
       count : length (a .es) ≡ length (headerWith (put .version) (put .ns) (put .t) (put .e) (put .n) (orientationLines o))
       count = sym (length-map (a .es) lineOf) ∙ ap length lines-of
+
+      before : fieldLines (a .es) ≡ length (a .es)
+      before = ap length every-before
 
       origin-by : (g : Option (List Decimal))
           → (if isSome g then vectorGiven (orDefault [] (mapped (map meant) g)) else noVector fine) ≡ originBy (mapped (map meant) g)

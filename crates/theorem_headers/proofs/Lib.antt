@@ -2,6 +2,7 @@ pub mod Lined
 pub mod Texts
 pub mod Givens
 pub mod Told
+pub mod NoNames
 pub mod Meant
 pub mod Short
 pub mod Fitting

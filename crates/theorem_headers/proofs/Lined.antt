@@ -6,19 +6,20 @@ use mathlib.Core.Path.{_≡_, refl, sym, ap, _∙_, subst}
 use mathlib.Core.Bool.{Bool, true, false, not, false≢true}
 use mathlib.Core.List.{List, [], _∷_, _++_, cons≢nil}
 use mathlib.Core.Option.{Option, none, some}
-use lib.Dec.{ltb}
+use lib.Dec.{eqb, ltb}
+use borrow.Author.Tests.{eq-eqb, ne-eqb}
 use Rattle.format.specs.Bytes.{if_then_else_, bytes, every}
 use Rattle.format.specs.Refusals.{notInVersion, repeatedField, outOfOrder, badDescriptor}
 use Rattle.format.specs.Lines.{Line, line, lf, text}
 use Rattle.format.specs.Pairs.{plain}
-use Rattle.format.specs.Fields.{Given, given, fieldSince, isRepeated, inOrder, isUnderstood}
-use Rattle.format.specs.Descriptors.{descriptor, mayDescribe, dimensionOf, spaceSizeOf, namesFollow}
+use Rattle.format.specs.Fields.{Given, given, descriptorOf, fieldSince, isRepeated, inOrder, isUnderstood, dataFile}
+use Rattle.format.specs.Descriptors.{descriptor, since, mayDescribe, dimensionOf, spaceSizeOf, namesFollow}
 use Rattle.format.specs.Header.{Item, field, closing, closes, afterItem, Entry, entry, linesOf, wrong, right, onField, judge}
 use Rattle.format.specs.Writer.{fieldLine}
 use Rattle.format.specs.HeaderWriter.{lineFor}
 use Rattle.format.proofs.Bytes.{every-append}
 use Rattle.format.proofs.Lines.{Shape}
-use Rattle.format.proofs.Judged.{no-names-after}
+use Rattle.format.proofs.Judged.{keeps-judge}
 use Rattle.format.proofs.Header.{Complete, FineBy, Fine}
 use Rattle.theorem_roundtrip.proofs.Names.{Text}
 use Rattle.theorem_roundtrip.proofs.Written.{NameOf, plain-line}
@@ -36,11 +37,17 @@ pub record Rest (version : ℕ) (gs : List Given) (ls : List Line) (gs′ : List
 abbrev pub Described : List Given → ℕ → List ℕ → Type 0
 Described gs f d = mayDescribe (dimensionOf gs) (spaceSizeOf gs) f d ≡ true
 
--- the name is that of the understood field f
+-- the name is that of the understood field f, which is not data file
 pub record Understood (name : String) (f : ℕ) : Type 0 where
   pub named : NameOf name f
   pub meant : isUnderstood f ≡ true
+  pub no-file : eqb f dataFile ≡ false
   pub name-plain : every plain (bytes name) ≡ true
+
+-- after another field names follow where they did before it
+still-no-names : (f : ℕ) (d : List ℕ) (gs : List Given) → eqb f dataFile ≡ false → namesFollow gs ≡ false → namesFollow (given f d ∷ gs) ≡ false
+unfolding namesFollow descriptorOf
+still-no-names f d gs h n = rw (ne-eqb dataFile f (λ e. false≢true (sym h ∙ eq-eqb f dataFile (sym e)))) n
 
 -- the line of the field may stand after the fields gs
 pub record Allowed (version : ℕ) (gs : List Given) (f : ℕ) (d : List ℕ) : Type 0 where
@@ -52,10 +59,10 @@ pub record Allowed (version : ℕ) (gs : List Given) (f : ℕ) (d : List ℕ) : 
 module _ (version : ℕ) (gs : List Given) (name : String) (f : ℕ) (d : List ℕ) (u : Understood name f) (t : Text d) where
   -- it is allowed exactly where it is judged to be the field's
   judged : namesFollow gs ≡ false → (i : Item) → judge version gs (bytes name ++ (bytes ": " ++ d)) ≡ right i → (i ≡ field f d) × Allowed version gs f d
-  unfolding onField descriptor
+  unfolding onField descriptor since
   judged n i j =
       go (ltb version (fieldSince f)) refl (isRepeated f gs) refl (inOrder f gs) refl (mayDescribe (dimensionOf gs) (spaceSizeOf gs) f d) refl
-      (rw (u .meant, t .front, t .back) at (sym (u .named version gs d n (t .bytes-plain)) ∙ j))
+      (rw (u .no-file, u .meant, t .front, t .back) at (sym (u .named version gs d n (t .bytes-plain)) ∙ j))
     where
       no : {w : ℕ} → wrong w ≡ right i → ⊥
       no h = let q : false ≡ true = cc in false≢true q
@@ -72,8 +79,8 @@ module _ (version : ℕ) (gs : List Given) (name : String) (f : ℕ) (d : List �
       go false x false y true z true q h = (cc, record { since = x; new = y; order = z; fits = q })
 
   judged-on : namesFollow gs ≡ false → Allowed version gs f d → judge version gs (bytes name ++ (bytes ": " ++ d)) ≡ right (field f d)
-  unfolding onField descriptor
-  judged-on n a = u .named version gs d n (t .bytes-plain) ∙ rw (a .since, a .new, a .order, u .meant, t .front, t .back, a .fits)
+  unfolding onField descriptor since
+  judged-on n a = u .named version gs d n (t .bytes-plain) ∙ rw (u .no-file, a .since, a .new, a .order, u .meant, t .front, t .back, a .fits)
 
   pub field-rest : {ls : List Line} {gs′ : List Given} {r : List Line} → Rest version gs (fieldLine name d ∷ ls) gs′ r
       → Allowed version gs f d × Rest version (given f d ∷ gs) ls gs′ r
@@ -92,7 +99,7 @@ module _ (version : ℕ) (gs : List Given) (name : String) (f : ℕ) (d : List �
               entries = es;
               split = b;
               fine = subst (λ (i : Item). FineBy (closes i) gs es gs′ (Fine version (afterItem i gs) es gs′ r)) (k .0) (q .1);
-              no-names = subst (λ (i : Item). namesFollow (afterItem i gs) ≡ false) (k .0) (no-names-after version gs (text (fieldLine name d)) j (x .no-names));
+              no-names = still-no-names f d gs (u .no-file) (x .no-names);
             },
           )
 
@@ -108,7 +115,6 @@ module _ (version : ℕ) (gs : List Given) (name : String) (f : ℕ) (d : List �
 
 -- the closing line, after which there is nothing
 pub closing-rest : (version : ℕ) (gs gs′ : List Given) (r : List Line) → Rest version gs (line [] lf ∷ []) gs′ r → (gs′ ≡ gs) × (r ≡ []) × Complete gs
-unfolding judge
 closing-rest version gs gs′ r x = go (x .entries) (x .split) (x .fine)
   where
     go : (es : List Entry) → line [] lf ∷ [] ≡ linesOf es ++ r → Fine version gs es gs′ r → (gs′ ≡ gs) × (r ≡ []) × Complete gs
@@ -117,14 +123,14 @@ closing-rest version gs gs′ r x = go (x .entries) (x .split) (x .fine)
         let a : line [] lf ≡ l = cc in
         let b : [] ≡ linesOf es ++ r = cc in
         let j = ap (λ (m : Line). judge version gs (text m)) a ∙ q .0 in
+        let c = keeps-judge version gs [] closing refl in
         let k : closing ≡ i = cc in
         let s = subst (λ (i : Item). FineBy (closes i) gs es gs′ (Fine version (afterItem i gs) es gs′ r)) (sym k) (q .1) in
-        let c = s .0 in
-        (s .2, rw c at (sym b), s .1)
+        let none = s .0 in
+        (s .2, rw none at (sym b), s .1)
 
 pub rest-closing : (version : ℕ) (gs : List Given) → namesFollow gs ≡ false → Complete gs → Rest version gs (line [] lf ∷ []) gs []
-unfolding judge
-rest-closing version gs n c = record { entries = entry (line [] lf) closing ∷ []; split = refl; fine = (refl, (refl, c, refl)); no-names = n }
+rest-closing version gs n c = record { entries = entry (line [] lf) closing ∷ []; split = refl; fine = (keeps-judge version gs [] closing refl, (refl, c, refl)); no-names = n }
 
 -- ---- a line that may be missing
 

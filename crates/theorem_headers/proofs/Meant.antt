@@ -12,7 +12,7 @@ use Rattle.format.specs.Bytes.{if_then_else_, isSome, orDefault}
 use Rattle.format.specs.Fields.{Given, descriptorOf, isGiven, dimension, type, encoding, endian, sizes, lineSkip, byteSkip, dataFile, space, spaceDimension, spaceOrigin, spaceDirections, measurementFrame}
 use Rattle.format.specs.Spaces.{spaceCount, spaceNamed}
 use Rattle.format.specs.Vectors.{Direction, vectorsSaid, directionsSaid}
-use Rattle.format.specs.Descriptors.{meaning, numberSaid, forward, mayDescribe, endians, endianNeeded, noEndian, noSpace, dimensionOf, typeOf, encodingOf, endianOf, sizesOf, lineSkipOf, byteSkipOf, spaceOf, spaceSizeOf, isDetached}
+use Rattle.format.specs.Descriptors.{meaning, numberSaid, forward, mayDescribe, endians, endianNeeded, noEndian, noSpace, dimensionOf, typeOf, encodingOf, endianOf, sizesOf, lineSkipOf, byteSkipOf, spaceOf, spaceSizeOf, isDetached, fileCountOf}
 use Rattle.format.specs.Orientation.{firstVector, originOf, directionsOf, frameOf}
 use Rattle.format.specs.Writer.{decimal, nameAt}
 use Rattle.format.specs.HeaderWriter.{spaceText, originText, directionsText, frameText, ifGiven}
@@ -41,6 +41,7 @@ pub record Means (gs : List Given) (put : Inputs) : Type 0 where
   pub no-line-skip : lineSkipOf gs ≡ 0
   pub no-byte-skip : byteSkipOf gs ≡ forward 0
   pub attached : isDetached gs ≡ false
+  pub one-file : fileCountOf gs ≡ 1
   pub space-number : spaceOf gs ≡ orDefault noSpace (put .i)
   pub space-size : spaceSizeOf gs ≡ sizeBy (put .i) (put .size)
   pub origin-given : isGiven spaceOrigin gs ≡ isSome (put .origin)
@@ -149,7 +150,7 @@ module _ (put : Inputs) where
 
     -- where each that is given may have its descriptor
     pub means : Parts put → Means (withFrame put) put
-    unfolding descriptorOf originOf directionsOf frameOf
+    unfolding descriptorOf originOf directionsOf frameOf fileCountOf
     means p = record {
       dimension-is = axes-are at-end;
       type-is = rw (look type, type-named (put .t) (w .type-in) .row);
@@ -159,6 +160,7 @@ module _ (put : Inputs) where
       no-line-skip = rw (look lineSkip);
       no-byte-skip = rw (look byteSkip);
       attached = rw (look dataFile);
+      one-file = rw (look dataFile);
       space-number = space-is at-end names-back;
       space-size = size-is at-end names-back;
       origin-given = ap isSome (look spaceOrigin) ∙ mapped-some originText (put .origin);

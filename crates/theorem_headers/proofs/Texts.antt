@@ -138,14 +138,14 @@ pub record FieldNames : Type 0 where
 pub field-names : FieldNames
 unfolding every alike isAny rowFrom mark fieldAt
 field-names = record {
-  of-type = record { named = names .of-type; meant = refl; name-plain = refl };
-  of-dimension = record { named = names .of-dimension; meant = refl; name-plain = refl };
-  of-sizes = record { named = names .of-sizes; meant = refl; name-plain = refl };
-  of-encoding = record { named = names .of-encoding; meant = refl; name-plain = refl };
-  of-endian = record { named = names .of-endian; meant = refl; name-plain = refl };
-  of-space = record { named = λ version gs d n h. judge-by-text version gs _ n ∙ rw h; meant = refl; name-plain = refl };
-  of-size = record { named = λ version gs d n h. judge-by-text version gs _ n ∙ rw h; meant = refl; name-plain = refl };
-  of-origin = record { named = λ version gs d n h. judge-by-text version gs _ n ∙ rw h; meant = refl; name-plain = refl };
-  of-directions = record { named = λ version gs d n h. judge-by-text version gs _ n ∙ rw h; meant = refl; name-plain = refl };
-  of-frame = record { named = λ version gs d n h. judge-by-text version gs _ n ∙ rw h; meant = refl; name-plain = refl };
+  of-type = record { named = names .of-type; meant = refl; no-file = refl; name-plain = refl };
+  of-dimension = record { named = names .of-dimension; meant = refl; no-file = refl; name-plain = refl };
+  of-sizes = record { named = names .of-sizes; meant = refl; no-file = refl; name-plain = refl };
+  of-encoding = record { named = names .of-encoding; meant = refl; no-file = refl; name-plain = refl };
+  of-endian = record { named = names .of-endian; meant = refl; no-file = refl; name-plain = refl };
+  of-space = record { named = λ version gs d n h. judge-by-text version gs _ n ∙ rw h; meant = refl; no-file = refl; name-plain = refl };
+  of-size = record { named = λ version gs d n h. judge-by-text version gs _ n ∙ rw h; meant = refl; no-file = refl; name-plain = refl };
+  of-origin = record { named = λ version gs d n h. judge-by-text version gs _ n ∙ rw h; meant = refl; no-file = refl; name-plain = refl };
+  of-directions = record { named = λ version gs d n h. judge-by-text version gs _ n ∙ rw h; meant = refl; no-file = refl; name-plain = refl };
+  of-frame = record { named = λ version gs d n h. judge-by-text version gs _ n ∙ rw h; meant = refl; no-file = refl; name-plain = refl };
 }

@@ -105,7 +105,7 @@ maxWritten = 5_500
 
 -- ---- the answers of the reading calls for what is given
 
--- the numbers are those that went in; the endian where it has to be written, none elsewhere
+-- the numbers are those that went in; the endian where it has to be written, none elsewhere; one file, its own
 abbrev pub readBack : ℕ → List ℕ → ℕ → ℕ → ℕ → Orientation → ReadAnswer
 readBack version sizes t e endian o =
     record {
@@ -129,6 +129,8 @@ readBack version sizes t e endian o =
         frame = isSome (frameGiven o);
         space = orDefault noSpace (spaceGiven o);
         spacedimension = sizeGiven o;
+        files = 1;
+        fieldlines = length (headerWith version sizes t e endian (orientationLines o));
       };
     }
 

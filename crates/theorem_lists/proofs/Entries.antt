@@ -1,7 +1,7 @@
 -- The entries of a header once a key is set: their lines are `newLines`, and the new file's header is accepted as these entries, with the
 -- fields of the old one.
 -- Assumes nothing.
-use mathlib.Core.Path.{_≡_, refl, sym, ap, _∙_}
+use mathlib.Core.Path.{_≡_, refl, sym, ap, _∙_, subst}
 use Prim.Native.Nat.{ℕ, _≤_}
 use native.Mathlib.Omega.{arith}
 use mathlib.Core.Bool.{Bool, true, false, false≢true}
@@ -16,8 +16,9 @@ use Rattle.format.specs.Fields.{Given, pairsSince}
 use Rattle.format.specs.Descriptors.{namesFollow}
 use Rattle.format.specs.Header.{Item, magic, pair, pairOf, Entry, entry, lineOf, itemOf, linesOf, closes, afterItem, versionOfLine, accepted, header, headerLength, valueFor, valueIn, valueOf}
 use Rattle.format.specs.Settings.{keyFine, valueFine, pairText, hasKey, replaced, newLines}
+use Rattle.format.specs.Rules.{Keeps}
 use Rattle.format.proofs.Lines.{Shape, lf-line, crlf-line, eof-line, unlines-append, lines-unique, shape-of-lines, shape-after, shape-retext, ends-of}
-use Rattle.format.proofs.Judged.{is-pair, no-names-after, no-names}
+use Rattle.format.proofs.Judged.{is-pair, judge-keeps, no-names}
 use Rattle.format.proofs.Pairs.{plain-no-LF, length-pair, plain-of-pair, judge-of-pair}
 use Rattle.format.proofs.Header.{FineBy, Fine, IsHeader, header-sound, header-fine}
 
@@ -65,7 +66,7 @@ lines-put k v l n es = go (valueOf k es) (lines-replaced k v es)
     go none on = refl
     go (some w) on = rw on
 
--- ---- they are fine: a pair gives no field
+-- ---- they are fine: a pair gives neither a field nor a name, and none stands among the names under LIST
 
 -- other entries after a line, which are none where none were
 fine-next : (t : Bool) (gs : List Given) (es fs : List Entry) (gs′ : List Given) (P Q : Type 0)
@@ -74,20 +75,22 @@ fine-next true gs es fs gs′ P Q e q f = (e (f .0), f .1, f .2)
 fine-next false gs es fs gs′ P Q e q f = q f
 
 module _ (version : ℕ) (k v : List ℕ) (since : pairsSince ≤ version) (key : keyFine k ≡ true) (value : valueFine v ≡ true) where
-  -- another pair may stand for an entry with the key k
+  -- another pair may stand for an entry with the key k: no names follow the fields before it, or it would be a name
   fine-pair : (gs : List Given) (l : Line) (e : Ending) (i : Item) (es : List Entry) (gs′ : List Given) (r : List Line)
-      → namesFollow gs ≡ false → isSome (valueIn k i) ≡ true → Fine version gs (entry l i ∷ es) gs′ r → Fine version gs (pairEntry k v e ∷ es) gs′ r
-  fine-pair gs l e i es gs′ r n h f = go (pairOf i) refl h
+      → isSome (valueIn k i) ≡ true → Fine version gs (entry l i ∷ es) gs′ r → Fine version gs (pairEntry k v e ∷ es) gs′ r
+  fine-pair gs l e i es gs′ r h f = go (pairOf i) refl h
     where
       go : (o : Option (List ℕ × List ℕ)) → pairOf i ≡ o → isSome (valueFor k o) ≡ true → Fine version gs (pairEntry k v e ∷ es) gs′ r
       go none q h = absurd (false≢true h)
-      go (some p) q h = (judge-of-pair version gs k v n since key value, rw (is-pair i q) at (f .1))
+      go (some p) q h =
+          let line = subst (Keeps version gs (text l)) (is-pair i q) (judge-keeps version gs (text l) (f .0)) in
+          (judge-of-pair version gs k v (line .other .no-names) since key value, rw (is-pair i q) at (f .1))
 
-  fine-replaced : (es : List Entry) (gs gs′ : List Given) (r : List Line) → namesFollow gs ≡ false → Fine version gs es gs′ r
+  fine-replaced : (es : List Entry) (gs gs′ : List Given) (r : List Line) → Fine version gs es gs′ r
       → Fine version gs (replacedEntries k v es) gs′ r
-  fine-replaced [] gs gs′ r n f = f
-  fine-replaced (entry l i ∷ es) gs gs′ r n f =
-      go (hasKey k es) (isSome (valueIn k i)) refl (λ g. fine-replaced es (afterItem i gs) gs′ r (no-names-after version gs (text l) (f .0) n) g)
+  fine-replaced [] gs gs′ r f = f
+  fine-replaced (entry l i ∷ es) gs gs′ r f =
+      go (hasKey k es) (isSome (valueIn k i)) refl (λ g. fine-replaced es (afterItem i gs) gs′ r g)
     where
       go : (x y : Bool) → isSome (valueIn k i) ≡ y
           → (Fine version (afterItem i gs) es gs′ r → Fine version (afterItem i gs) (replacedEntries k v es) gs′ r)
@@ -97,15 +100,16 @@ module _ (version : ℕ) (k v : List ℕ) (since : pairsSince ≤ version) (key 
         fine-next (closes i) gs es (replacedEntries k v es) gs′ (Fine version (afterItem i gs) es gs′ r)
             (Fine version (afterItem i gs) (replacedEntries k v es) gs′ r) (λ q. rw q) on (f .1),
       )
-      go false true e on = fine-pair gs l (ending l) i es gs′ r n e f
+      go false true e on = fine-pair gs l (ending l) i es gs′ r e f
       go false false e on = f
 
+  -- a line is inserted after line 1, where nothing is given yet
   fine-put : (e : Ending) (es : List Entry) (gs gs′ : List Given) (r : List Line) → namesFollow gs ≡ false → Fine version gs es gs′ r
       → Fine version gs (putEntries k v e es) gs′ r
   fine-put e es gs gs′ r n f = go (hasKey k es)
     where
       go : (x : Bool) → Fine version gs (if x then replacedEntries k v es else pairEntry k v e ∷ es) gs′ r
-      go true = fine-replaced es gs gs′ r n f
+      go true = fine-replaced es gs gs′ r f
       go false = (judge-of-pair version gs k v n since key value, f)
 
 -- ---- their lines keep the line rule
@@ -156,7 +160,7 @@ module _ (k v : List ℕ) (key : keyFine k ≡ true) (value : valueFine v ≡ tr
 -- ---- the header of the new file
 
 -- line 1 of an accepted header, and what follows it
-first-of : {s : List ℕ} {l : Line} {n : ℕ} {es : List Entry} {gs : List Given} {r : List Line} → IsHeader s (entry l (magic n) ∷ es) gs r
+pub first-of : {s : List ℕ} {l : Line} {n : ℕ} {es : List Entry} {gs : List Given} {r : List Line} → IsHeader s (entry l (magic n) ∷ es) gs r
     → (versionOfLine l ≡ some n) × Fine n [] es gs r
 first-of {l = l} {n = n} {es = es} x =
     let p : l ≡ x .first = cc in

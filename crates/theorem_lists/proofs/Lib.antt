@@ -2,4 +2,5 @@ pub mod Entries
 pub mod Buffers
 pub mod Data
 pub mod Settled
+pub mod NamesStay
 pub mod Lists

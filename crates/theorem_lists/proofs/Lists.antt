@@ -23,10 +23,11 @@ use Rattle.format.proofs.Lines.{length-starts}
 use Rattle.format.proofs.Header.{header-sound, data-area}
 use Rattle.format.proofs.Numbered.{NumberedOutcome, header-numbered}
 use Rattle.theorem_lists.specs.Lists.{bufferOf, usedOf, tableIn, countIn, fileIn, lastAccepted, Settled, Case, firstCase, readCases, setCases, SettingsHold}
-use Rattle.theorem_lists.proofs.Entries.{putEntries, lines-put, header-put}
+use Rattle.theorem_lists.proofs.Entries.{putEntries, lines-put, first-of, header-put}
 use Rattle.theorem_lists.proofs.Buffers.{unless, take-refilled, buffers-after, tables-after}
 use Rattle.theorem_lists.proofs.Data.{place-moved, place-past, same-data, same-samples}
 use Rattle.theorem_lists.proofs.Settled.{afterList, put-after-list, after-list-nil, lines-after-list, value-after-list}
+use Rattle.theorem_lists.proofs.NamesStay.{names-after-list}
 
 -- ---- what is lent
 
@@ -193,10 +194,14 @@ module _ (l : Line) (n : ℕ) (gs : List Given) (ls : List Line) where
         origin = rw (g .reading, e);
         direction = λ axis. rw (g .reading, e);
         frame = rw (g .reading, e);
+        files = rw (g .reading, e);
+        name = λ m out. rw (g .reading, e);
+        sampleFile = λ s. rw (g .reading, e);
         count = g .count;
         table = g .table;
         fresh = λ own h. rw (g .reading, le-ltb (length own) (length (entry l (magic n) ∷ afterList done (ending l) es)) h, g .table);
         lines = lines-after-list done l (magic n) es;
+        names = names-after-list done l n es gs ls (first-of (header-sound first e) .1);
         rest = data-area (fileIn x) (g .reading) ∙ sym (data-area first e);
         place = place-moved first (fileIn x) e (g .reading);
         past-header = place-past first e;

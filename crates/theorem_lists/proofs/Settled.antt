@@ -17,25 +17,25 @@ use Rattle.theorem_lists.proofs.Entries.{pairEntry, replacedEntries, pu
 -- ---- the closed form
 
 -- the entry of a line of the key k at another value; as it was where there is none
-abbrev heldEntry : Line → Item → List ℕ → Option (List ℕ) → Entry
+abbrev pub heldEntry : Line → Item → List ℕ → Option (List ℕ) → Entry
 heldEntry l i k none = entry l i
 heldEntry l i k (some w) = pairEntry k w (ending l)
 
 -- an entry before the entries `later`, by its pair: the last one of a key that was set is at the value accepted last
-abbrev settledBy : List Setting → Line → Item → Option (List ℕ × List ℕ) → List Entry → Entry
+abbrev pub settledBy : List Setting → Line → Item → Option (List ℕ × List ℕ) → List Entry → Entry
 settledBy done l i none later = entry l i
 settledBy done l i (some p) later = if hasKey (p .0) later then entry l i else heldEntry l i (p .0) (lastAccepted (p .0) done)
 
-abbrev settledEntry : List Setting → Line → Item → List Entry → Entry
+abbrev pub settledEntry : List Setting → Line → Item → List Entry → Entry
 settledEntry done l i later = settledBy done l i (pairOf i) later
 
 -- all of the entries
-abbrev settledEntries : List Setting → List Entry → List Entry
+abbrev pub settledEntries : List Setting → List Entry → List Entry
 settledEntries done [] = []
 settledEntries done (entry l i ∷ es) = settledEntry done l i es ∷ settledEntries done es
 
 -- the entries, and above them one for each accepted key that they lack, at the value accepted for it first; its line has the ending e
-abbrev grown : List Setting → Ending → List Entry → List Entry
+abbrev pub grown : List Setting → Ending → List Entry → List Entry
 grown [] e es = es
 grown (setting k v ∷ done) e es = if hasKey k (grown done e es) then grown done e es else pairEntry k v e ∷ grown done e es
 
@@ -264,7 +264,7 @@ line-of-entry done l i (some p) es = go (hasKey (p .0) es) (lastAccepted (p .0) 
     go false none = refl
     go false (some w) = refl
 
-lines-of-settled : (done : List Setting) (es : List Entry) → linesOf (settledEntries done es) ≡ settledLines done es
+pub lines-of-settled : (done : List Setting) (es : List Entry) → linesOf (settledEntries done es) ≡ settledLines done es
 unfolding settledLines
 lines-of-settled done [] = refl
 lines-of-settled done (entry l i ∷ es) = rw (line-of-entry done l i (pairOf i) es, lines-of-settled done es)

@@ -16,9 +16,10 @@ use Rattle.format.specs.Limits.{maxFile, maxHeader, maxLines}
 use Rattle.format.specs.Refusals.{fileTooLong, headerTooLong, tooManyLines, notInVersion, lentTooShort, badKey, badValue, wrongTable, refusal, fine}
 use Rattle.format.specs.Lines.{Line, line, Ending, ending, unlines}
 use Rattle.format.specs.Fields.{Given, pairsSince}
-use Rattle.format.specs.Header.{pairOf, Entry, entry, linesOf, Outcome, refused, accepted, header, versionOf, valueOf, tableOf, headerLength}
+use Rattle.format.specs.Header.{pairOf, Entry, entry, linesOf, Outcome, refused, accepted, header, versionOf, valueOf, tableOf, headerLength, fieldLines}
 use Rattle.format.specs.Settings.{keyFine, valueFine, pairText, hasKey, newLines, tableFine, Lent, lent, Setting, setting}
 use Rattle.format.specs.Orientation.{originCall, directionCall, frameCall}
+use Rattle.format.specs.Files.{fileCountCall, fileNameCall, sampleFileCall}
 use Rattle.format.specs.Calls.{readHeaderCall, readCall, dataPlaceCall, dataCall, samplesCall, setKeyCall, callOn, left, setKeys}
 
 -- ---- parts of what is lent
@@ -81,9 +82,9 @@ settled done (entry l i ∷ es) = l ∷ (insertedLines done (ending l) (newKeys 
 
 -- ---- what holds after a list
 
--- the numbers of a reading, of a header of another length and another count of lines
-abbrev pub resized : ℕ → ℕ → Reading → Reading
-resized n k r =
+-- the numbers of a reading, of a header of another length, another count of lines, and another count of those before the names under LIST
+abbrev pub resized : ℕ → ℕ → ℕ → Reading → Reading
+resized n k before r =
     record {
       version = r .version;
       form = r .form;
@@ -103,6 +104,8 @@ resized n k r =
       frame = r .frame;
       space = r .space;
       spacedimension = r .spacedimension;
+      files = r .files;
+      fieldlines = before;
     }
 
 -- the data was found, in the header's file
@@ -122,12 +125,18 @@ pub record Settled (first : List ℕ) (es : List Entry) (gs : List Given) (ls : 
   pub entries : List Entry
   pub reading : header (fileIn after) ≡ accepted entries gs ls
   pub version : versionOf entries ≡ versionOf es
-  -- its numbers are the first ones, but for the header's length and the count of its lines, which is the carried one
-  pub numbers : readHeaderCall (fileIn after) ≡ record { refusal = fine; reading = resized (headerLength entries) (countIn after) (readHeaderCall first .reading) }
+  -- its numbers are the first ones, but for the header's length, the count of its lines, which is the carried one, and how many of these stand before the names under LIST
+  pub numbers : readHeaderCall (fileIn after) ≡ record { refusal = fine; reading = resized (headerLength entries) (countIn after) (fieldLines entries) (readHeaderCall first .reading) }
   -- the orientation is the first one: the origin, the direction of each axis, the frame (document 02, W2)
   pub origin : originCall (fileIn after) ≡ originCall first
   pub direction : (axis : ℕ) → directionCall (fileIn after) axis ≡ directionCall first axis
   pub frame : frameCall (fileIn after) ≡ frameCall first
+  -- as many files hold the data as in the first reading, whether one, or several by a pattern or under LIST (document 02, W5)
+  pub files : fileCountCall (fileIn after) ≡ fileCountCall first
+  -- the name of each of them is the same, into whatever buffer; a number past the last is refused as before (document 02, W5)
+  pub name : (n : ℕ) (out : List ℕ) → fileNameCall (fileIn after) n out ≡ fileNameCall first n out
+  -- each sample is in the same file, at the same byte of that file's share (document 02, W5)
+  pub sampleFile : (s : ℕ) → sampleFileCall (fileIn after) s ≡ sampleFileCall first s
   -- a key that was set has its latest accepted value, any other key the one that it had in the first reading
   pub values : (k : List ℕ) → valueOf k entries ≡ orElse (lastAccepted k done) (valueOf k es)
   -- the carried count and table are those of the fresh reading
@@ -136,11 +145,14 @@ pub record Settled (first : List ℕ) (es : List Entry) (gs : List Given) (ls : 
   -- a fresh reading with a table of its own, which has room for every line, answers them
   pub fresh : (own : List ℕ) → length entries ≤ length own
       → readCall (fileIn after) own ≡ (readHeaderCall (fileIn after), over (take (countIn after) (tableIn after)) own)
-  -- all other header lines are the same, in order; lines set keep place and ending, inserted ones stand after line 1, later above earlier
+  -- all other header lines are the same, in order, names under LIST among them, also those that look like a pair (document 02, W5);
+  -- lines set keep place and ending, inserted ones stand after line 1, later above earlier
   pub lines : linesOf entries ≡ settled done es
+  -- the lines from the first name under LIST on, the names and the line that closes the header, are the first ones (document 02, W5)
+  pub names : drop (fieldLines entries) (linesOf entries) ≡ drop (fieldLines es) (linesOf es)
   -- the data and all else after the header is the same bytes
   pub rest : drop (headerLength entries) (fileIn after) ≡ drop (headerLength es) first
-  -- with any second file: the data call refuses as before, or finds the data as far past the header or at the same place of the second file
+  -- with any second file: the data call refuses as before, more than one file too, or finds the data as far past the header or at the same place of the second file
   pub place : (second : List ℕ) → dataPlaceCall (fileIn after) second ≡ movedPlace (headerLength es) (headerLength entries) (dataPlaceCall first second)
   -- data in the header's file is never before the header's end
   pub past-header : (second : List ℕ) → inFirst (dataPlaceCall first second) ≡ true → headerLength es ≤ dataPlaceCall first second .start

@@ -34,10 +34,12 @@ use Rattle.format.proofs.Boundary.{length-numbers}
 use Rattle.format.proofs.Header.{header-sound}
 use Rattle.format.proofs.Numbered.{NumberedOutcome, header-numbered}
 use Rattle.format.proofs.Places.{place-numbered}
-use Rattle.format.specs.Room.{Enough, tableEntries, tableRoom, writeRoom, valueRoom, Copied, samplesRoom, setRoom}
+use Rattle.format.specs.Files.{fileNameCall}
+use Rattle.format.specs.Room.{Enough, tableEntries, tableRoom, writeRoom, valueRoom, Copied, nameRoom, samplesRoom, setRoom}
 use Rattle.theorem_room.specs.Room.{RoomEnough}
 use Rattle.theorem_room.proofs.Written.{room-for-file}
 use Rattle.theorem_room.proofs.Checked.{list-long}
+use Rattle.theorem_room.proofs.FileNames.{name-enough}
 use Rattle.theorem_room.proofs.Oriented.{origin-enough, directions-enough, frame-enough}
 use Rattle.theorem_room.proofs.Grown.{escape-length, header-grown}
 
@@ -190,6 +192,7 @@ room-enough =
       reading-numbers = reading-numbers;
       table-enough = λ file table h. table-enough file table (omega (arith, h));
       value-enough = λ file k buf h. value-enough k buf file (omega (arith, h));
+      name-enough = λ file n out h. name-enough file n out (omega (arith, h));
       samples-enough = λ file second list h. samples-enough file second list (omega (arith, h));
       write-enough = λ version sizes t e endian zs out h. write-enough version sizes t e endian zs out (omega (arith, h));
       set-enough = λ buf used table count k v r h. set-enough buf used table r count k v (omega (arith, h));
@@ -211,6 +214,10 @@ read-answered file table {a} e h =
 pub value-answered : (file k buf : List ℕ) {a : ValueAnswer} {after : List ℕ} → _≡_ {A = ValueAnswer × List ℕ} (a, after) (copyValueCall file k buf)
     → valueRoom (findKeyCall file k) ≤ length buf → Copied (findKeyCall file k) a
 value-answered file k buf e h = subst (Copied (findKeyCall file k)) (sym (ap (λ (x : ValueAnswer × List ℕ). x .0) e)) (value-enough k buf file h)
+
+pub name-answered : (file : List ℕ) (n : ℕ) (out : List ℕ) {a : WriteAnswer} {after : List ℕ}
+    → _≡_ {A = WriteAnswer × List ℕ} (a, after) (fileNameCall file n out) → nameRoom ≤ length out → Enough (a .refusal)
+name-answered file n out q h = same-refusal (ap (λ (x : WriteAnswer × List ℕ). x .0 .refusal) q) (name-enough file n out h)
 
 pub samples-answered : (file second : List ℕ) (list : List ℤ) {a : CountAnswer} {after : List ℤ}
     → _≡_ {A = CountAnswer × List ℤ} (a, after) (samplesCall file second list) → samplesRoom (header file) ≤ length list → Enough (a .refusal)

@@ -2,4 +2,5 @@ pub mod Written
 pub mod Checked
 pub mod Grown
 pub mod Oriented
+pub mod FileNames
 pub mod Enough

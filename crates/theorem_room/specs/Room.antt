@@ -9,7 +9,8 @@ use Rattle.format.specs.Refusals.{extentTooLarge}
 use Rattle.format.specs.Header.{header}
 use Rattle.format.specs.Calls.{readHeaderCall, readCall, findKeyCall, copyValueCall, samplesCall, writeCall, setKeyCall}
 use Rattle.format.specs.Orientation.{originEntry, directionsEntry, frameEntry}
-use Rattle.format.specs.Room.{Enough, tableEntries, writeRoom, valueRoom, Copied, samplesRoom, setRoom, originRoom, directionsRoom, frameRoom}
+use Rattle.format.specs.Files.{fileNameCall}
+use Rattle.format.specs.Room.{Enough, tableEntries, writeRoom, valueRoom, Copied, nameRoom, samplesRoom, setRoom, originRoom, directionsRoom, frameRoom}
 
 pub record RoomEnough : Type 0 where
   -- a reading's refusals end at 15, so that 22 is never one of them
@@ -18,6 +19,8 @@ pub record RoomEnough : Type 0 where
   pub table-enough : (file table : List ℕ) → tableEntries ≤ length table → readCall file table .0 ≡ readHeaderCall file
   -- the length that `find_key` tells is enough for the value
   pub value-enough : (file k buf : List ℕ) → valueRoom (findKeyCall file k) ≤ length buf → Copied (findKeyCall file k) (copyValueCall file k buf .0)
+  -- the name of any data file (document 02, W5)
+  pub name-enough : (file : List ℕ) (n : ℕ) (out : List ℕ) → nameRoom ≤ length out → Enough (fileNameCall file n out .0 .refusal)
   -- as many entries as the sizes ask for
   pub samples-enough : (file second : List ℕ) (list : List ℤ) → samplesRoom (header file) ≤ length list → Enough (samplesCall file second list .0 .refusal)
   -- a file of these samples

@@ -16,7 +16,7 @@ use Rattle.format.specs.Refusals.{dataTooShort}
 use Rattle.format.specs.Lines.{Line, lines, unlines}
 use Rattle.format.specs.Fields.{Given}
 use Rattle.format.specs.Descriptors.{raw, numberKind, isFloating, sampleBytes, endianNeeded, noEndian, extent, extentOf}
-use Rattle.format.specs.Header.{Entry, lineOf, accepted, header, headerLength}
+use Rattle.format.specs.Header.{Entry, lineOf, accepted, header, headerLength, beforeNames, fieldLines}
 use Rattle.format.specs.Data.{Place, nowhere, part, skipLines, skipBytes, placeOf, partOf}
 use Rattle.format.specs.Samples.{Decoded, samplesOf}
 use Rattle.format.specs.Calls.{readingOf, countOf, decoded, checkSamplesCall, seenIn}
@@ -38,7 +38,7 @@ place-after gs x ns t e n m b s small fits integers full wanted second =
     let start : length (b ++ s) - length s ≡ length b = rw length-append (omega arith) in
     let below : length b ≤ maxFile = omega (arith, length-append b s) in
     let whole : extentOf gs ≡ extent ns t = rw (m .sizes-are, m .type-is) in
-    rw (m .attached, m .type-is, integers, and-false wanted, drop-append-seam b s, m .no-line-skip, m .no-byte-skip, le-ltb (length s) 0 (omega arith), start, whole, lt-leb (2 ^ 64) (length b + extent ns t) (omega arith), m .encoding-is)
+    rw (m .one-file, m .attached, m .type-is, integers, and-false wanted, drop-append-seam b s, m .no-line-skip, m .no-byte-skip, le-ltb (length s) 0 (omega arith), start, whole, lt-leb (2 ^ 64) (length b + extent ns t) (omega arith), m .encoding-is)
     (go (eqb e raw) full)
   where
     go : (y : Bool) → (y ≡ true → length s ≡ extent ns t)
@@ -77,6 +77,15 @@ module _ (version : ℕ) (ns : List ℕ) (t e n : ℕ) (zs : List ℤ) (a : Acce
 
   head-lines : length es ≡ length (headerLines version ns t e n)
   head-lines = sym (length-map es lineOf) ∙ ap (λ (ls : List Line). length ls) (lines-of-entries x version ns t e n h)
+
+  -- no line is a name under LIST
+  head-before : fieldLines es ≡ length es
+  unfolding beforeNames
+  head-before = go x
+    where
+      go : (y : Bool) → fieldLines (entriesOf y version ns t e n) ≡ length (entriesOf y version ns t e n)
+      go true = refl
+      go false = refl
 
   -- the place of the data, and the bytes there
   place-is : (wanted : Bool) (second : List ℕ) → placeOf wanted gs (headerLength es) file second ≡ part false (length head) (length body)
@@ -125,7 +134,7 @@ module _ (version : ℕ) (ns : List ℕ) (t e n : ℕ) (zs : List ℤ) (a : Acce
   reads-back =
       let m = fields-mean in
       record {
-        reading = rw (header-is, m .attached, m .dimension-is, m .type-is, m .encoding-is, m .endian-is, m .sizes-are, m .no-line-skip, m .no-byte-skip, m .no-origin, m .no-directions, m .no-frame, m .no-size, m .no-space, head-length, head-lines, h);
+        reading = rw (header-is, m .attached, m .dimension-is, m .type-is, m .encoding-is, m .endian-is, m .sizes-are, m .no-line-skip, m .no-byte-skip, m .no-origin, m .no-directions, m .no-frame, m .no-size, m .no-space, m .one-file, head-length, head-before, head-lines, h);
         place = λ second. rw (header-is, place-is false second);
         part = λ second. rw (header-is, place-is false second) (part-is second);
         samples = λ second list l. rw (check-is second (length list) l, seen-is second);

@@ -18,11 +18,11 @@ use Rattle.format.specs.Lines.{Line, line, lf, lines, unlines}
 use Rattle.format.specs.Pairs.{plain, mark}
 use Rattle.format.specs.Fields.{Given, given, descriptorOf, isGiven, isRepeated, inOrder, fieldAt, fieldSince, isUnderstood, dimension, type, encoding, endian, sizes, lineSkip, byteSkip, dataFile, space, spaceDimension, spaceOrigin, spaceDirections, measurementFrame}
 use Rattle.format.specs.Words.{numberIn, valueOfNumber, words}
-use Rattle.format.specs.Descriptors.{forward, endIsRaw, descriptor, sizesFine, mayDescribe, hasNeeded, types, typeAt, typeName, typeNames, encodings, endians, endianNeeded, noEndian, dimensionOf, typeOf, encodingOf, endianOf, sizesOf, lineSkipOf, byteSkipOf, noSpace, spaceOf, spaceSizeOf, isDetached, sampleBytes, namesFollow}
+use Rattle.format.specs.Descriptors.{forward, endIsRaw, descriptor, since, sizesFine, mayDescribe, hasNeeded, types, typeAt, typeName, typeNames, encodings, endians, endianNeeded, noEndian, dimensionOf, typeOf, encodingOf, endianOf, sizesOf, lineSkipOf, byteSkipOf, noSpace, spaceOf, spaceSizeOf, isDetached, sampleBytes, namesFollow, listEmpty, fileCountOf, filesFine}
 use Rattle.format.specs.Header.{field, closing, magic, Entry, entry, linesOf, right, onField, judge, accepted, header, headerLength}
 use Rattle.format.specs.Writer.{decimal, spaced, nameAt, fieldLine, headerLines, fileBytes, dataBytes}
 use Rattle.format.proofs.Lines.{Shape, lf-line, no-lf-of, ends-of, shape-of-lines, lines-of-parts}
-use Rattle.format.proofs.Judged.{judge-by-text}
+use Rattle.format.proofs.Judged.{judge-by-text, keeps-judge}
 use Rattle.format.proofs.Header.{Complete, Fine, header-fine}
 use Rattle.format.proofs.Writer.{number-of-decimal}
 use Rattle.theorem_roundtrip.proofs.Names.{Text, Named, type-named, encoding-named, endian-named, version-of-magic}
@@ -93,6 +93,7 @@ pub record Means (gs : List Given) (x : Bool) (ns : List ℕ) (t e n : ℕ) : Ty
   pub no-line-skip : lineSkipOf gs ≡ 0
   pub no-byte-skip : byteSkipOf gs ≡ forward 0
   pub attached : isDetached gs ≡ false
+  pub one-file : fileCountOf gs ≡ 1
   pub no-origin : isGiven spaceOrigin gs ≡ false
   pub no-directions : isGiven spaceDirections gs ≡ false
   pub no-frame : isGiven measurementFrame gs ≡ false
@@ -124,14 +125,14 @@ names =
       of-endian = λ version gs d n h. judge-by-text version gs _ n ∙ rw h;
     }
 
--- the line of an understood field that every version has, that is new and in order, with a descriptor that it may have
+-- the line of an understood field that every version has, other than data file, that is new and in order, with a descriptor that it may have
 field-line : (version : ℕ) (gs : List Given) (name : String) (f : ℕ) (d : List ℕ) → 1 ≤ version → NameOf name f → Text d
-    → (isUnderstood f ≡ true) × (fieldSince f ≡ 1) × (isRepeated f gs ≡ false) × (inOrder f gs ≡ true) × (namesFollow gs ≡ false) → mayDescribe (dimensionOf gs) (spaceSizeOf gs) f d ≡ true
+    → (isUnderstood f ≡ true) × (fieldSince f ≡ 1) × (eqb f dataFile ≡ false) × (isRepeated f gs ≡ false) × (inOrder f gs ≡ true) × (namesFollow gs ≡ false) → mayDescribe (dimensionOf gs) (spaceSizeOf gs) f d ≡ true
     → judge version gs (bytes name ++ (bytes ": " ++ d)) ≡ right (field f d)
-unfolding onField descriptor
+unfolding onField descriptor since
 field-line version gs name f d v named text here may =
-    named version gs d (here .4) (text .bytes-plain)
-    ∙ rw (here .1, le-ltb version 1 v, here .2, here .3, here .0, text .front, text .back, may)
+    named version gs d (here .5) (text .bytes-plain)
+    ∙ rw (here .2, here .1, le-ltb version 1 v, here .3, here .4, here .0, text .front, text .back, may)
 
 -- a line of plain bytes, with its LF, before lines that keep the line rule
 pub plain-line : {ls : List Line} (s : List ℕ) → every plain s ≡ true → Shape ls → Shape (line s lf ∷ ls)
@@ -159,7 +160,7 @@ module _ (version : ℕ) (ns : List ℕ) (t e n : ℕ) (zs : List ℤ) (a : Acce
 
   -- the fields mean what was given
   pub means : (x : Bool) → Means (fieldsOf x ns t e n) x ns t e n
-  unfolding descriptorOf
+  unfolding descriptorOf fileCountOf
   means x =
       let gs : List Given = firstFields ns t e in
       record {
@@ -171,6 +172,7 @@ module _ (version : ℕ) (ns : List ℕ) (t e n : ℕ) (zs : List ℤ) (a : Acce
         no-line-skip = rw (other-field x n gs lineSkip refl);
         no-byte-skip = rw (other-field x n gs byteSkip refl);
         attached = rw (other-field x n gs dataFile refl);
+        one-file = rw (other-field x n gs dataFile refl);
         no-origin = rw (other-field x n gs spaceOrigin refl);
         no-directions = rw (other-field x n gs spaceDirections refl);
         no-frame = rw (other-field x n gs measurementFrame refl);
@@ -184,8 +186,15 @@ module _ (version : ℕ) (ns : List ℕ) (t e n : ℕ) (zs : List ℤ) (a : Acce
 
   -- they are complete
   complete-fields : (x : Bool) → endianNeeded t e ≡ x → Complete (fieldsOf x ns t e n)
-  unfolding hasNeeded endIsRaw descriptorOf
-  complete-fields x h = record { needed = go x h; fitting = rw (means x .no-byte-skip); small = rw (means x .sizes-are, means x .type-is) (a .extent-small) }
+  unfolding hasNeeded endIsRaw descriptorOf namesFollow listEmpty filesFine
+  complete-fields x h =
+      record {
+        filled = rw (other-field x n (firstFields ns t e) dataFile refl);
+        needed = go x h;
+        fitting = rw (means x .no-byte-skip);
+        small = rw (means x .sizes-are, means x .type-is) (a .extent-small);
+        files = rw (other-field x n (firstFields ns t e) dataFile refl);
+      }
     where
       go : (x : Bool) → endianNeeded t e ≡ x → hasNeeded (fieldsOf x ns t e n) ≡ true
       go true h = refl
@@ -194,15 +203,15 @@ module _ (version : ℕ) (ns : List ℕ) (t e n : ℕ) (zs : List ℤ) (a : Acce
   -- each line is judged to be its item
   fine-entries : (x : Bool) → Complete (fieldsOf x ns t e n) → (r : List Line)
       → Fine version [] (restEntries x ns t e n) (fieldsOf x ns t e n) r
-  unfolding descriptorOf isRepeated inOrder fieldAt mayDescribe namesFollow judge
+  unfolding descriptorOf isRepeated inOrder fieldAt mayDescribe namesFollow
   fine-entries x c r = (
-    field-line version _ "type" type _ v (names .of-type) (of-type-name .text) (refl, refl, refl, refl, refl) (rw (of-type-name .row)),
+    field-line version _ "type" type _ v (names .of-type) (of-type-name .text) (refl, refl, refl, refl, refl, refl) (rw (of-type-name .row)),
     (
-      field-line version _ "dimension" dimension _ v (names .of-dimension) (decimal-text (length ns)) (refl, refl, refl, refl, refl) (dimension-may ns (a .numbers .axes-from) (a .numbers .axes-to)),
+      field-line version _ "dimension" dimension _ v (names .of-dimension) (decimal-text (length ns)) (refl, refl, refl, refl, refl, refl) (dimension-may ns (a .numbers .axes-from) (a .numbers .axes-to)),
       (
-        field-line version _ "sizes" sizes _ v (names .of-sizes) (spaced-text ns) (refl, refl, refl, refl, refl) (sizes-may ns (a .sizes-in)),
+        field-line version _ "sizes" sizes _ v (names .of-sizes) (spaced-text ns) (refl, refl, refl, refl, refl, refl) (sizes-may ns (a .sizes-in)),
         (
-          field-line version _ "encoding" encoding _ v (names .of-encoding) (of-encoding-name .text) (refl, refl, refl, refl, refl) (rw (of-encoding-name .row)),
+          field-line version _ "encoding" encoding _ v (names .of-encoding) (of-encoding-name .text) (refl, refl, refl, refl, refl, refl) (rw (of-encoding-name .row)),
           last x c,
         ),
       ),
@@ -214,10 +223,10 @@ module _ (version : ℕ) (ns : List ℕ) (t e n : ℕ) (zs : List ℤ) (a : Acce
 
       last : (x : Bool) → Complete (fieldsOf x ns t e n) → Fine version (firstFields ns t e) (lastEntries x n) (fieldsOf x ns t e n) r
       last true c = (
-        field-line version _ "endian" endian _ v (names .of-endian) (of-endian-name .text) (refl, refl, refl, refl, refl) (rw (of-endian-name .row)),
-        (refl, (refl, c, refl)),
+        field-line version _ "endian" endian _ v (names .of-endian) (of-endian-name .text) (refl, refl, refl, refl, refl, refl) (rw (of-endian-name .row)),
+        (keeps-judge version (fieldsOf true ns t e n) [] closing refl, (refl, c, refl)),
       )
-      last false c = (refl, (refl, c, refl))
+      last false c = (keeps-judge version (firstFields ns t e) [] closing refl, (refl, c, refl))
 
   -- the lines keep the line rule, before any lines that do
   shape-entries : (x : Bool) (r : List Line) → Shape r → Shape (linesOf (entriesOf x version ns t e n) ++ r)

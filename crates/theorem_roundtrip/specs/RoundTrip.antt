@@ -16,7 +16,11 @@ use Rattle.format.specs.Descriptors.{endianNeeded, noEndian, noSpace, sampleByt
 use Rattle.format.specs.Writer.{headerLines, dataBytes, headerBytes, fileBytes, writeRefusal}
 use Rattle.format.specs.Calls.{readHeaderCall, dataPlaceCall, dataCall, samplesCall}
 
--- the numbers of a written file's reading: those that went in; the endian where it has to be written, none elsewhere
+-- how many lines its header has; none of them is a name under LIST
+abbrev pub lineCount : ℕ → List ℕ → ℕ → ℕ → ℕ → ℕ
+lineCount version sizes t e endian = length (headerLines version sizes t e endian)
+
+-- the numbers of a written file's reading: those that went in; the endian where it has to be written, none elsewhere; one file, its own
 abbrev pub readBack : ℕ → List ℕ → ℕ → ℕ → ℕ → ReadAnswer
 readBack version sizes t e endian =
     record {
@@ -33,13 +37,15 @@ readBack version sizes t e endian =
         byteskip = 0;
         extent = extent sizes t;
         length = length (headerBytes version sizes t e endian);
-        lines = length (headerLines version sizes t e endian);
+        lines = lineCount version sizes t e endian;
         fromend = false;
         origin = false;
         directions = false;
         frame = false;
         space = noSpace;
         spacedimension = 0;
+        files = 1;
+        fieldlines = lineCount version sizes t e endian;
       };
     }
 

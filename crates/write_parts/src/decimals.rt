@@ -139,7 +139,7 @@ fn length_to_12(n: u64) -> usize
 }
 
 // The same for any number.
-pub(crate) fn decimal_length(n: u64) -> usize
+pub fn decimal_length(n: u64) -> usize
     ensures { λ r. ⌜ r ≡ length (decimal n) ⌝ }
     ensures few { λ r. ⌜ r ≤ 20 ⌝ }
 {

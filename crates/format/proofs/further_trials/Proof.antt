@@ -1,5 +1,5 @@
 -- `format::further_trials` meets its contract, which is the statement of the further trials.
-use Rattle.format.proofs.Trials.{further-trials}
+use Rattle.format.proofs.AllTrials.{further-trials}
 use Rattle.format.proofs.further_trials.Statement.{statement}
 use Rattle.format.proofs.further_trials.Tie as tie
 

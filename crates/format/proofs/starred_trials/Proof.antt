@@ -1,5 +1,5 @@
 -- `format::starred_trials` meets its contract, which is the statement of the starred trials.
-use Rattle.format.proofs.Trials.{starred-trials}
+use Rattle.format.proofs.AllTrials.{starred-trials}
 use Rattle.format.proofs.starred_trials.Statement.{statement}
 use Rattle.format.proofs.starred_trials.Tie as tie
 

@@ -40,11 +40,8 @@ check-number-requires-2 c κs = search needs
 check-byte-skip-requires : tie.Need-check-byte-skip-requires
 check-byte-skip-requires c κs = search needs
 
-is-name-requires : tie.Need-is-name-requires
-is-name-requires c κs = search needs
-
-says-none-requires : tie.Need-says-none-requires
-says-none-requires c κs = search needs
+check-files-requires : tie.Need-check-files-requires
+check-files-requires c κs = search needs
 
 check-orientation-requires : tie.Need-check-orientation-requires
 check-orientation-requires c κs = search needs
@@ -88,9 +85,9 @@ returns-7 c m l = let a = c .before .before .before .args in let e : a .f ≡ by
 returns-8 : tie.Need-returns-8
 unfolding mayDescribe
 returns-8 c m l =
-    let a = c .before .before .before .before .args in
+    let a = c .before .before .before .args in
     let e : a .f ≡ dataFile = omega arith in
-    rw (e, ← c .before .is-name .ensures) (stay (a .kept .now) (c .says-none .ensures))
+    rw e (stay (a .kept .now) (c .check-files .ensures (a .dimension) (a .space)))
 
 returns-9 : tie.Need-returns-9
 returns-9 c m l =
@@ -112,8 +109,7 @@ check-spec =
     check-sizes-requires
     check-number-requires-2
     check-byte-skip-requires
-    is-name-requires
-    says-none-requires
+    check-files-requires
     check-orientation-requires
     returns
     returns-2

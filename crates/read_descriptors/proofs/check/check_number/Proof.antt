@@ -4,7 +4,7 @@ use mathlib.Core.Option.{some}
 use borrow.Author.Tests.{le-leb, lt-leb}
 use borrow.Author.Needs.{needs}
 use Rattle.format.specs.Words.{number}
-use Rattle.read_descriptors.proofs.Checking.{number-is, number-wrong}
+use Rattle.read_text.proofs.NumberLaws.{number-is, number-wrong}
 use Rattle.read_descriptors.proofs.check.check_number.Statement.{statement}
 use Rattle.read_descriptors.proofs.check.check_number.Tie as tie
 

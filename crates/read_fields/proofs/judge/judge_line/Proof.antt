@@ -78,20 +78,20 @@ without-field-requires-3 c κs = search needs
 returns : tie.Need-returns
 returns c gs h l =
     let a = c .before .before .before .before .args in
-    line-is (a .version) gs (a .t .now) (a .sizes .now) (kind-told (a .t .now) (sym (c .enum-told .given .1) ∙ c .before .before .kind-of .ensures))
+    line-is (a .version) gs (a .t .now) (a .sizes .now) (h .no-names) (kind-told (a .t .now) (sym (c .enum-told .given .1) ∙ c .before .before .kind-of .ensures))
 
 returns-2 : tie.Need-returns-2
 returns-2 c gs h l =
     let a = c .before .before .before .before .before .args in
     let ns = a .sizes .now in
     let k = kind-told (a .t .now) (sym (c .before .enum-told2 .given .1) ∙ c .before .before .before .kind-of .ensures) in
-    without-field ns (c .without-field .ensures) refl ∙ line-is (a .version) gs (a .t .now) ns k
+    without-field ns (c .without-field .ensures) refl ∙ line-is (a .version) gs (a .t .now) ns (h .no-names) k
 
 returns-3 : tie.Need-returns-3
 returns-3 c gs h l =
     let a = c .before .before .before .before .before .before .before .args in
     let k = kind-told (a .t .now) (sym (c .before .before .before .i .given .1) ∙ c .before .before .before .before .before .kind-of .ensures) in
-    c .on-field .ensures gs h l ∙ line-is (a .version) gs (a .t .now) (a .sizes .now) (k .0)
+    c .on-field .ensures gs h l ∙ line-is (a .version) gs (a .t .now) (a .sizes .now) (h .no-names) (k .0)
 
 returns-4 : tie.Need-returns-4
 returns-4 c gs h l =
@@ -101,7 +101,7 @@ returns-4 c gs h l =
     let e = c .without-field2 .ensures ∙ ap (λ (n : ℕ). stepOf (wrong n)) (c .before .plain-first .ensures) in
     without-field ns e refl
     ∙ rw (c .before .before .on-pair .ensures, to-end (a .t .now)) (pair-line (a .version) gs (a .t .now) ns _ _)
-    ∙ line-is (a .version) gs (a .t .now) ns (paired m .0)
+    ∙ line-is (a .version) gs (a .t .now) ns (h .no-names) (paired m .0)
 
 returns-5 : tie.Need-returns-5
 returns-5 c gs h l =
@@ -109,7 +109,7 @@ returns-5 c gs h l =
     let ns = a .sizes .now in
     let e = c .without-field3 .ensures ∙ ap (λ (n : ℕ). stepOf (wrong n)) (c .before .plain-first2 .ensures) in
     let k = kind-told (a .t .now) (sym (c .before .before .enum-told3 .given .1) ∙ c .before .before .before .before .kind-of .ensures) in
-    without-field ns e refl ∙ unmarked-line (a .version) gs (a .t .now) ns ∙ line-is (a .version) gs (a .t .now) ns k
+    without-field ns e refl ∙ unmarked-line (a .version) gs (a .t .now) ns ∙ line-is (a .version) gs (a .t .now) ns (h .no-names) k
 
 pub judge-line-spec : {M : Type 1} → statement M
 judge-line-spec =

@@ -8,7 +8,8 @@ use Rattle.format.specs.Limits.{maxExtent}
 use Rattle.format.specs.Refusals.{fine}
 use Rattle.format.specs.Descriptors.{extentOf, capped}
 use borrow.Author.Needs.{needs}
-use Rattle.read_fields.proofs.States.{needs-sizes, axes-at, extent-is, fits-is, reading-is, finished-missing, finished-unfit, finished-large, finished-fine}
+use Rattle.read_fields.proofs.States.{needs-sizes, axes-at, extent-is, fits-is, reading-is, finished-missing, finished-unfit, finished-large, finished-uneven, finished-fine}
+use Rattle.read_fields.proofs.Sharing.{files-are, files-at-most}
 use Rattle.read_fields.proofs.state.finish.Statement.{statement}
 use Rattle.read_fields.proofs.state.finish.Tie as tie
 
@@ -19,11 +20,11 @@ refuse-requires : tie.Need-refuse-requires
 refuse-requires c κs = search needs
 
 returns : tie.Need-returns
-returns c gs h =
+returns c gs h last =
     let a = c .before .before .before .args in
     let n = c .before .before .has-needed in
     let e = sym (n .ensures gs (h .marks-are) (h .numbers-are)) ∙ not-true (n .result) (c .before .if1 .taken) in
-    c .refuse .ensures ∙ sym (finished-missing (a .version) gs (a .bytes) (a .count) e)
+    c .refuse .ensures ∙ sym (finished-missing (a .version) gs (a .bytes) (a .count) (a .before) e)
 
 element-copy-out-encoding : tie.Need-element-copy-out-encoding
 element-copy-out-encoding c = search needs
@@ -35,13 +36,13 @@ refuse-requires-2 : tie.Need-refuse-requires-2
 refuse-requires-2 c κs = search needs
 
 returns-2 : tie.Need-returns-2
-returns-2 c gs h =
+returns-2 c gs h last =
     let a = c .before .before .before .before .before .before .args in
     let n = c .before .before .before .before .before .has-needed in
     let f = c .before .before .end-is-raw in
     let e = sym (n .ensures gs (h .marks-are) (h .numbers-are)) ∙ not-false (n .result) (c .before .before .before .before .if1 .left) in
     let s = sym (f .ensures ∙ fits-is h) ∙ not-true (f .result) (c .before .if2 .taken) in
-    c .refuse2 .ensures ∙ sym (finished-unfit (a .version) gs (a .bytes) (a .count) e s)
+    c .refuse2 .ensures ∙ sym (finished-unfit (a .version) gs (a .bytes) (a .count) (a .before) e s)
 
 element-copy-out-dimension : tie.Need-element-copy-out-dimension
 element-copy-out-dimension c = search needs
@@ -56,7 +57,7 @@ refuse-requires-3 : tie.Need-refuse-requires-3
 refuse-requires-3 c κs = search needs
 
 returns-3 : tie.Need-returns-3
-returns-3 c gs h =
+returns-3 c gs h last =
     let a = c .before .before .before .before .before .before .before .before .before .before .args in
     let n = c .before .before .before .before .before .before .before .before .before .has-needed in
     let f = c .before .before .before .before .before .before .end-is-raw in
@@ -64,7 +65,30 @@ returns-3 c gs h =
     let s = sym (f .ensures ∙ fits-is h) ∙ not-false (f .result) (c .before .before .before .before .before .if2 .left) in
     let m = c .before .before .extent .ensures (axes-at h) ∙ ap capped (extent-is h (needs-sizes gs e)) in
     let l : maxExtent < extentOf gs = omega arith in
-    c .refuse3 .ensures ∙ sym (finished-large (a .version) gs (a .bytes) (a .count) e s l)
+    c .refuse3 .ensures ∙ sym (finished-large (a .version) gs (a .bytes) (a .count) (a .before) e s l)
+
+fit-requires : tie.Need-fit-requires
+fit-requires c κs = search needs
+
+refuse-requires-4 : tie.Need-refuse-requires-4
+refuse-requires-4 c κs = search needs
+
+returns-4 : tie.Need-returns-4
+returns-4 c gs h last =
+    let a = c .before .before .before .before .before .before .before .before .before .before .before .before .args in
+    let n = c .before .before .before .before .before .before .before .before .before .before .before .has-needed in
+    let f = c .before .before .before .before .before .before .before .before .end-is-raw in
+    let x = c .before .before .before .before .extent in
+    let t = c .before .before .fit in
+    let e = sym (n .ensures gs (h .marks-are) (h .numbers-are)) ∙ not-false (n .result) (c .before .before .before .before .before .before .before .before .before .before .if1 .left) in
+    let s = sym (f .ensures ∙ fits-is h) ∙ not-false (f .result) (c .before .before .before .before .before .before .before .if2 .left) in
+    let m = x .ensures (axes-at h) ∙ ap capped (extent-is h (needs-sizes gs e)) in
+    let l : extentOf gs ≤ maxExtent = omega arith in
+    let w = sym (t .ensures (axes-at h) ∙ files-are h (needs-sizes gs e) l last) ∙ not-true (t .result) (c .before .if4 .taken) in
+    c .refuse4 .ensures ∙ sym (finished-uneven (a .version) gs (a .bytes) (a .count) (a .before) e s l w)
+
+count-files-requires : tie.Need-count-files-requires
+count-files-requires c κs = search needs
 
 element-copy-out-endian : tie.Need-element-copy-out-endian
 element-copy-out-endian c = search needs
@@ -102,21 +126,24 @@ element-copy-out-directions c = search needs
 element-copy-out-frame : tie.Need-element-copy-out-frame
 element-copy-out-frame c = search needs
 
-returns-4 : tie.Need-returns-4
-returns-4 c gs h =
-    let w = c .before .before .before .before .before in
-    let a = w .before .before .before .before .before .before .before .before .before .before .before .before .before .before .before .args in
-    let n = w .before .before .before .before .before .before .before .before .before .before .before .before .before .before .has-needed in
-    let f = w .before .before .before .before .before .before .before .before .before .before .before .end-is-raw in
-    let x = w .before .before .before .before .before .before .before .extent .result in
-    let e = sym (n .ensures gs (h .marks-are) (h .numbers-are)) ∙ not-false (n .result) (w .before .before .before .before .before .before .before .before .before .before .before .before .before .if1 .left) in
-    let s = sym (f .ensures ∙ fits-is h) ∙ not-false (f .result) (w .before .before .before .before .before .before .before .before .before .before .if2 .left) in
-    let m = w .before .before .before .before .before .before .before .extent .ensures (axes-at h) ∙ ap capped (extent-is h (needs-sizes gs e)) in
+returns-5 : tie.Need-returns-5
+returns-5 c gs h last =
+    let w = c .before .before .before .before .before .before .before .before .before .before .before in
+    let a = w .before .before .before .before .before .before .before .before .before .before .before .before .args in
+    let n = w .before .before .before .before .before .before .before .before .before .before .before .has-needed in
+    let f = w .before .before .before .before .before .before .before .before .end-is-raw in
+    let x = w .before .before .before .before .extent in
+    let t = w .before .before .fit in
+    let e = sym (n .ensures gs (h .marks-are) (h .numbers-are)) ∙ not-false (n .result) (w .before .before .before .before .before .before .before .before .before .before .if1 .left) in
+    let s = sym (f .ensures ∙ fits-is h) ∙ not-false (f .result) (w .before .before .before .before .before .before .before .if2 .left) in
+    let m = x .ensures (axes-at h) ∙ ap capped (extent-is h (needs-sizes gs e)) in
     let l : extentOf gs ≤ maxExtent = omega arith in
-    let k : x ≡ extentOf gs = omega arith in
+    let k : x .result ≡ extentOf gs = omega arith in
+    let y = sym (t .ensures (axes-at h) ∙ files-are h (needs-sizes gs e) l last) ∙ not-false (t .result) (w .before .if4 .left) in
     let z = c .before .before .before .space-size .ensures gs (h .marks-are) (h .numbers-are) in
-    ap (λ (r : Reading). record { refusal = fine; reading = r }) (reading-is h (a .version) (a .bytes) (a .count) (w .before .before .wide .ensures) (w .wide2 .ensures) k z)
-    ∙ sym (finished-fine (a .version) gs (a .bytes) (a .count) e s l)
+    let q = w .count-files .ensures (rw last (files-at-most gs (h .kept) (needs-sizes gs e) l y)) ∙ last in
+    ap (λ (r : Reading). record { refusal = fine; reading = r }) (reading-is h (a .version) (a .bytes) (a .count) (a .before) (c .before .before .before .before .before .before .before .wide .ensures) (c .before .before .before .before .before .wide2 .ensures) k z q)
+    ∙ sym (finished-fine (a .version) gs (a .bytes) (a .count) (a .before) e s l y)
 
 pub finish-spec : {M : Type 1} → statement M
 finish-spec =
@@ -134,6 +161,10 @@ finish-spec =
     extent-requires
     refuse-requires-3
     returns-3
+    fit-requires
+    refuse-requires-4
+    returns-4
+    count-files-requires
     element-copy-out-endian
     element-copy-out-form
     cast-form
@@ -146,4 +177,4 @@ finish-spec =
     element-copy-out-origin
     element-copy-out-directions
     element-copy-out-frame
-    returns-4)
+    returns-5)

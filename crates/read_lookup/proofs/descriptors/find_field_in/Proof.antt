@@ -1,4 +1,4 @@
--- `read_lookup::descriptors::find_field_in` meets its contract: the pass over the lines after line 1.
+-- `read_lookup::descriptors::find_field_in` meets its contract: the pass over the lines after line 1, up to the names.
 -- Assumes nothing.
 use borrow.Author.Needs.{needs}
 use Rattle.read_header.proofs.Accepted.{some-byte, some-lines}

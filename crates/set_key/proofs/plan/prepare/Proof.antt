@@ -6,7 +6,7 @@ use Rattle.format.specs.Header.{tableOf}
 use Rattle.format.specs.Settings.{keyFine, valueFine, tableFine}
 use Rattle.read_table.specs.Tables.{lentEntries}
 use Rattle.set_key.specs.Edits.{askedNumber, fitted, Planned}
-use Rattle.set_key.proofs.Planning.{Read, read-of, headed, read-lined, read-starts, plan-unread, plan-asked, numbers-small, plan-fitted}
+use Rattle.set_key.proofs.Planning.{Read, read-of, fielded, read-lined, read-starts, plan-unread, plan-asked, numbers-small, plan-fitted}
 use borrow.Author.Needs.{needs}
 use Rattle.set_key.proofs.plan.prepare.Statement.{statement}
 use Rattle.set_key.proofs.plan.prepare.Tie as tie
@@ -61,7 +61,7 @@ returns-2 c =
     subst (Planned (a .file .now) (a .room) table (a .count) (a .key .now) (a .value .now)) (sym (c .refuse .ensures)) (plan-asked (a .file .now) table (a .count) (a .key .now) (a .value .now) _ (k .asked .result) (w .is) (w .version) (asks k) (c .before .if2 .taken) (a .room))
 
 find-place-requires : tie.Need-find-place-requires
-find-place-requires c κs = headed (was (c .before .before .before))
+find-place-requires c κs = fielded (was (c .before .before .before))
 
 pair-length-requires : tie.Need-pair-length-requires
 pair-length-requires c κs = search needs

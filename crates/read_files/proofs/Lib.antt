@@ -1,0 +1,4 @@
+pub mod WordLaws
+pub mod PatternLaws
+pub mod NumberLaws
+pub mod SaidLaws
