@@ -189,7 +189,8 @@ typedef struct craneholt_find_answer {
 
 /* The descriptor of a field, without spaces and tabs at its end; in the understood fields, which are dimension, type, encoding,
  * endian, sizes, line skip, byte skip, data file, space, space dimension, space origin, space directions and measurement frame,
- * also without those at its start. A number past the last field is answered as not found, and a line under LIST gives no field. Refuses 1 to 15. */
+ * also without those at its start. A number past the last field is answered as not found, and a line under LIST gives no field.
+ * Refuses 1 to 15. */
 craneholt_find_answer craneholt_find_field(const uint8_t *file, size_t file_length, uint32_t field);
 
 /* The text of a key's value as it stands in the file: in the last line with the key, LF as "\n" and backslash as "\\".
@@ -262,7 +263,8 @@ craneholt_number_answer craneholt_sample_number(const uint8_t *file, size_t file
  * - A pattern has no blank and one `%`, as `%d`, `%Nd` or `%0Nd` with N from 1 to 99 without leading zeros of its own. After it
  *   come first, last and step: at most 4294967295 each, the step not 0, with a `-` if it goes down. The name of file n has the
  *   number first + n * step in place of the `%` and what belongs to it; where there is an N, filled up on its left to N
- *   characters, by spaces or, after the 0, by zeros; it is never cut. The last file is that of the last number that does not go past `last`; there has to be at least one.
+ *   characters, by spaces or, after the 0, by zeros; it is never cut. The last file is that of the last number that does not go
+ *   past `last`; there has to be at least one.
  * - A list ends where the header does, at its empty line or at the end of the bytes. A line of it is a name as it stands, blanks
  *   at both ends included. What looks like a field, a key pair or a comment there is a name too, and nothing else. Each is a line
  *   of the header, in its table and for its limits; there has to be at least one.
@@ -273,9 +275,9 @@ craneholt_number_answer craneholt_sample_number(const uint8_t *file, size_t file
  *   and line 0, also if a list or a pattern comes to one file.
  * - Line skip, byte skip, encoding and endian hold for each file by itself.
  *
- * A name that does not start with `/` is meant from the folder of the header, in every version; to open the files is left to the caller. Where there
- * is more than one, craneholt_data and the calls for samples refuse with 33: examples/merge.c shows how to read the samples file
- * by file. */
+ * A name that does not start with `/` is meant from the folder of the header, in every version; to open the files is left to
+ * the caller. Where there is more than one, craneholt_data and the calls for samples refuse with 33: examples/merge.c shows how
+ * to read the samples file by file. */
 
 /* How many data files there are: `reading.files`. Refuses 1 to 15. */
 craneholt_count_answer craneholt_files(const uint8_t *file, size_t file_length);

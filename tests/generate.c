@@ -530,7 +530,7 @@ static void put_range(struct bytes *b, uint64_t files)
 
 static void put_pattern(struct volume *v)
 {
-    static const char *const starts[] = {"", "s", "slice_", "./a", "/tmp/", "LIST", "x:=", "#", "type:", "100", "-"};
+    static const char *const starts[] = {"", "s", "slice_", "./a", "/nas/", "LIST", "x:=", "#", "type:", "100", "-"};
     static const char *const ends[] = {"", ".raw", "d", "0", ":=y", ".hex.1", "#"};
     put_text(&v->file, starts[random_below(COUNT(starts))]);
     put_conversion(&v->file);

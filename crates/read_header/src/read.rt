@@ -160,7 +160,7 @@ fn read_lines(file: &[u8], from: usize, version: u32) -> ReadAnswer
                 return read_fields::state::refuse(format::HEADER_TOO_LONG, n);
             }
             Span::Found(text_end, next) => {
-                if format::MAX_LINES < n {
+                if format::MAX_LINES < n { // told before what the line says
                     return read_fields::state::refuse(format::TOO_MANY_LINES, n);
                 }
                 let step = read_fields::judge::judge_line(
