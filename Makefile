@@ -79,7 +79,7 @@ $(BUILD)/tokens: tests/tokens.c $(TESTS)
 	@mkdir -p $(BUILD)
 	$(CC) $(STRICT) $(CFLAGS) -pthread -Iinclude tests/tokens.c $(ARCHIVES) -o $@
 
-$(BUILD)/empty $(BUILD)/digits $(BUILD)/rows: $(BUILD)/%: tests/%.c $(TESTS)
+$(BUILD)/empty $(BUILD)/digits $(BUILD)/rows $(BUILD)/kinds: $(BUILD)/%: tests/%.c $(TESTS)
 	@mkdir -p $(BUILD)
 	$(CC) $(STRICT) $(SANITIZE) -Iinclude $< $(ARCHIVES) -o $@
 
@@ -91,6 +91,7 @@ $(BUILD)/inputs: $(wildcard tests/frames/*.c) tests/bytes.c tests/json.c tests/m
 # their answers are the model's, so that it has to agree with the vectors first
 inputs: $(BUILD)/vectors_model $(BUILD)/inputs
 	$(BUILD)/vectors_model tests/vectors
+	$(BUILD)/vectors_model tests/vectors/w5 before-w6
 	$(BUILD)/vectors_model tests/vectors/w4 before-w5
 	$(BUILD)/vectors_model tests/vectors/w2 before-w4
 	$(BUILD)/vectors_model tests/vectors/w1 before-w2
@@ -101,13 +102,15 @@ $(BUILD)/%: examples/%.c examples/files.h include/craneholt.h $(ARCHIVES)
 	@mkdir -p $(BUILD)
 	$(CC) $(STRICT) $(CFLAGS) -Iinclude $< $(ARCHIVES) -o $@
 
-check: $(BUILD)/vectors $(BUILD)/vectors_model $(BUILD)/inputs $(BUILD)/listing $(LISTING) $(BUILD)/peers $(BUILD)/empty $(BUILD)/digits $(BUILD)/rows $(BUILD)/random $(BUILD)/strtod $(BUILD)/tokens $(BUILD)/correct $(BUILD)/merge $(BUILD)/poses $(BUILD)/roof
+check: $(BUILD)/vectors $(BUILD)/vectors_model $(BUILD)/inputs $(BUILD)/listing $(LISTING) $(BUILD)/peers $(BUILD)/empty $(BUILD)/digits $(BUILD)/rows $(BUILD)/kinds $(BUILD)/random $(BUILD)/strtod $(BUILD)/tokens $(BUILD)/correct $(BUILD)/merge $(BUILD)/poses $(BUILD)/roof $(BUILD)/axes
 	$(BUILD)/vectors tests/vectors
+	$(BUILD)/vectors tests/vectors/w5 before-w6
 	$(BUILD)/vectors tests/vectors/w4 before-w5
 	$(BUILD)/vectors tests/vectors/w2 before-w4
 	$(BUILD)/vectors tests/vectors/w1 before-w2
 	$(BUILD)/vectors tests/vectors/base before-w1
 	$(BUILD)/vectors_model tests/vectors
+	$(BUILD)/vectors_model tests/vectors/w5 before-w6
 	$(BUILD)/vectors_model tests/vectors/w4 before-w5
 	$(BUILD)/vectors_model tests/vectors/w2 before-w4
 	$(BUILD)/vectors_model tests/vectors/w1 before-w2
@@ -118,6 +121,7 @@ check: $(BUILD)/vectors $(BUILD)/vectors_model $(BUILD)/inputs $(BUILD)/listing 
 	$(BUILD)/empty
 	$(BUILD)/digits
 	$(BUILD)/rows
+	$(BUILD)/kinds
 	$(BUILD)/random
 	$(BUILD)/strtod
 	$(BUILD)/tokens

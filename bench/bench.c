@@ -244,8 +244,8 @@ static size_t peer_vectors(void *on)
     return vectors(&model, (bench *)on);
 }
 
-/* Headers with so many lines of each kind: what is needed, keys, orientation. The last has all fields of the orientation that can stand
- * together, with numbers as long as a double's. */
+/* Headers with so many lines of each kind: what is needed, keys, orientation. That of 17 lines has kinds, units and centers too, which are
+ * understood as well. The last has all fields of the orientation that can stand together, with numbers as long as a double's. */
 static void headers(bench *b)
 {
     static const char needed[] = "type: unsigned short\ndimension: 2\nsizes: 640 480\nencoding: raw\nendian: little\n";
@@ -268,6 +268,72 @@ static void headers(bench *b)
         b->length = (size_t)sprintf((char *)b->file, "%s\n%s%s%s\n", rows[i].magic, needed, rows[i].more[0], rows[i].more[1]);
         must_hold(rows[i].ours(b) == rows[i].peer(b), rows[i].name);
         compare(rows[i].name, rows[i].ours, rows[i].peer, b, 1);
+    }
+}
+
+/* ---- Axis records ---- */
+
+static size_t our_axes(void *on)
+{
+    bench *b = (bench *)on;
+    craneholt_axis list[CRANEHOLT_MAX_AXES];
+    return craneholt_axes(b->file, b->length, list, sizeof list).count;
+}
+
+static size_t peer_axes(void *on)
+{
+    bench *b = (bench *)on;
+    craneholt_axis list[CRANEHOLT_MAX_AXES];
+    return model_axes(b->file, b->length, list, sizeof list).count;
+}
+
+/* Whether both have the same records. */
+static int same_axes(const bench *b, size_t count)
+{
+    craneholt_axis ours[CRANEHOLT_MAX_AXES], peers[CRANEHOLT_MAX_AXES];
+    return craneholt_axes(b->file, b->length, ours, sizeof ours).count == count
+           && model_axes(b->file, b->length, peers, sizeof peers).count == count && memcmp(ours, peers, count * sizeof *ours) == 0;
+}
+
+/* A field that says one of four texts for each axis, in turn. */
+static void put_per_axis(bench *b, const char *name, const char *const *texts, size_t axes)
+{
+    b->length += (size_t)sprintf((char *)b->file + b->length, "%s:", name);
+    for (size_t i = 0; i < axes; i++)
+        b->length += (size_t)sprintf((char *)b->file + b->length, " %s", texts[i % 4]);
+    b->file[b->length++] = '\n';
+}
+
+/* A header with all four fields. */
+static void put_axes(bench *b, size_t axes)
+{
+    static const char *const sizes[] = {"3", "4", "4", "2"};
+    static const char *const centers[] = {"???", "cell", "cell", "node"};
+    static const char *const kinds[] = {"3-vector", "space", "space", "time"};
+    static const char *const labels[] = {"\"velocity\"", "\"x\"", "\"y of head \\\"b\\\"\"", "\"\""};
+    static const char *const units[] = {"\"mm/s\"", "\"mm\"", "\"mm\"", "\"s\""};
+    b->length = (size_t)sprintf((char *)b->file, "NRRD0005\ntype: uint8\ndimension: %zu\nencoding: raw\n", axes);
+    put_per_axis(b, "sizes", sizes, axes);
+    put_per_axis(b, "centers", centers, axes);
+    put_per_axis(b, "kinds", kinds, axes);
+    put_per_axis(b, "labels", labels, axes);
+    put_per_axis(b, "units", units, axes);
+    b->file[b->length++] = '\n';
+}
+
+/* The header alone, and the records. */
+static void axes(bench *b)
+{
+    static const size_t dimensions[] = {4, CRANEHOLT_MAX_AXES};
+    heading("axis records", "C");
+    for (size_t i = 0; i < sizeof dimensions / sizeof dimensions[0]; i++) {
+        char name[64];
+        put_axes(b, dimensions[i]);
+        snprintf(name, sizeof name, "%zu axes, header read", dimensions[i]);
+        must_hold(our_header(b) == peer_header(b) && same_axes(b, dimensions[i]), name);
+        compare(name, our_header, peer_header, b, 1);
+        snprintf(name, sizeof name, "%zu axes, records", dimensions[i]);
+        compare(name, our_axes, peer_axes, b, 1);
     }
 }
 
@@ -554,6 +620,8 @@ int main(int argc, char **argv)
 
     if (strstr("headers", only))
         headers(&b);
+    if (strstr("axis records", only))
+        axes(&b);
     if (strstr("names of data files", only))
         names();
     for (size_t c = 0; c < sizeof counts / sizeof counts[0]; c++)

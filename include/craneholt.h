@@ -2,8 +2,8 @@
  *
  * It reads headers of versions 1 to 5, with their data in the same file (attached) or in one or more others (detached), finds
  * the data and decodes integer samples (raw, text, hex). It names the files of data in several files. It tells how the array
- * lies in space, in exact decimals. It writes attached files, and headers that say how an array lies in space. It corrects the
- * value of a key in place. It checks the stamps of the roof rig's sweeps.
+ * lies in space, in exact decimals, and what each axis is: centring, kind, label and unit. It writes attached files, and headers
+ * that say how an array lies in space. It corrects the value of a key in place. It checks the stamps of the roof rig's sweeps.
  *
  * How the calls work
  * - A call takes bytes and numbers and answers numbers, by value. It allocates nothing, keeps nothing, opens no file, and
@@ -14,9 +14,10 @@
  * - Every answer starts with a refusal. Number 0: nothing is refused. Otherwise the number says why, the line where (0 if no
  *   line is meant), and NOTHING that was lent has changed; the other numbers of the answer are 0 (a refused
  *   setting answers the length and the count that it was lent).
- * - Lengths are in bytes. In a table an entry is 4 bytes; samples, sizes and coordinates are 8 bytes each, a decimal is 16;
- *   the low byte first. On the machines that the archive is made for these are arrays of uint32_t, int64_t, uint64_t and
- *   craneholt_decimal: lend `list, sizeof list`. A rest too short for an entry or a number is not used and not changed.
+ * - Lengths are in bytes. In a table an entry is 4 bytes; samples, sizes and coordinates are 8 bytes each, a decimal is 16, an
+ *   axis record 32; the low byte first. On the machines that the archive is made for these are arrays of uint32_t, int64_t,
+ *   uint64_t, craneholt_decimal and craneholt_axis: lend `list, sizeof list`. A rest too short for an entry, a number or a record
+ *   is not used and not changed.
  *
  * A file is lent whole: the header and what follows it. A detached header's data is in a second file, which the calls for
  * data take as well; for an attached header lend NULL, 0 there (it is not looked at). Data in more than one file is read file
@@ -37,7 +38,7 @@
 extern "C" {
 #endif
 
-#define CRANEHOLT_VERSION "1.4"
+#define CRANEHOLT_VERSION "1.5"
 
 /* ---- Limits ---- */
 
@@ -52,6 +53,7 @@ extern "C" {
 #define CRANEHOLT_SAMPLE_ROOM 22         /* so much room is always enough */
 #define CRANEHOLT_NAME_ROOM  65634       /* bytes for the name of a data file: so much room is always enough */
 #define CRANEHOLT_ORIENTED_ROOM 8192     /* bytes for what craneholt_write_header writes: so much room is always enough */
+#define CRANEHOLT_AXES_ROOM  512         /* bytes for axis records, CRANEHOLT_MAX_AXES of them: so much room is always enough */
 #define CRANEHOLT_MAX_STEP   2147483647  /* the largest step that craneholt_sweep can be asked to allow */
 
 /* ---- Refusals ---- */
@@ -188,9 +190,10 @@ typedef struct craneholt_find_answer {
 } craneholt_find_answer;
 
 /* The descriptor of a field, without spaces and tabs at its end; in the understood fields, which are dimension, type, encoding,
- * endian, sizes, line skip, byte skip, data file, space, space dimension, space origin, space directions and measurement frame,
- * also without those at its start. A number past the last field is answered as not found, and a line under LIST gives no field.
- * Refuses 1 to 15. */
+ * endian, sizes, line skip, byte skip, data file, space, space dimension, space origin, space directions, measurement frame,
+ * centers, labels, units and kinds, also without those at its start. What an understood field may not say, nothing at all
+ * included, is refused with 11; the other fields are carried, whatever they say. A number past the last field is answered as not
+ * found, and a line under LIST gives no field. Refuses 1 to 15. */
 craneholt_find_answer craneholt_find_field(const uint8_t *file, size_t file_length, uint32_t field);
 
 /* The text of a key's value as it stands in the file: in the last line with the key, LF as "\n" and backslash as "\\".
@@ -227,7 +230,7 @@ craneholt_data_answer craneholt_data(const uint8_t *file, size_t file_length,
 
 typedef struct craneholt_count_answer {
     craneholt_refusal refusal;
-    uint64_t count; /* of samples: the product of the sizes; of decimals; of files */
+    uint64_t count; /* of samples: the product of the sizes; of decimals; of files; of axis records */
 } craneholt_count_answer;
 
 /* All samples, axis 0 fastest, to the front of `list`; what is past them stays. Refuses as craneholt_data, with 19 before 16,
@@ -344,6 +347,58 @@ craneholt_count_answer craneholt_directions(const uint8_t *file, size_t file_len
  * stands in row j of column i is list[i * reading.spacedimension + j]. CRANEHOLT_MAX_SPACE times CRANEHOLT_MAX_SPACE decimals
  * are always enough. */
 craneholt_count_answer craneholt_frame(const uint8_t *file, size_t file_length, void *list, size_t list_length);
+
+/* ---- Axes ----
+ *
+ * What a header says of each axis beside its size. Each of these fields has to say it of every axis, axis 0 first, with spaces and
+ * tabs between two axes:
+ *
+ *     centers: ??? cell cell node                   a centring each; centerings is the same field
+ *     kinds: 3-vector space space time              a kind each; from version 3 on
+ *     labels: "v" "x" "row \"b\"" ""                a string each
+ *     units: "m/s" "mm" "mm" "s"                    a string each; space units is another field, which is carried
+ *
+ * - The centrings are `cell` and `node`, and `???` where it is not known. The kinds are the names of CRANEHOLT_KIND_DOMAIN to
+ *   CRANEHOLT_KIND_3D_MASKED_MATRIX with `-` for `_`, as `2D-masked-symmetric-matrix`; `???` and `none` say that the kind is not
+ *   known. All these words are taken in any case. That an axis has as many samples as its kind asks for is not looked at.
+ * - A string stands in double quotes and may be empty. A quote right after a backslash is inside, so that `\"` does not end the
+ *   string, and neither does the quote of `\\"`. There has to be a blank between two strings, and nothing else may stand beside
+ *   them.
+ * - 11 is refused at the line of the field for a count other than the dimension, also if the field says nothing at all, for a
+ *   word that is not among these, for a quote that is not closed, for two strings without a blank between them, and for anything
+ *   else beside a string. */
+
+enum { CRANEHOLT_CENTRING_UNKNOWN, CRANEHOLT_CENTRING_CELL, CRANEHOLT_CENTRING_NODE };
+
+enum {
+    CRANEHOLT_KIND_UNKNOWN, CRANEHOLT_KIND_DOMAIN, CRANEHOLT_KIND_SPACE, CRANEHOLT_KIND_TIME, CRANEHOLT_KIND_LIST,
+    CRANEHOLT_KIND_POINT, CRANEHOLT_KIND_VECTOR, CRANEHOLT_KIND_COVARIANT_VECTOR, CRANEHOLT_KIND_NORMAL, CRANEHOLT_KIND_STUB,
+    CRANEHOLT_KIND_SCALAR, CRANEHOLT_KIND_COMPLEX, CRANEHOLT_KIND_2_VECTOR, CRANEHOLT_KIND_3_COLOR, CRANEHOLT_KIND_RGB_COLOR,
+    CRANEHOLT_KIND_HSV_COLOR, CRANEHOLT_KIND_XYZ_COLOR, CRANEHOLT_KIND_4_COLOR, CRANEHOLT_KIND_RGBA_COLOR,
+    CRANEHOLT_KIND_3_VECTOR, CRANEHOLT_KIND_3_GRADIENT, CRANEHOLT_KIND_3_NORMAL, CRANEHOLT_KIND_4_VECTOR,
+    CRANEHOLT_KIND_QUATERNION, CRANEHOLT_KIND_2D_SYMMETRIC_MATRIX, CRANEHOLT_KIND_2D_MASKED_SYMMETRIC_MATRIX,
+    CRANEHOLT_KIND_2D_MATRIX, CRANEHOLT_KIND_2D_MASKED_MATRIX, CRANEHOLT_KIND_3D_SYMMETRIC_MATRIX,
+    CRANEHOLT_KIND_3D_MASKED_SYMMETRIC_MATRIX, CRANEHOLT_KIND_3D_MATRIX, CRANEHOLT_KIND_3D_MASKED_MATRIX
+};
+
+/* The record of an axis. A label or a unit is told by the place of its first byte in the file lent and by its length, without its
+ * quotes and with its backslashes; its closing quote follows it, and no byte 0. Where the field is not given both are 0, and an
+ * empty string has the place after its first quote and length 0. A setting of a key moves the places with the lines before them:
+ * ask again after it. */
+typedef struct craneholt_axis {
+    uint64_t size;     /* as in `reading.sizes` */
+    uint32_t centring; /* CRANEHOLT_CENTRING_UNKNOWN to CRANEHOLT_CENTRING_NODE */
+    uint32_t kind;     /* CRANEHOLT_KIND_UNKNOWN to CRANEHOLT_KIND_3D_MASKED_MATRIX */
+    uint32_t labelplace;
+    uint32_t labellength;
+    uint32_t unitplace;
+    uint32_t unitlength;
+} craneholt_axis;
+
+/* The records of all axes, axis 0 first, to the front of `list`; what is past them stays. The count is `reading.dimension`.
+ * Refuses 1 to 15, 22 if the list has fewer records. CRANEHOLT_MAX_AXES records, which are CRANEHOLT_AXES_ROOM bytes, are always
+ * enough. */
+craneholt_count_answer craneholt_axes(const uint8_t *file, size_t file_length, void *list, size_t list_length);
 
 /* ---- Writing ---- */
 

@@ -28,6 +28,7 @@ struct calls {
     craneholt_count_answer (*files)(const uint8_t *, size_t);
     craneholt_write_answer (*file_name)(const uint8_t *, size_t, uint64_t, uint8_t *, size_t);
     craneholt_share_answer (*sample_file)(const uint8_t *, size_t, uint64_t);
+    craneholt_count_answer (*axes)(const uint8_t *, size_t, void *, size_t);
 };
 
 /* the table of craneholt_ or model_ */
@@ -37,7 +38,8 @@ struct calls {
         prefix##_copy_value, prefix##_data, prefix##_check_samples, prefix##_samples,       \
         prefix##_sample_number, prefix##_write, prefix##_origin, prefix##_directions,       \
         prefix##_frame, prefix##_write_header, prefix##_set_key, prefix##_listing,          \
-        prefix##_sweep, prefix##_files, prefix##_file_name, prefix##_sample_file            \
+        prefix##_sweep, prefix##_files, prefix##_file_name, prefix##_sample_file,           \
+        prefix##_axes                                                                       \
     }
 
 /* The structs as the archive has them: their sizes, and where members lie. What does not hold does not compile. */
@@ -73,6 +75,14 @@ STRUCT_IS(craneholt_sweep_answer, 24);
 MEMBER_IS(craneholt_sweep_answer, offset, 8);
 MEMBER_IS(craneholt_sweep_answer, wrong, 12);
 MEMBER_IS(craneholt_sweep_answer, row, 16);
+STRUCT_IS(craneholt_axis, 32);
+MEMBER_IS(craneholt_axis, centring, 8);
+MEMBER_IS(craneholt_axis, kind, 12);
+MEMBER_IS(craneholt_axis, labelplace, 16);
+MEMBER_IS(craneholt_axis, labellength, 20);
+MEMBER_IS(craneholt_axis, unitplace, 24);
+MEMBER_IS(craneholt_axis, unitlength, 28);
+typedef char axes_room_is_all_records[CRANEHOLT_AXES_ROOM == CRANEHOLT_MAX_AXES * sizeof(craneholt_axis) ? 1 : -1];
 STRUCT_IS(craneholt_decimal, 16);
 MEMBER_IS(craneholt_decimal, power, 8);
 MEMBER_IS(craneholt_decimal, kind, 12);

@@ -42,6 +42,7 @@ int main(void)
     expect("files", craneholt_files(NULL, 0).refusal, CRANEHOLT_NO_MAGIC, 1);
     expect("file_name", craneholt_file_name(NULL, 0, 0, NULL, 0).refusal, CRANEHOLT_NO_MAGIC, 1);
     expect("sample_file", craneholt_sample_file(NULL, 0, 0).refusal, CRANEHOLT_NO_MAGIC, 1);
+    expect("axes", craneholt_axes(NULL, 0, NULL, 0).refusal, CRANEHOLT_NO_MAGIC, 1);
     printf("empty: %d passed, %d failed\n", passed, failed);
     return failed != 0;
 }

@@ -141,9 +141,8 @@ expect "slice missing" "slice03.txt: cannot be opened" "$("$build/merge" bad.nhd
 printf '\003\000\004' > raw2
 expect "slice too short" "raw2: the file has fewer bytes than its sizes ask for" "$("$build/merge" raw.nhdr hex.nhdr 2>&1 || true)"
 sed '/^slice01/d' head4.nhdr > bad.nhdr
-expect "name missing" \
-    "bad.nhdr: the field cannot have this value, no name follows LIST, a byte skip of -1 stands with text or hex, or the number of data files does not fit the sizes" \
-    "$("$build/merge" bad.nhdr head4.nhdr 2>&1 || true)"
+bad="the field cannot have this value, no name follows LIST, a byte skip of -1 stands with text or hex, or the number of data files does not fit the sizes"
+expect "name missing" "bad.nhdr: $bad" "$("$build/merge" bad.nhdr head4.nhdr 2>&1 || true)"
 rm bad.nhdr
 
 # names under LIST stay where a key is set
@@ -161,6 +160,35 @@ axis 3: 0 0 3
 last sample: 1 2 3.2999999999999998' \
     "$("$build/poses" poses.nrrd)"
 expect "no pose" "sweep.nrrd: has no space origin, or no space directions" "$("$build/poses" sweep.nrrd 2>&1 || true)"
+
+# all four fields, a quote inside a label, and an empty one
+expect "axes" \
+'axis       size centring kind     label             unit
+   0          3 unknown  3-vector "velocity"        "mm/s"
+   1          2 cell     space    "x"               "mm"
+   2          2 cell     space    "y of head \"b\"" "mm"
+   3          2 node     time     ""                "s"' \
+    "$("$build/axes" axes.nrrd)"
+expect "axes without the fields" \
+'axis       size centring kind    label unit
+   0          2 unknown  unknown -     -
+   1          2 unknown  unknown -     -' \
+    "$("$build/axes" sweep.nrrd)"
+expect "a key set before the labels" "$("$build/axes" axes.nrrd)" "$("$build/correct" axes.nrrd 37 > /dev/null && "$build/axes" axes.nrrd)"
+sed 's/ time$/ times/' axes.nrrd > bad.nrrd
+expect "unknown kind" "bad.nrrd:9: $bad" "$("$build/axes" bad.nrrd 2>&1 || true)"
+sed '/^labels/s/ ""$//' axes.nrrd > bad.nrrd
+expect "label missing" "bad.nrrd:10: $bad" "$("$build/axes" bad.nrrd 2>&1 || true)"
+sed '/^units/s/"$//' axes.nrrd > bad.nrrd
+expect "quote open" "bad.nrrd:11: $bad" "$("$build/axes" bad.nrrd 2>&1 || true)"
+sed '/^centers/d; s/^#.*/centers: ??? cell cell node/' axes.nrrd > bad.nrrd
+expect "centers before dimension" \
+    "bad.nrrd:3: the field comes before the one that it needs (dimension; space or space dimension)" \
+    "$("$build/axes" bad.nrrd 2>&1 || true)"
+sed '/^encoding/d' axes.nrrd > bad.nrrd
+expect "a field missing" \
+    "bad.nrrd: a needed field is missing (dimension, type, encoding, sizes, endian)" \
+    "$("$build/axes" bad.nrrd 2>&1 || true)"
 
 # the counter of the sample file runs through its end; one step is 500
 expect "steps right" \

@@ -8,7 +8,8 @@
 enum { RAW, TEXT, HEX };
 enum {
     DIMENSION, TYPE, ENCODING, ENDIAN, SIZES, LINE_SKIP, BYTE_SKIP, DATA_FILE,
-    SPACE = 16, SPACE_DIMENSION, SPACE_UNITS, SPACE_ORIGIN, SPACE_DIRECTIONS, MEASUREMENT_FRAME
+    SPACE = 16, SPACE_DIMENSION, SPACE_UNITS, SPACE_ORIGIN, SPACE_DIRECTIONS, MEASUREMENT_FRAME,
+    CENTERS = 26, LABELS, UNITS, KINDS
 };
 
 #define COUNT(list) (sizeof(list) / sizeof(list)[0])
@@ -369,7 +370,8 @@ static const char *const bad_lines[] = {
     "units: x", "space: left\nspace directions: (1)", "space: RAS\nspace dimension: 3", "space: RAS\nspace origin: (1,2)",
     "space dimension: 3\nspace: LPS", "space dimension: 0", "space dimension: 9", "space dimension: 3 3", "space: 3D",
     "space dimension: 2\nspace origin: (1,2) (1,2)", "space: ", "space dimension:  ", "a:=b: c", "a: b:=c", "NRRD0004",
-    " ", "\t", " # no comment",
+    " ", "\t", " # no comment", "centers: none", "centerings: cell", "centers: ", "kinds:  \t", "kinds: domain space times",
+    "labels: \"x", "labels: x", "labels: ''", "units: \"\" \"a\\\\\"", "units: \"a\"\"b\"", "units: ", "labels: \"a\" b",
 };
 
 static void put_bad_line(struct maker *m)
@@ -467,12 +469,14 @@ static void put_space(struct volume *v, int field)
     put_decimal(&v->file, v->space);
 }
 
-/* Nine in ten are right. */
+/* Of the vectors nine in ten are right. */
 static void put_orientation(struct volume *v, int field)
 {
     unsigned faults = random_chance(90) ? 0 : 10;
     size_t components = v->space > 0 ? v->space : 3;
-    if (field == SPACE_DIRECTIONS)
+    if (field == SPACE || field == SPACE_DIMENSION)
+        put_space(v, field);
+    else if (field == SPACE_DIRECTIONS)
         put_vectors(&v->file, v->dimension, components, 25, faults);
     else
         put_vectors(&v->file, field == SPACE_ORIGIN ? 1 : components, components, faults, faults);
@@ -606,11 +610,99 @@ static void put_names(struct maker *m)
         put_name(m);
 }
 
+/* ---- words and strings, one for each axis */
+
+/* A word that is in neither list, or, as `none`, not in that of the centrings. */
+static void put_bad_word(struct bytes *b)
+{
+    static const char *const bad[] = {"cel", "cells", "nodes", "??", "????", "unknown", "domains", "spac", "3D", "2-vector-", "RGB",
+                                      "RGB_color", "covariant", "3D-masked-symmetric-matri", "\"cell\"", "cell,node", "0"};
+    put_text(b, random_chance(30) ? "none" : bad[random_below(COUNT(bad))]);
+}
+
+/* Words of the rows, the first one more often; with faults in a hundred another number of them, a bad one, or no blank between
+ * two. */
+static void put_words(struct bytes *b, const char *const (*names)[2], size_t rows, size_t count, unsigned faults)
+{
+    if (random_chance(faults))
+        count = random_below(count + 3);
+    for (size_t i = 0; i < count; i++) {
+        size_t row = random_chance(15) ? 0 : random_below(rows);
+        if (i > 0 && !random_chance(faults / 4))
+            put_gap(b);
+        if (random_chance(faults))
+            put_bad_word(b);
+        else
+            put_word(b, names[row][1] != NULL && random_chance(50) ? names[row][1] : names[row][0]);
+    }
+}
+
+/* What stands between the quotes of a string: now and then nothing, quotes after one backslash or more, what is a mark elsewhere.
+ * It does not end in a backslash. */
+static void put_inside(struct bytes *b)
+{
+    static const char *const pieces[] = {"\\\"", "\\\\\"", "\\\\\\\"", "\\", "\\\\", "\\n", " ", "\t", "  ", ": ", ":=", "#", "'",
+                                         "%d", "(1,2)", "x", "mm", "label 0", "LIST", ","};
+    size_t count = random_chance(20) ? 0 : 1 + random_below(random_chance(95) ? 5 : 80);
+    while (count-- > 0)
+        put_text(b, pieces[random_below(COUNT(pieces))]);
+    if (b->at[b->length - 1] == '\\')
+        put_byte(b, '.');
+}
+
+/* With faults in a hundred a quote is missing, is another one, or stands after a backslash, or something stands beside it. */
+static void put_string(struct bytes *b, unsigned faults)
+{
+    if (!random_chance(faults / 2))
+        put_byte(b, random_chance(faults / 4) ? '\'' : '"');
+    put_inside(b);
+    if (random_chance(faults / 2))
+        put_text(b, random_chance(50) ? "\\" : "\\\\");
+    if (!random_chance(faults / 2))
+        put_byte(b, '"');
+    if (random_chance(faults / 4))
+        put_any(b, "x\"\\,", 1);
+}
+
+/* With faults in a hundred also another number of them, or no blank between two. */
+static void put_strings(struct bytes *b, size_t count, unsigned faults)
+{
+    if (random_chance(faults))
+        count = random_below(count + 3);
+    for (size_t i = 0; i < count; i++) {
+        if (i > 0 && !random_chance(faults / 2))
+            put_gap(b);
+        put_string(b, faults);
+    }
+}
+
+/* More than nine in ten are right. */
+static void put_axes(struct volume *v, int field)
+{
+    unsigned faults = random_chance(94) ? 0 : 10;
+    if (field == CENTERS)
+        put_words(&v->file, model_centrings, MODEL_CENTRINGS, v->dimension, faults);
+    else if (field == KINDS)
+        put_words(&v->file, model_kinds, MODEL_KINDS, v->dimension, faults);
+    else
+        put_strings(&v->file, v->dimension, faults);
+}
+
 /* ---- fields of a header, put in order */
+
+/* A field of one number. */
+static void put_alone(struct volume *v, int field)
+{
+    if (field == BYTE_SKIP && v->from_end) {
+        put_from_end(&v->file);
+        return;
+    }
+    put_zeros(&v->file);
+    put_decimal(&v->file, field == DIMENSION ? v->dimension : field == LINE_SKIP ? v->line_skip : v->byte_skip);
+}
 
 static void put_descriptor(struct volume *v, int field)
 {
-    uint64_t number = field == DIMENSION ? v->dimension : field == LINE_SKIP ? v->line_skip : v->byte_skip;
     switch (field) {
     case TYPE:
         put_type(v);
@@ -630,21 +722,20 @@ static void put_descriptor(struct volume *v, int field)
     case DIMENSION:
     case LINE_SKIP:
     case BYTE_SKIP:
-        if (field == BYTE_SKIP && v->from_end) {
-            put_from_end(&v->file);
-            return;
-        }
-        put_zeros(&v->file);
-        put_decimal(&v->file, number);
+        put_alone(v, field);
         return;
     case SPACE:
     case SPACE_DIMENSION:
-        put_space(v, field);
-        return;
     case SPACE_ORIGIN:
     case SPACE_DIRECTIONS:
     case MEASUREMENT_FRAME:
         put_orientation(v, field);
+        return;
+    case CENTERS:
+    case LABELS:
+    case UNITS:
+    case KINDS:
+        put_axes(v, field);
         return;
     default:
         put_any(&v->file, "0123456789.,()\"abc :=\\%#\t", random_below(14));
@@ -697,6 +788,8 @@ static void choose_fields(struct maker *m)
     m->wanted[SPACE_DIMENSION] = v->oriented && (!m->wanted[SPACE] || random_chance(3));
     for (int field = SPACE_ORIGIN; field <= MEASUREMENT_FRAME; field++)
         m->wanted[field] = v->oriented && random_chance(70);
+    for (int field = CENTERS; field <= KINDS; field++)
+        m->wanted[field] = v->axed && random_chance(60);
     if (random_chance(v->files == 0 ? 40 : 3)) /* a needed field missing */
         m->wanted[random_below(SIZES + 1)] = 0;
 }
@@ -874,7 +967,7 @@ static void put_data(struct volume *v, struct bytes *data)
 
 /* ---- damage */
 
-static const char curious[] = "\r\n\n:=# \\\t09aA%+-n\001\177\377";
+static const char curious[] = "\r\n\n:=# \\\t09aA%+-n?\"\"\001\177\377";
 
 /* The line around a place: its start and its length with ending. */
 static size_t line_around(const struct bytes *b, size_t at, size_t *length)
@@ -1006,12 +1099,13 @@ static void choose_volume(struct volume *v)
     v->version = random_chance(70) ? 4 + (uint32_t)random_below(2) : 1 + (uint32_t)random_below(3);
     v->oriented = v->version >= 4 && random_chance(78);
     v->space = 0;
+    v->axed = random_chance(55);
     v->type = (uint32_t)random_below(random_chance(90) ? 8 : MODEL_TYPES);
-    v->detached = random_chance(55);
+    v->detached = random_chance(58);
     v->sweep = 0;
     if (random_chance(30))
         choose_sweep(v);
-    v->from_end = random_chance(12);
+    v->from_end = random_chance(13);
     v->encoding = v->from_end && random_chance(70) ? RAW : (uint32_t)random_below(MODEL_ENCODINGS);
     v->endian = (uint32_t)random_below(2);
     if ((model_types[v->type].bytes == 1 || v->encoding == TEXT) && random_chance(70))
@@ -1078,12 +1172,36 @@ static void make_long_name(struct volume *v, size_t length)
     v->header = v->file.length;
 }
 
+/* A header of so many bytes, its empty line included, of which a label is nearly all; one sample follows. */
+static void make_long_label(struct volume *v, size_t length)
+{
+    v->version = 1 + (uint32_t)random_below(5);
+    v->type = CRANEHOLT_UINT8;
+    v->encoding = RAW;
+    v->detached = 0;
+    v->dimension = v->sizes[0] = v->count = v->files = 1;
+    v->sweep = v->from_end = 0;
+    v->file.length = 0;
+    put_text(&v->file, "NRRD000");
+    put_decimal(&v->file, v->version);
+    put_text(&v->file, "\ndimension: 1\nsizes: 1\ntype: uint8\nencoding: raw\nlabels: \"");
+    while (v->file.length + 3 < length)
+        put_byte(&v->file, (uint8_t)('a' + random_below(26)));
+    put_text(&v->file, "\"\n\n");
+    v->header = v->file.length;
+    put_byte(&v->file, (uint8_t)random_bits());
+}
+
 void make_large_volume(struct volume *v)
 {
     size_t near = random_below(6), lines;
     make_undamaged(v);
     if (random_chance(20)) {
         make_long_name(v, 65532 + near);
+        return;
+    }
+    if (random_chance(10)) {
+        make_long_label(v, 65532 + near);
         return;
     }
     lines = model_read_header(v->file.at, v->file.length).reading.lines;

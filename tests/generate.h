@@ -42,6 +42,7 @@ struct volume {
     int from_end; /* the byte skip is -1, and byte_skip 0 */
     int oriented;  /* some of the five fields of the orientation are given */
     size_t space;  /* the dimension of the space given last, 0 before */
+    int axed;      /* some of the four fields of the axis records are given */
     int sweep;      /* a sweep of the roof rig, or nearly one: a key with an offset, and stamps that step */
     uint32_t stamp; /* of the row before */
     struct bytes file, second;
@@ -52,7 +53,7 @@ struct volume {
 void make_volume(struct volume *v);
 
 /* A file whose header is near the limits of length or lines, also by one long
- * name, or which is near the longest file of the listing. */
+ * name or label, or which is near the longest file of the listing. */
 void make_large_volume(struct volume *v);
 
 /* A key or value, in most cases one that may be set; keys repeat often. Half

@@ -1,10 +1,10 @@
 /*
  * A second implementation of every call of craneholt.h, written from the
- * rules of document 01 and of requests W1, W2, W4 and W5 of document 02 alone,
- * to compare the library with. It is plain and slow on purpose and allocates
- * memory where that is the simplest way. The parts below stand in the order of
- * document 01's sections and cite them; points that the documents leave open
- * are taken as docs/DECISIONS.md says.
+ * rules of document 01 and of requests W1, W2, W4, W5 and W6 of document 02
+ * alone, to compare the library with. It is plain and slow on purpose and
+ * allocates memory where that is the simplest way. The parts below stand in the
+ * order of document 01's sections and cite them; points that the documents
+ * leave open are taken as docs/DECISIONS.md says.
  */
 #include "model.h"
 
@@ -284,7 +284,8 @@ static int read_vectors(const uint8_t *text, size_t length, size_t count, size_t
 
 enum field {
     DIMENSION, TYPE, ENCODING, ENDIAN, SIZES, LINE_SKIP, BYTE_SKIP, DATA_FILE,
-    SPACE = 16, SPACE_DIMENSION, SPACE_UNITS, SPACE_ORIGIN, SPACE_DIRECTIONS, MEASUREMENT_FRAME
+    SPACE = 16, SPACE_DIMENSION, SPACE_UNITS, SPACE_ORIGIN, SPACE_DIRECTIONS, MEASUREMENT_FRAME,
+    CENTERS = 26, LABELS, UNITS, KINDS
 };
 
 /* "Understood fields", "Carried fields", "Versions", "Order" */
@@ -315,10 +316,10 @@ const struct model_field model_fields[MODEL_FIELDS] = {
     {"thicknesses", NULL, 4, MODEL_PER_AXIS},
     {"axis mins", "axismins", 1, MODEL_PER_AXIS},
     {"axis maxs", "axismaxs", 1, MODEL_PER_AXIS},
-    {"centers", "centerings", 1, MODEL_PER_AXIS},
-    {"labels", NULL, 1, MODEL_PER_AXIS},
-    {"units", NULL, 1, MODEL_PER_AXIS},
-    {"kinds", NULL, 3, MODEL_PER_AXIS},
+    {"centers", "centerings", 1, MODEL_PER_AXIS | MODEL_UNDERSTOOD},
+    {"labels", NULL, 1, MODEL_PER_AXIS | MODEL_UNDERSTOOD},
+    {"units", NULL, 1, MODEL_PER_AXIS | MODEL_UNDERSTOOD},
+    {"kinds", NULL, 3, MODEL_PER_AXIS | MODEL_UNDERSTOOD},
 };
 
 enum { UINT32 = 5, FLOAT = 8 }; /* the type of a sweep (W4); the first without integer samples */
@@ -361,6 +362,45 @@ const struct model_space model_spaces[MODEL_SPACES] = {
     {{"3D-left-handed"}, 3},
     {{"3D-right-handed-time"}, 4},
     {{"3D-left-handed-time"}, 4},
+};
+
+/* W6 has these words itself: `none` is not among them */
+const char *const model_centrings[MODEL_CENTRINGS][2] = {{"???"}, {"cell"}, {"node"}};
+
+/* section 6 of source document 000, its last row first */
+const char *const model_kinds[MODEL_KINDS][2] = {
+    {"???", "none"},
+    {"domain"},
+    {"space"},
+    {"time"},
+    {"list"},
+    {"point"},
+    {"vector"},
+    {"covariant-vector"},
+    {"normal"},
+    {"stub"},
+    {"scalar"},
+    {"complex"},
+    {"2-vector"},
+    {"3-color"},
+    {"RGB-color"},
+    {"HSV-color"},
+    {"XYZ-color"},
+    {"4-color"},
+    {"RGBA-color"},
+    {"3-vector"},
+    {"3-gradient"},
+    {"3-normal"},
+    {"4-vector"},
+    {"quaternion"},
+    {"2D-symmetric-matrix"},
+    {"2D-masked-symmetric-matrix"},
+    {"2D-matrix"},
+    {"2D-masked-matrix"},
+    {"3D-symmetric-matrix"},
+    {"3D-masked-symmetric-matrix"},
+    {"3D-matrix"},
+    {"3D-masked-matrix"},
 };
 
 /* Whether endian is needed ("Needed"). */
@@ -543,6 +583,61 @@ static int understand_files(struct files *f, const uint8_t *text, size_t length)
            && next_step(&t, f) && last_axes(&t, f) && pattern_count(f) > 0;
 }
 
+/* ---- W6: words and strings, one for each axis */
+
+/* The row that has the word, or the number of rows. */
+static uint32_t row_of(const uint8_t *word, size_t length, const char *const (*names)[2], uint32_t rows)
+{
+    uint32_t row = 0;
+    while (row < rows && !is_word(word, length, names[row][0])
+           && (names[row][1] == NULL || !is_word(word, length, names[row][1])))
+        row++;
+    return row;
+}
+
+/* True if the text is exactly count words of the rows, parted by blanks. */
+static int read_words(const uint8_t *text, size_t length, size_t count, const char *const (*names)[2], uint32_t rows,
+                      uint32_t *numbers)
+{
+    struct tokens t = {text, length, 0};
+    const uint8_t *word;
+    size_t word_length, found = 0;
+    while (next_token(&t, &word, &word_length)) {
+        uint32_t row = row_of(word, word_length, names, rows);
+        if (found == count || row == rows)
+            return 0;
+        numbers[found++] = row;
+    }
+    return found == count;
+}
+
+/* A string: where it starts in its descriptor, after the quote, and its length. */
+struct string {
+    size_t start, length;
+};
+
+/* True if the text is exactly count strings in double quotes, parted by blanks; a quote right after a backslash is inside. */
+static int read_strings(const uint8_t *text, size_t length, size_t count, struct string *strings)
+{
+    size_t at = 0, found = 0;
+    while (at < length) {
+        size_t start = at + 1;
+        if (found == count || text[at] != '"')
+            return 0;
+        for (at = start; at < length && (text[at] != '"' || text[at - 1] == '\\'); )
+            at++;
+        if (at == length)
+            return 0;
+        strings[found++] = (struct string){start, at - start};
+        at++;
+        if (at < length && !is_space_or_tab(text[at]))
+            return 0;
+        while (at < length && is_space_or_tab(text[at]))
+            at++;
+    }
+    return found == count;
+}
+
 /* ---- Lines and headers: reading */
 
 struct pair {
@@ -561,6 +656,8 @@ struct header {
     struct files files;
     struct line names[LINE_LIMIT]; /* under LIST */
     size_t name_count;
+    uint32_t centrings[AXES], kinds[AXES]; /* 0 where the field is not given */
+    struct string labels[AXES], units[AXES];
 };
 
 /* The version that the first line tells, or 0. */
@@ -654,6 +751,39 @@ static int understand_space(const uint8_t *text, size_t length, craneholt_readin
     return 0;
 }
 
+/* The fields of the axis records (W6). */
+static int understand_axes(struct header *h, int field, const uint8_t *text, size_t length)
+{
+    size_t axes = h->reading.dimension;
+    if (field == CENTERS)
+        return read_words(text, length, axes, model_centrings, MODEL_CENTRINGS, h->centrings);
+    if (field == KINDS)
+        return read_words(text, length, axes, model_kinds, MODEL_KINDS, h->kinds);
+    return read_strings(text, length, axes, field == LABELS ? h->labels : h->units);
+}
+
+/* The fields of the orientation (W2). */
+static int understand_orientation(struct header *h, int field, const uint8_t *text, size_t length)
+{
+    craneholt_reading *r = &h->reading;
+    uint64_t number;
+    switch (field) {
+    case SPACE:
+        return understand_space(text, length, r);
+    case SPACE_DIMENSION:
+        if (!read_numbers(text, length, 1, 1, SPACE_AXES, &number))
+            return 0;
+        r->spacedimension = (uint32_t)number;
+        return 1;
+    case SPACE_ORIGIN:
+        return r->origin = read_vectors(text, length, 1, r->spacedimension, 0, h->origin);
+    case SPACE_DIRECTIONS:
+        return r->directions = read_vectors(text, length, r->dimension, r->spacedimension, 1, h->directions);
+    default:
+        return r->frame = read_vectors(text, length, r->spacedimension, r->spacedimension, 0, h->frame);
+    }
+}
+
 /* refusal 11: takes the meaning of an understood field from its trimmed descriptor */
 static int understand(struct header *h, int field, const uint8_t *text, size_t length)
 {
@@ -678,21 +808,15 @@ static int understand(struct header *h, int field, const uint8_t *text, size_t l
     case BYTE_SKIP:
         r->fromend = length == 2 && text[0] == '-' && text[1] == '1'; /* W1 */
         return r->fromend || read_numbers(text, length, 1, 0, LIMIT32, &r->byteskip);
-    case SPACE:
-        return understand_space(text, length, r);
-    case SPACE_DIMENSION:
-        if (!read_numbers(text, length, 1, 1, SPACE_AXES, &number))
-            return 0;
-        r->spacedimension = (uint32_t)number;
-        return 1;
-    case SPACE_ORIGIN:
-        return r->origin = read_vectors(text, length, 1, r->spacedimension, 0, h->origin);
-    case SPACE_DIRECTIONS:
-        return r->directions = read_vectors(text, length, r->dimension, r->spacedimension, 1, h->directions);
-    case MEASUREMENT_FRAME:
-        return r->frame = read_vectors(text, length, r->spacedimension, r->spacedimension, 0, h->frame);
-    default:
+    case DATA_FILE:
         return understand_files(&h->files, text, length);
+    case CENTERS:
+    case LABELS:
+    case UNITS:
+    case KINDS:
+        return understand_axes(h, field, text, length);
+    default:
+        return understand_orientation(h, field, text, length);
     }
 }
 
@@ -876,6 +1000,8 @@ static int read_header(struct header *h, const uint8_t *file, size_t length)
 {
     memset(&h->reading, 0, sizeof h->reading);
     memset(h->present, 0, sizeof h->present);
+    memset(h->centrings, 0, sizeof h->centrings);
+    memset(h->kinds, 0, sizeof h->kinds);
     h->pair_count = h->name_count = 0;
     h->reading.endian = NOT_GIVEN;
     h->reading.space = MODEL_SPACES; /* not given */
@@ -1249,6 +1375,38 @@ craneholt_count_answer model_frame(const uint8_t *file, size_t file_length, void
     struct header h;
     size_t count = read_header(&h, file, file_length) && h.reading.frame ? h.reading.spacedimension : 0;
     return hand_decimals(h.refusal, h.frame, count * count, list, list_length);
+}
+
+/* ---- W6: the axis records */
+
+/* Place in the file and length of the string of an axis; 0 and 0 where the field is not given. */
+static struct string string_in_file(const struct header *h, int field, const struct string *strings, size_t axis)
+{
+    if (!h->present[field])
+        return (struct string){0, 0};
+    return (struct string){h->descriptor[field] + strings[axis].start, strings[axis].length};
+}
+
+/* A record: 8 bytes, and six numbers of 4. */
+static void store_axis(const struct header *h, size_t axis, void *list)
+{
+    struct string label = string_in_file(h, LABELS, h->labels, axis), unit = string_in_file(h, UNITS, h->units, axis);
+    const uint64_t numbers[] = {h->centrings[axis], h->kinds[axis], label.start, label.length, unit.start, unit.length};
+    store(list, 4 * axis, 8, h->reading.sizes[axis]);
+    for (size_t i = 0; i < 6; i++)
+        store(list, 8 * axis + 2 + i, 4, numbers[i]);
+}
+
+craneholt_count_answer model_axes(const uint8_t *file, size_t file_length, void *list, size_t list_length)
+{
+    struct header h;
+    if (read_header(&h, file, file_length) && h.reading.dimension > list_length / 32)
+        h.refusal.number = 22;
+    if (h.refusal.number != 0)
+        return (craneholt_count_answer){h.refusal, 0};
+    for (size_t axis = 0; axis < h.reading.dimension; axis++)
+        store_axis(&h, axis, list);
+    return (craneholt_count_answer){h.refusal, h.reading.dimension};
 }
 
 /* ---- Texts that are put together */

@@ -8,7 +8,9 @@ enum {
     MODEL_FIELDS = 30,
     MODEL_TYPES = 10,
     MODEL_ENCODINGS = 3,
-    MODEL_SPACES = 12
+    MODEL_SPACES = 12,
+    MODEL_CENTRINGS = 3,
+    MODEL_KINDS = 32
 };
 
 /* what a field comes after, and whether it is understood */
@@ -44,6 +46,10 @@ extern const struct model_type model_types[MODEL_TYPES];
 extern const char *const model_encodings[MODEL_ENCODINGS][3];
 extern const struct model_space model_spaces[MODEL_SPACES];
 
+/* the centrings and the kinds by number, each with another word for it or NULL; 0 is unknown */
+extern const char *const model_centrings[MODEL_CENTRINGS][2];
+extern const char *const model_kinds[MODEL_KINDS][2];
+
 craneholt_read_answer model_read_header(const uint8_t *file, size_t file_length);
 craneholt_read_answer model_read(const uint8_t *file, size_t file_length, void *table, size_t table_length);
 craneholt_find_answer model_find_field(const uint8_t *file, size_t file_length, uint32_t field);
@@ -72,6 +78,7 @@ craneholt_write_answer model_write(uint64_t version, const void *sizes, size_t s
 craneholt_count_answer model_origin(const uint8_t *file, size_t file_length, void *list, size_t list_length);
 craneholt_count_answer model_directions(const uint8_t *file, size_t file_length, void *list, size_t list_length);
 craneholt_count_answer model_frame(const uint8_t *file, size_t file_length, void *list, size_t list_length);
+craneholt_count_answer model_axes(const uint8_t *file, size_t file_length, void *list, size_t list_length);
 craneholt_write_answer model_write_header(uint64_t version, const void *sizes, size_t sizes_length,
                                           uint64_t sampletype, uint64_t encoding, uint64_t endian,
                                           const void *orientation, size_t orientation_length,

@@ -70,7 +70,7 @@ static void lend_nothing(void)
 
 /* places in the answer of a reading */
 enum {
-    AXES = 4, SIZES = 8, LENGTH = 27, LINES, FROM_END, ORIGIN_GIVEN, DIRECTIONS_GIVEN, FRAME_GIVEN, SPACE, SPACE_AXES,
+    DIMENSION = 4, SIZES = 8, LENGTH = 27, LINES, FROM_END, ORIGIN_GIVEN, DIRECTIONS_GIVEN, FRAME_GIVEN, SPACE, SPACE_AXES,
     DATA_FILES, FIELD_LINES
 };
 
@@ -252,10 +252,15 @@ static struct answer run_sample_file(const struct calls *calls, uint8_t *b)
     return of_numbers(a.refusal, a.file, a.byte, 0);
 }
 
+static struct answer run_axes(const struct calls *calls, uint8_t *b)
+{
+    return of_count(calls->axes(PART(file), PART(list)));
+}
+
 enum call {
     READ_HEADER, READ, FIND_FIELD, FIND_KEY, COPY_VALUE, DATA, CHECK_SAMPLES, SAMPLES,
     SAMPLE_NUMBER, WRITE, ORIGIN, DIRECTIONS, FRAME, WRITE_HEADER, SET_KEY, LISTING, SWEEP,
-    FILES, FILE_NAME, SAMPLE_FILE, CALL_COUNT
+    FILES, FILE_NAME, SAMPLE_FILE, AXES, CALL_COUNT
 };
 
 enum { NUMBERS = 34 }; /* of refusal, and 0 for none */
@@ -274,6 +279,7 @@ static struct {
     {"set_key", run_set_key},             {"listing", run_listing},
     {"sweep", run_sweep},                 {"files", run_files},
     {"file_name", run_file_name},         {"sample_file", run_sample_file},
+    {"axes", run_axes},
 };
 
 /* how often each number came from each call: with line 0, with a line */
@@ -301,6 +307,13 @@ static struct {
 static struct {
     unsigned long lists, patterns, names, several, too_early, bad, unfit, list_settings, pattern_settings;
 } named;
+
+/* headers that are accepted with one or more of the fields of the axis records, and with each of them; with a quote inside a string,
+ * and with an empty string; headers that are refused with 11 at a line of one of the four; lists of records that are too short for a
+ * header that is accepted; and settings that are accepted on a header with labels or units */
+static struct {
+    unsigned long headers, centers, labels, units, kinds, quotes, empty, bad, too_short, settings;
+} axed;
 
 /* ---- comparing */
 
@@ -485,7 +498,7 @@ static void check_orientation(const struct answer *header)
     count_orientation(header);
     check_decimals(ORIGIN, n * header->numbers[ORIGIN_GIVEN]);
     check_decimals(FRAME, n * n * header->numbers[FRAME_GIVEN]);
-    directions = check_decimals(DIRECTIONS, n * header->numbers[AXES] * header->numbers[DIRECTIONS_GIVEN]);
+    directions = check_decimals(DIRECTIONS, n * header->numbers[DIMENSION] * header->numbers[DIRECTIONS_GIVEN]);
     oriented.nones += (unsigned long)has_none(directions.numbers[2]);
 }
 
@@ -601,6 +614,61 @@ static void check_files(const struct answer *header)
     }
 }
 
+/* ---- axis records */
+
+/* True if an accepted header has the field. */
+static int has_field(const struct bytes *file, size_t length, uint32_t field)
+{
+    return model.find_field(file->at, length, field).found;
+}
+
+/* Counts what the records that were stored say of strings. */
+static void count_strings(uint64_t count)
+{
+    int quotes = 0, empty = 0;
+    for (uint64_t i = 0; i < count; i++) {
+        craneholt_axis axis;
+        memcpy(&axis, ours.at + lent.list.start + i * sizeof axis, sizeof axis);
+        quotes |= memchr(volume.file.at + axis.labelplace, '"', axis.labellength) != NULL
+                  || memchr(volume.file.at + axis.unitplace, '"', axis.unitlength) != NULL;
+        empty |= (axis.labelplace > 0 && axis.labellength == 0) || (axis.unitplace > 0 && axis.unitlength == 0);
+    }
+    axed.quotes += (unsigned long)quotes;
+    axed.empty += (unsigned long)empty;
+}
+
+static void count_axes(const struct answer *header)
+{
+    static const char *const fields[] = {"centers: ", "centerings: ", "labels: ", "units: ", "kinds: "};
+    uint64_t number = header->numbers[0], line = header->numbers[1];
+    int centers, labels, units, kinds;
+    axed.bad += number == 11 && line > 0 && line_starts(line, fields, 5);
+    if (number != 0)
+        return;
+    centers = has_field(&volume.file, volume.file.length, CRANEHOLT_FIELD_CENTERS);
+    labels = has_field(&volume.file, volume.file.length, CRANEHOLT_FIELD_LABELS);
+    units = has_field(&volume.file, volume.file.length, CRANEHOLT_FIELD_UNITS);
+    kinds = has_field(&volume.file, volume.file.length, CRANEHOLT_FIELD_KINDS);
+    axed.headers += centers || labels || units || kinds;
+    axed.centers += (unsigned long)centers;
+    axed.labels += (unsigned long)labels;
+    axed.units += (unsigned long)units;
+    axed.kinds += (unsigned long)kinds;
+}
+
+/* Into a list that is about as long as the records, then into one that is too short, each with a rest too short for a record. */
+static void check_axes(const struct answer *header)
+{
+    uint64_t axes = header->numbers[DIMENSION];
+    count_axes(header);
+    lent.list = lend_room(near_length(axes, sizeof(craneholt_axis)));
+    count_strings(check(AXES).numbers[2]);
+    if (axes > 0) {
+        lent.list.length = random_below(axes) * sizeof(craneholt_axis) + random_below(sizeof(craneholt_axis));
+        axed.too_short += check(AXES).numbers[0] == 22;
+    }
+}
+
 /* ---- data */
 
 /* True if the byte skip is -1, which is refused with line 0 in text and hex. */
@@ -658,6 +726,7 @@ static struct answer check_file(void)
     check_keys();
     check_orientation(&header);
     check_files(&header);
+    check_axes(&header);
     check_data(&header);
     check_sweep(&header);
     check_coordinates();
@@ -890,7 +959,7 @@ static void check_read_back(const craneholt_orientation *o, int is_lent)
         || (given & CRANEHOLT_GIVES_SPACE_DIMENSION && n != o->spacedimension))
         fail(READ_HEADER, "what was written is not read back");
     check_went_in(ORIGIN, given & CRANEHOLT_GIVES_ORIGIN, o->origin, 1, n);
-    check_went_in(DIRECTIONS, given & CRANEHOLT_GIVES_DIRECTIONS, o->directions[0], header.numbers[AXES], n);
+    check_went_in(DIRECTIONS, given & CRANEHOLT_GIVES_DIRECTIONS, o->directions[0], header.numbers[DIMENSION], n);
     check_went_in(FRAME, given & CRANEHOLT_GIVES_FRAME, o->frame[0], n, n);
 }
 
@@ -1032,6 +1101,31 @@ static void check_names_stay(const struct answer *header)
     }
 }
 
+/* True if a label or unit has the text that it had, or is not there now as it was not before. */
+static int text_stays(uint32_t place, uint32_t length, uint32_t new_place, uint32_t new_length)
+{
+    return (place == 0) == (new_place == 0) && length == new_length
+           && memcmp(volume.file.at + place, buffer.at + new_place, length) == 0;
+}
+
+/* The axes have the records that they had, but for the places of labels and units, whose texts are the same. */
+static void check_axes_stay(void)
+{
+    craneholt_axis before[CRANEHOLT_MAX_AXES], after[CRANEHOLT_MAX_AXES];
+    uint64_t count = library.axes(volume.file.at, volume.file.length, before, sizeof before).count;
+    lent.list = lend_room(sizeof after);
+    if (check(AXES).numbers[2] != count)
+        fail(AXES, "the dimension changed");
+    memcpy(after, ours.at + lent.list.start, sizeof after);
+    for (uint64_t i = 0; i < count; i++) {
+        const craneholt_axis *a = &before[i], *b = &after[i];
+        if (a->size != b->size || a->centring != b->centring || a->kind != b->kind
+            || !text_stays(a->labelplace, a->labellength, b->labelplace, b->labellength)
+            || !text_stays(a->unitplace, a->unitlength, b->unitplace, b->unitlength))
+            fail(AXES, "an axis has another record after the list");
+    }
+}
+
 /* A fresh reading after the list, with a table of its own: the carried table
  * is its table, and the bytes after the header are those of the first file. */
 static void check_fresh(const struct answer *header)
@@ -1053,14 +1147,18 @@ static void check_fresh(const struct answer *header)
         || fresh.numbers[LINES] - fresh.numbers[FIELD_LINES] != header->numbers[LINES] - header->numbers[FIELD_LINES])
         fail(READ, "the data files changed");
     check_names_stay(header);
+    check_axes_stay();
 }
 
 static void count_settings(int length)
 {
     int form = form_of(&volume.file, volume.file.length);
+    int strings = has_field(&volume.file, volume.file.length, CRANEHOLT_FIELD_LABELS)
+                  || has_field(&volume.file, volume.file.length, CRANEHOLT_FIELD_UNITS);
     for (int i = 0; i < length; i++) {
         named.list_settings += settings[i].accepted && form == LIST;
         named.pattern_settings += settings[i].accepted && form == PATTERN;
+        axed.settings += settings[i].accepted && strings;
     }
 }
 
@@ -1177,6 +1275,20 @@ static int print_named(uint64_t inputs)
            && 500 * named.unfit >= inputs && 4 * named.list_settings >= inputs && 4 * named.pattern_settings >= inputs;
 }
 
+/* At least one of six headers has to be accepted with a field of the axis records, one of twelve with each of the four, one of thirty
+ * with a quote inside a string, and with an empty string; 11 at one of these lines has to be in one of fifty, 22 for a short list in
+ * one of six; and as many settings as half of the inputs have to be accepted on headers with labels or units. */
+static int print_axed(uint64_t inputs)
+{
+    printf("axis records: %lu headers of %llu (%.1f %%); centers %lu, kinds %lu, labels %lu, units %lu; a quote inside %lu, an empty "
+           "string %lu; refused 11 %lu, 22 %lu; settings on labels or units %lu\n",
+           axed.headers, (unsigned long long)inputs, 100.0 * (double)axed.headers / (double)inputs, axed.centers, axed.kinds,
+           axed.labels, axed.units, axed.quotes, axed.empty, axed.bad, axed.too_short, axed.settings);
+    return 6 * axed.headers >= inputs && 12 * axed.centers >= inputs && 12 * axed.kinds >= inputs && 12 * axed.labels >= inputs
+           && 12 * axed.units >= inputs && 30 * axed.quotes >= inputs && 30 * axed.empty >= inputs && 50 * axed.bad >= inputs
+           && 6 * axed.too_short >= inputs && 2 * axed.settings >= inputs;
+}
+
 int main(int arguments, char **argument)
 {
     uint64_t first = arguments > 1 ? strtoull(argument[1], NULL, 10) : 0;
@@ -1198,6 +1310,10 @@ int main(int arguments, char **argument)
     }
     if (!print_named(inputs) && inputs >= ENOUGH) {
         printf("too few headers have LIST, a pattern or one name, or too few settings are made on them\n");
+        return 1;
+    }
+    if (!print_axed(inputs) && inputs >= ENOUGH) {
+        printf("too few headers have fields of the axis records, or too few settings are made on them\n");
         return 1;
     }
     printf("%llu inputs, no difference\n", (unsigned long long)inputs);

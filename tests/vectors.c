@@ -4,9 +4,9 @@
  * place of the library: it has to agree with the vectors as well. A set from
  * before a request says nothing of what came with it: the byte skip of each
  * reading with W1, the orientation and the header writer with W2, the roof
- * rig's sweeps with W4, data in several files with W5.
+ * rig's sweeps with W4, data in several files with W5, axis records with W6.
  *
- *     vectors [folder [before-w1, before-w2, before-w4 or before-w5]]
+ *     vectors [folder [before-w1, before-w2, before-w4, before-w5 or before-w6]]
  */
 #include "bytes.h"
 #include "calls.h"
@@ -23,9 +23,9 @@ static const struct calls calls = CALLS(model);
 static const struct calls calls = CALLS(craneholt);
 #endif
 
-enum { BASE, W1, W2, W4, W5 };
+enum { BASE, W1, W2, W4, W5, W6 };
 
-static int last = W5; /* the last request that the vectors know */
+static int last = W6; /* the last request that the vectors know */
 
 /* ---- bytes */
 
@@ -318,6 +318,52 @@ static int files_are_refused(const struct json *v, struct bytes file)
     return right;
 }
 
+/* ---- axis records */
+
+/* Of a header that is accepted: the size as the reading has it, strings between quotes. */
+static int axis_is_right(struct bytes file, const craneholt_axis *axis, uint64_t size)
+{
+    const uint32_t strings[][2] = {{axis->labelplace, axis->labellength}, {axis->unitplace, axis->unitlength}};
+    for (int i = 0; i < 2; i++) {
+        uint32_t place = strings[i][0], length = strings[i][1];
+        if (place == 0 ? length != 0
+                       : length >= file.length || place >= file.length - length || file.at[place - 1] != '"'
+                             || file.at[place + length] != '"')
+            return 0;
+    }
+    return axis->size == size && axis->centring < MODEL_CENTRINGS && axis->kind < MODEL_KINDS;
+}
+
+/* The records into a list that is long enough, exactly but for a rest, and one too short. */
+static int axes_are_right(struct bytes file, const craneholt_reading *r)
+{
+    for (int more = -1; more <= 1; more++) {
+        craneholt_axis axes[CRANEHOLT_MAX_AXES + 2];
+        size_t records = r->dimension + (size_t)more, written = more < 0 ? 0 : r->dimension;
+        struct bytes list = filled(records * sizeof *axes + (more <= 0 ? 31 : 0));
+        craneholt_count_answer answer = calls.axes(file.at, file.length, list.at, list.length);
+        int right = answer.refusal.number == (more < 0 ? 22 : 0) && answer.refusal.line == 0 && answer.count == written
+                    && untouched(list, written * sizeof *axes);
+        memcpy(axes, list.at, written * sizeof *axes);
+        for (size_t i = 0; i < written; i++)
+            right = right && axis_is_right(file, &axes[i], r->sizes[i]);
+        free(list.at);
+        if (!right)
+            return 0;
+    }
+    return 1;
+}
+
+/* The call for the axes refuses what the reading refuses. */
+static int axes_are_refused(const struct json *v, struct bytes file)
+{
+    struct bytes list = filled(CRANEHOLT_AXES_ROOM);
+    craneholt_count_answer answer = calls.axes(file.at, file.length, list.at, list.length);
+    int right = same_refusal(v, answer.refusal) && answer.count == 0 && untouched(list, 0);
+    free(list.at);
+    return right;
+}
+
 /* ---- reading */
 
 /* What both reading calls must answer for a header that is accepted. */
@@ -330,7 +376,7 @@ static int reading_is_right(const struct json *v, struct bytes file, struct byte
            && r->form == (strcmp(form, "detached") == 0)
            && r->length == number_member(v, "expect_header_length") && byte_skip_is_right(v, r)
            && fields_are_right(v, file) && keys_are_right(v, file) && orientation_is_right(v, file, r)
-           && table_is_right(v, table, r->lines) && files_are_right(v, file, table, r);
+           && table_is_right(v, table, r->lines) && files_are_right(v, file, table, r) && axes_are_right(file, r);
 }
 
 /* What both reading calls must answer for a refused header. */
@@ -343,7 +389,7 @@ static int no_reading_is_right(const struct json *v, struct bytes file, const cr
     if (expected(v, 1)->number == 22)
         return without.refusal.number == 0;
     return same_refusal(v, without.refusal) && same_reading(&without.reading, &blank)
-           && orientation_is_refused(v, file) && files_are_refused(v, file);
+           && orientation_is_refused(v, file) && files_are_refused(v, file) && axes_are_refused(v, file);
 }
 
 static int run_read(const struct json *v)
@@ -549,6 +595,35 @@ static int run_where(const struct json *v)
     return right;
 }
 
+/* The bytes of a list of axis records: the size in 8, the others in 4 each. */
+static struct bytes of_axes(const struct json *list)
+{
+    struct bytes b = filled(list->length * sizeof(craneholt_axis));
+    size_t at = 0;
+    for (const struct json *axis = list->first; axis != NULL; axis = axis->next)
+        for (const struct json *item = axis->first; item != NULL; item = item->next)
+            for (size_t i = 0; i < (item == axis->first ? 8 : 4); i++)
+                b.at[at++] = (uint8_t)(item->number >> 8 * i);
+    return b;
+}
+
+/* A list of whole records, and one with a rest too short for a record. */
+static int run_axes(const struct json *v)
+{
+    struct bytes file = hex_member(v, "file"), want = is_accepted(v) ? of_axes(expected(v, 1)) : filled(0);
+    int right = 1;
+    for (size_t rest = 0; rest < 32; rest += 31) {
+        struct bytes list = filled(number_member(v, "room") * sizeof(craneholt_axis) + rest);
+        craneholt_count_answer answer = calls.axes(file.at, file.length, list.at, list.length);
+        right = right && same_refusal(v, answer.refusal) && answer.count == want.length / sizeof(craneholt_axis)
+                && holds(list, want);
+        free(list.at);
+    }
+    free(file.at);
+    free(want.at);
+    return right;
+}
+
 static int run_set(const struct json *v)
 {
     struct bytes buffer = hex_member(v, "buffer"), want_buffer = hex_member(v, "expect_buffer");
@@ -620,6 +695,7 @@ static struct operation {
     {"files", run_files, W5, 0, 0},
     {"name", run_name, W5, 0, 0},
     {"where", run_where, W5, 0, 0},
+    {"axes", run_axes, W6, 0, 0},
 };
 
 enum { OPERATIONS = sizeof operations / sizeof operations[0] };
@@ -693,11 +769,12 @@ static int tell(const struct operation *operation)
 /* The last request that vectors know which were made before another; ends the program if the word is none of these. */
 static int last_before(const char *word)
 {
-    static const char *const words[] = {"before-w1", "before-w2", "before-w4", "before-w5"}; /* in the order of the requests */
-    for (int request = BASE; request < W5; request++)
+    /* in the order of the requests */
+    static const char *const words[] = {"before-w1", "before-w2", "before-w4", "before-w5", "before-w6"};
+    for (int request = BASE; request < W6; request++)
         if (strcmp(words[request], word) == 0)
             return request;
-    fprintf(stderr, "vectors: before-w1, before-w2, before-w4 or before-w5, not %s\n", word);
+    fprintf(stderr, "vectors: before-w1, before-w2, before-w4, before-w5 or before-w6, not %s\n", word);
     exit(2);
 }
 

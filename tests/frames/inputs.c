@@ -102,6 +102,7 @@ static const struct operation {
     {"files", NULL, NULL},
     {"name", NULL, NULL},
     {"where", NULL, NULL},
+    {"axes", NULL, NULL},
 };
 
 enum { OPERATIONS = COUNT(operations), MOST_VECTORS = 100000 };

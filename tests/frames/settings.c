@@ -284,6 +284,17 @@ static void named_lists(const char *end)
     chosen_list(view(&file), end, GROW, GROWING, "pattern", "closed");
 }
 
+/* The fields of the axis records between and after the pairs; a label looks like one. */
+static void axes_lists(const char *end)
+{
+    static const char *const lines[] = {UTC ":=36", FIELDS, "labels: \"" UTC ":=\\\"9\\\"\" \"y\"", RIG ":=7", "kinds: space time",
+                                        UTC ":=37", "centers: cell ???", "units: \"mm\" \"\"", NULL};
+    static struct text file;
+    header(&file, "NRRD0005", lines, end, 1);
+    put(&file, DATA);
+    chosen_list(view(&file), end, GROW, GROWING, "axis records", "repeated key");
+}
+
 static void chosen_lists(void)
 {
     static const char *const lines[] = {FIELDS, NULL};
@@ -293,6 +304,7 @@ static void chosen_lists(void)
         attached_lists(i ? CRLF : LF);
         detached_lists(i ? CRLF : LF);
         named_lists(i ? CRLF : LF);
+        axes_lists(i ? CRLF : LF);
     }
     file.length = 0;
     put_string(&file, "NRRD0003\r\n" RIG ":=1\n");

@@ -24,9 +24,10 @@ ghost use Rattle.format.specs.Calls.{readHeaderCall, findFieldCall, findKeyCall
 ghost use Rattle.format.specs.Files.{fileCountCall, fileNameCall, sampleFileCall};
 ghost use Rattle.format.specs.Found.{FindsField, FindsKey};
 ghost use Rattle.format.specs.Orientation.{originEntry, directionsEntry, frameEntry};
+ghost use Rattle.format.specs.AxisRecords.{axesEntry};
 ghost use Rattle.format.specs.EntryPoints.{readEntry, samplesEntry, sampleNumberEntry, writeEntry, writeHeaderEntry, setKeyEntry};
 ghost use Rattle.format.specs.Listing.{listingCall};
-ghost use Rattle.format.specs.Room.{Enough, tableRoom, samplesRoom, sizesRoom, writeRoom, valueRoom, Copied, nameRoom, setRoom};
+ghost use Rattle.format.specs.Room.{Enough, tableRoom, samplesRoom, sizesRoom, writeRoom, valueRoom, Copied, nameRoom, axesRoom, setRoom};
 
 // The reading of a file's header.
 #[no_mangle]
@@ -132,6 +133,15 @@ pub extern "C" fn craneholt_sample_file(file: &[u8], sample: u64) -> ShareAnswer
     ensures { λ r. ⌜ r ≡ sampleFileCall (now (file .entry)) sample ⌝ }
 {
     data_files::sample_file(file, sample)
+}
+
+// A record for each axis, 32 bytes each, at the front of the list.
+#[no_mangle]
+pub extern "C" fn craneholt_axes(file: &[u8], list: &mut [u8]) -> CountAnswer
+    ensures call { λ r. ⌜ _≡_ {A = CountAnswer × List ℕ} (r, now (list .exit)) (axesEntry (now (file .entry)) (now (list .entry))) ⌝ }
+    ensures enough { λ r. ⌜ (axesRoom ≤ length (now (list .entry)) → Enough (r .refusal)) ⌝ }
+{
+    read_records::axes_to_bytes(file, list)
 }
 
 // Writes the samples, 8 bytes each as the sizes are, as an attached file to the front of `out`.

@@ -1,13 +1,16 @@
 -- The starred trials and the further ones hold: both sides of each are computed.
 use mathlib.Core.Path.{refl}
 use mathlib.Core.List.{flatMap}
-use Rattle.format.specs.Bytes.{every, same, alike, beginsWith, isIn, isAny, rowFrom}
+use Rattle.format.specs.Bytes.{every, same, alike, beginsWith, isIn, isAny, rowFrom, each}
 use Rattle.format.specs.Lines.{lines, unlines, starts}
 use Rattle.format.specs.Pairs.{mark, escape, unescapeFrom}
 use Rattle.format.specs.Fields.{fieldAt, descriptorOf, fileNames, isRepeated, inOrder}
 use Rattle.format.specs.Words.{trimFront, trimEnd, digitsFrom, number, parts, notEmpty, numbersIn}
 use Rattle.format.specs.Descriptors.{descriptor, since, typeAt, mayDescribe, namesFollow, listEmpty, hasNeeded, endIsRaw, product, fileCountOf, filesFine}
 use Rattle.format.specs.DataFiles.{patternOf, dataFileSaid}
+use Rattle.format.specs.Kinds.{centringNamed, kindNamed}
+use Rattle.format.specs.Strings.{stringsFrom, stringsSaid}
+use Rattle.format.specs.AxisRecords.{centringsOf, kindsOf, stringsOf, stringPlace, axisOf, recordsIn, axesIn, axisBytes, axesBytes, axesListed}
 use Rattle.format.specs.Decimals.{digitsOf, afterDigits, numeralValue, component}
 use Rattle.format.specs.Spaces.{spaceAt}
 use Rattle.format.specs.DataFiles.{patternOf, dataFileSaid}
@@ -34,7 +37,7 @@ use Rattle.format.specs.FilesTrials.{upTo}
 use Rattle.format.specs.FurtherTrials.{FurtherTrials}
 
 trials : StarredTrials × FurtherTrials
-unfolding every same alike beginsWith isIn isAny rowFrom lines unlines starts mark escape unescapeFrom fieldAt descriptorOf isRepeated inOrder trimFront trimEnd descriptor digitsFrom number parts notEmpty numbersIn typeAt mayDescribe hasNeeded endIsRaw product namesFollow listEmpty since filesFine fileCountOf fileNames dataFileSaid patternOf beforeNames fileNameOf comments magicVersion onPair onField judge complete walk header valueOf skipLine skipLines skipBytes lastBytes placeOf inType fromBytes sampleValue rawSamples skipBlanks token afterToken tokenValue tokens samplesOf inside sampleNumber keyFine valueFine pairText replaced newLines refilled tableFine store setRead setKey noReading readingOf withTable texts keyPlace fieldPlace decimalFrom spaced shownRefusal shownKeys shownReading listing hexText rawData textData dataBytes headerLines fileBytes allInType writable writeRefusal groups numberBytes wordsOfSamples entries toBytes valueBytes digitsOf afterDigits numeralValue component spaceAt partsOutside vectorWords closed commaParts allSaid saidBy vectorSaid directionSaid componentText joined vectorText orientationLines orientedBytes decimalBytes decimalOf decimalsBytes untilNone inVersion writeHeader originOf directionsOf frameOf eight columnsLent writeHeaderEntry flatMap nameSaid upTo
+unfolding every same alike beginsWith isIn isAny rowFrom lines unlines starts mark escape unescapeFrom fieldAt descriptorOf isRepeated inOrder trimFront trimEnd descriptor digitsFrom number parts notEmpty numbersIn typeAt mayDescribe hasNeeded endIsRaw product namesFollow listEmpty since filesFine fileCountOf fileNames dataFileSaid patternOf beforeNames fileNameOf comments magicVersion onPair onField judge complete walk header valueOf skipLine skipLines skipBytes lastBytes placeOf inType fromBytes sampleValue rawSamples skipBlanks token afterToken tokenValue tokens samplesOf inside sampleNumber keyFine valueFine pairText replaced newLines refilled tableFine store setRead setKey noReading readingOf withTable texts keyPlace fieldPlace decimalFrom spaced shownRefusal shownKeys shownReading listing hexText rawData textData dataBytes headerLines fileBytes allInType writable writeRefusal groups numberBytes wordsOfSamples entries toBytes valueBytes digitsOf afterDigits numeralValue component spaceAt partsOutside vectorWords closed commaParts allSaid saidBy vectorSaid directionSaid componentText joined vectorText orientationLines orientedBytes decimalBytes decimalOf decimalsBytes untilNone inVersion writeHeader originOf directionsOf frameOf eight columnsLent writeHeaderEntry flatMap nameSaid upTo each centringNamed kindNamed stringsFrom stringsSaid centringsOf kindsOf stringsOf stringPlace axisOf recordsIn axesIn axisBytes axesBytes axesListed
 trials = (
   (refl, (refl, (refl, (refl, (refl, (refl, (refl, (refl, (refl, (refl, (refl, (refl, (refl, (refl, (refl, (refl, (refl, (refl, (refl, (refl, (refl, (refl, (refl, (refl, (refl, tt))))))))))))))))))))))))),
   record {
@@ -58,6 +61,13 @@ trials = (
     listing = record {
       in-accepting = (refl, (refl, (refl, (refl, (refl, (refl, (refl, (refl, (refl, (refl, (refl, (refl, (refl, (refl, (refl, (refl, (refl, (refl, (refl, (refl, (refl, (refl, (refl, (refl, (refl, (refl, (refl, (refl, (refl, (refl, (refl, (refl, (refl, (refl, (refl, tt)))))))))))))))))))))))))))))))))));
       in-calls = (refl, (refl, (refl, (refl, (refl, (refl, (refl, (refl, (refl, (refl, (refl, (refl, (refl, (refl, (refl, (refl, (refl, (refl, (refl, (refl, (refl, (refl, (refl, (refl, (refl, (refl, (refl, (refl, (refl, (refl, (refl, (refl, (refl, (refl, (refl, (refl, (refl, (refl, (refl, (refl, tt))))))))))))))))))))))))))))))))))))))));
+    };
+    axial = record {
+      in-strings = (refl, (refl, (refl, (refl, (refl, (refl, (refl, (refl, (refl, (refl, (refl, (refl, (refl, (refl, (refl, (refl, (refl, (refl, (refl, (refl, (refl, (refl, tt))))))))))))))))))))));
+      in-words = (refl, (refl, (refl, (refl, (refl, (refl, (refl, (refl, (refl, (refl, (refl, (refl, (refl, (refl, (refl, (refl, tt))))))))))))))));
+      in-headers = (refl, (refl, (refl, (refl, (refl, (refl, (refl, (refl, tt))))))));
+      in-places = (refl, (refl, (refl, (refl, (refl, tt)))));
+      in-records = (refl, (refl, (refl, (refl, (refl, (refl, (refl, (refl, tt))))))));
     };
     filed = record {
       in-forms = (refl, (refl, (refl, (refl, (refl, (refl, (refl, (refl, (refl, (refl, (refl, (refl, (refl, (refl, (refl, (refl, (refl, (refl, (refl, (refl, (refl, (refl, (refl, (refl, (refl, (refl, (refl, (refl, (refl, (refl, (refl, (refl, (refl, (refl, (refl, tt)))))))))))))))))))))))))))))))))));

@@ -8,6 +8,8 @@ use Rattle.format.proofs.Places.{data-at-end}
 use Rattle.format.proofs.Found.{field-found, key-found}
 use Rattle.format.proofs.Rules.{accepted-keeps, keeps-accepted, refused-keeps-none, keeps-none-refused}
 use Rattle.format.proofs.Named.{names-are-lines, files-some, shares-fit, files-divide}
+use Rattle.format.proofs.Strings.{strings-counted, strings-there, string-text, string-quoted}
+use Rattle.format.proofs.StringShape.{strings-laid, laid-strings}
 use Rattle.format.proofs.Samples.{value-of-bytes, bytes-of-value}
 use Rattle.format.proofs.Boundary.{numbers-of-lent, lent-of-numbers, samples-of-lent, lent-of-samples, numbers-of-front, decimal-of-bytes, bytes-of-decimal}
 use Rattle.format.proofs.Writer.{number-of-decimal, value-of-decimal, hex-of-text, data-read-back}
@@ -41,6 +43,12 @@ laws =
       data-at-end = data-at-end;
       field-found = field-found;
       key-found = key-found;
+      strings-counted = strings-counted;
+      strings-there = strings-there;
+      strings-laid = strings-laid;
+      laid-strings = laid-strings;
+      string-text = string-text;
+      string-quoted = string-quoted;
       value-of-bytes = value-of-bytes;
       bytes-of-value = bytes-of-value;
       numbers-of-lent = numbers-of-lent;

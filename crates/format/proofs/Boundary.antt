@@ -1,4 +1,4 @@
--- Laws of numbers, samples and decimals in lent bytes: how many, each one, the ones after it; those put in are those taken out, and bytes taken out and
+-- Laws of numbers, samples, decimals and axis records in lent bytes: how many, each one, the ones after it; those put in are those taken out, and bytes taken out and
 -- put in again are as they were.
 -- Assumes nothing.
 use Prim.Native.Nat.{ℕ, zero, suc, _+_, _*_, _-_, _^_, _/_, _≤_, _<_}
@@ -12,11 +12,13 @@ use lib.IntN.{ℤ}
 use lib.ListN.{length, take, drop, getD, length-append, length-drop, length-map, take-append-drop}
 use lib.Seq.{drop-append-add, drop-drop, drop-cons, drop-length, take-all, take-add, take-at, drop-at, length-take-le}
 use Rattle.format.specs.declared.Decimal.{Decimal}
+use Rattle.format.specs.declared.Axis.{Axis}
 use Rattle.format.specs.Bytes.{over}
 use Rattle.format.specs.Descriptors.{signed, little}
 use Rattle.format.specs.Samples.{inType, fromBytes, toBytes, sampleValue, valueBytes}
 use Rattle.format.specs.Writer.{allInType}
 use Rattle.format.specs.Boundary.{wordBytes, groups, wholeGroups, numbersOf, samplesLent, numberBytes, wordsOfSamples, lentNumbers, lentSamples, decimalBytes, decimalOf, decimalsBytes, decimalsLent}
+use Rattle.format.specs.AxisRecords.{axisBytes, axesBytes}
 use Rattle.format.specs.Laws.{Each, AllBelow, FitsBytes}
 use Rattle.format.proofs.Bytes.{and-left, and-right}
 use Rattle.format.proofs.Samples.{AllBytes, from-bytes-below, to-bytes-bytes, from-to-bytes, to-from-bytes, length-to-bytes, value-of-bytes, bytes-of-value, length-value-bytes}
@@ -403,3 +405,40 @@ decimals-of-bytes ds f =
 
 pub bytes-of-decimals : (s : List ℕ) → AllBytes s → decimalsBytes (decimalsLent s) ≡ take (16 * (length s / 16)) s
 bytes-of-decimals s p = decimals-flat (decimalsLent s) ∙ flat-groups decimalOf 16 decimalBytes bytes-of-decimal (length s / 16) s (mul-div-le (length s) 16) p
+
+-- ---- axis records
+
+pub length-axis : (a : Axis) → length (axisBytes a) ≡ 32
+unfolding axisBytes
+length-axis a =
+    let n : List ℕ = toBytes 8 (a .size) in
+    let c : List ℕ = toBytes 4 (a .centring) in
+    let k : List ℕ = toBytes 4 (a .kind) in
+    let p : List ℕ = toBytes 4 (a .labelplace) in
+    let q : List ℕ = toBytes 4 (a .labellength) in
+    let u : List ℕ = toBytes 4 (a .unitplace) in
+    let v : List ℕ = toBytes 4 (a .unitlength) in
+    omega (
+      arith,
+      length-append n (c ++ (k ++ (p ++ (q ++ (u ++ v))))),
+      length-append c (k ++ (p ++ (q ++ (u ++ v)))),
+      length-append k (p ++ (q ++ (u ++ v))),
+      length-append p (q ++ (u ++ v)),
+      length-append q (u ++ v),
+      length-append u v,
+      length-to-bytes 8 (a .size),
+      length-to-bytes 4 (a .centring),
+      length-to-bytes 4 (a .kind),
+      length-to-bytes 4 (a .labelplace),
+      length-to-bytes 4 (a .labellength),
+      length-to-bytes 4 (a .unitplace),
+      length-to-bytes 4 (a .unitlength),
+    )
+
+pub axes-flat : (xs : List Axis) → axesBytes xs ≡ flatMap axisBytes xs
+unfolding axesBytes flatMap
+axes-flat [] = refl
+axes-flat (a ∷ xs) = ap (λ (r : List ℕ). axisBytes a ++ r) (axes-flat xs)
+
+pub length-axes : (xs : List Axis) → length (axesBytes xs) ≡ 32 * length xs
+length-axes xs = ap length (axes-flat xs) ∙ flat-length axisBytes 32 length-axis xs

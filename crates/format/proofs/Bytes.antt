@@ -1,14 +1,15 @@
 -- Laws of the tests on bytes and texts.
 -- Assumes nothing.
-use mathlib.Core.Path.{_≡_, refl, sym, _∙_}
-use Prim.Native.Nat.{ℕ, zero, suc, _<_}
+use mathlib.Core.Path.{_≡_, refl, sym, ap, _∙_}
+use Prim.Native.Nat.{ℕ, zero, suc, _+_, _<_, _≤_}
 use native.Mathlib.Omega.{arith}
 use mathlib.Core.Bool.{Bool, true, false, _&&_, _||_, false≢true}
 use mathlib.Core.List.{List, [], _∷_, _++_}
 use mathlib.Core.Option.{Option, none, some}
 use lib.Dec.{eqb}
+use lib.ListN.{length, take, getD}
 use borrow.Author.Tests.{eqb-true, eqb-false, eq-eqb}
-use Rattle.format.specs.Bytes.{every, everyBelow, same, onto}
+use Rattle.format.specs.Bytes.{every, everyBelow, same, each, onto}
 
 -- ---- two tests at once
 
@@ -102,6 +103,34 @@ unfolding every
 every-weaker p q w [] h = refl
 every-weaker p q w (b ∷ s) h =
     and-both (q b) (every q s) (w b (and-left (p b) (every p s) h)) (every-weaker p q w s (and-right (p b) (every p s) h))
+
+-- ---- lists by number
+
+module _ {A : Type 0} (v : ℕ → A) where
+  pub length-each : (i n : ℕ) → length (each v i n) ≡ n
+  unfolding each
+  length-each i zero = refl
+  length-each i (suc n) = rw (length-each (i + 1) n)
+
+  -- the first k of n
+  pub take-each : (i k n : ℕ) → k ≤ n → take k (each v i n) ≡ each v i k
+  unfolding each
+  take-each i zero n l = refl
+  take-each i (suc k) zero l = absurd (omega arith)
+  take-each i (suc k) (suc n) l = rw (take-each (i + 1) k n (omega arith))
+
+  -- the one after k others
+  pub each-from : (d : A) (i n k : ℕ) → k < n → getD (each v i n) k d ≡ v (i + k)
+  unfolding each
+  each-from d i zero k l = absurd (omega arith)
+  each-from d i (suc n) zero l = ap v (omega arith)
+  each-from d i (suc n) (suc k) l = each-from d (i + 1) n k (omega arith) ∙ ap v (omega arith)
+
+-- two that say the same of each number
+pub each-same : {A : Type 0} (v w : ℕ → A) (i n : ℕ) → ((k : ℕ) → i ≤ k → k < i + n → v k ≡ w k) → each v i n ≡ each w i n
+unfolding each
+each-same v w i zero h = refl
+each-same v w i (suc n) h = rw (h i (omega arith) (omega arith), each-same v w (i + 1) n (λ k l m. h k (omega arith) (omega arith)))
 
 -- ---- answers that may be missing
 

@@ -9,7 +9,7 @@ use lib.Dec.{eqb}
 use lib.ListN.{length, take, drop, length-take}
 use borrow.Author.Tests.{ne-eqb}
 use Rattle.format.specs.Bytes.{spaceOrTab, if_then_else_}
-use Rattle.format.specs.Fields.{isUnderstood, fieldAt, dimension, type, encoding, endian, sizes, lineSkip, byteSkip, dataFile, space, spaceDimension, spaceOrigin, spaceDirections, measurementFrame}
+use Rattle.format.specs.Fields.{isUnderstood, fieldAt, dimension, type, encoding, endian, sizes, lineSkip, byteSkip, dataFile, space, spaceDimension, spaceOrigin, spaceDirections, measurementFrame, centers, labels, units, kinds}
 use Rattle.format.specs.Words.{trimFront, trimByte, trimEnd}
 use Rattle.format.specs.Descriptors.{fromDescriptor, descriptor, mayDescribe}
 
@@ -84,7 +84,7 @@ descriptor-le f rest =
 pub carried-any : (n m f : ℕ) (t : List ℕ) → isUnderstood f ≡ false → mayDescribe n m f t ≡ true
 unfolding fieldAt mayDescribe
 carried-any n m f t h =
-    rw (no dimension refl, no type refl, no encoding refl, no endian refl, no sizes refl, no lineSkip refl, no byteSkip refl, no dataFile refl, no space refl, no spaceDimension refl, no spaceOrigin refl, no spaceDirections refl, no measurementFrame refl)
+    rw (no dimension refl, no type refl, no encoding refl, no endian refl, no sizes refl, no lineSkip refl, no byteSkip refl, no dataFile refl, no space refl, no spaceDimension refl, no spaceOrigin refl, no spaceDirections refl, no measurementFrame refl, no centers refl, no kinds refl, no labels refl, no units refl)
   where
     no : (g : ℕ) → isUnderstood g ≡ true → eqb f g ≡ false
     no g u = ne-eqb f g (λ (e : f ≡ g). false≢true (sym h ∙ (ap isUnderstood e ∙ u)))

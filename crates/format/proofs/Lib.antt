@@ -20,3 +20,5 @@ pub mod Oriented
 pub mod Named
 pub mod AtLimits
 pub mod Believable
+pub mod Strings
+pub mod StringShape

@@ -15,7 +15,7 @@ use Rattle.format.specs.Bytes.{if_then_else_, bytes, isSome, orDefault, 
 use Rattle.format.specs.Words.{trimEnd, number, within}
 use Rattle.format.specs.Limits.{maxHeader, maxAxes}
 use Rattle.format.specs.Lines.{Line, line, text, size, endingBytes}
-use Rattle.format.specs.Fields.{Given, given, named, descriptorOf, isGiven, otherField, fieldAt, needsDimension, needsSpace, dimension, sizes, space, spaceDimension, spaceOrigin, spaceDirections, measurementFrame}
+use Rattle.format.specs.Fields.{Given, given, named, descriptorOf, isGiven, otherField, fieldAt, needsDimension, needsSpace, dimension, sizes, space, spaceDimension, spaceOrigin, spaceDirections, measurementFrame, centers, labels, units, kinds}
 use Rattle.format.specs.Spaces.{Space, spaceRow, spaces, spaceCount, maxSpace, spaceNames, spaceAxes, spaceAt, spaceSize, spaceNamed}
 use Rattle.format.specs.Descriptors.{fromDescriptor, descriptor, meaning, noSpace, numberSaid, mayDescribe, dimensionOf, spaceSizeOf}
 use Rattle.format.specs.Header.{Entry, entry, linesOf, accepted, header, afterItem, headerLength}
@@ -127,7 +127,8 @@ unlike asks g f h e = ne-eqb g f (λ q. false≢true (sym h ∙ ap asks q ∙ e)
 
 any-axes : (n n′ m g : ℕ) (t : List ℕ) → needsDimension g ≡ false → mayDescribe n m g t ≡ mayDescribe n′ m g t
 unfolding mayDescribe fieldAt
-any-axes n n′ m g t h = rw (unlike needsDimension g sizes h refl, unlike needsDimension g spaceDirections h refl)
+any-axes n n′ m g t h =
+    rw (unlike needsDimension g sizes h refl, unlike needsDimension g spaceDirections h refl, unlike needsDimension g centers h refl, unlike needsDimension g kinds h refl, unlike needsDimension g labels h refl, unlike needsDimension g units h refl)
 
 any-space : (n m m′ g : ℕ) (t : List ℕ) → needsSpace g ≡ false → mayDescribe n m g t ≡ mayDescribe n m′ g t
 unfolding mayDescribe fieldAt

@@ -37,6 +37,10 @@ CR = 13
 abbrev pub SPACE : ℕ
 SPACE = 32
 
+-- `"`
+abbrev pub QUOTE : ℕ
+QUOTE = 34
+
 -- `#`
 abbrev pub HASH : ℕ
 HASH = 35
@@ -157,6 +161,13 @@ rowFrom i w (r ∷ rs) = if isAny w r then some i else rowFrom (i + 1) w rs
 
 abbrev pub rowOf : List ℕ → List (List String) → Option ℕ
 rowOf w rs = rowFrom 0 w rs
+
+-- ---- lists by number
+
+-- what v says of each of n numbers from i on
+unfoldable pub each : {A : Type 0} → (ℕ → A) → ℕ → ℕ → List A
+each v i zero = []
+each v i (suc n) = v i ∷ each v (i + 1) n
 
 -- ---- lent lists
 

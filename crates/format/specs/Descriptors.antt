@@ -1,5 +1,5 @@
 -- Descriptors and what they mean (document 01, "Lines and headers", point 5; "Understood fields", "Needed", "Types";
--- "Data and samples", extent; document 02, W1, byte skips, W2, orientation, and W5, data files).
+-- "Data and samples", extent; document 02, W1, byte skips, W2, orientation, W5, data files, and W6, what is said of axes).
 use Prim.Native.Nat.{ℕ, _+_, _-_, _*_, _%_, min}
 use Prim.Native.String.{String}
 use mathlib.Core.Bool.{Bool, true, false, not, _&&_, _||_}
@@ -10,9 +10,11 @@ use lib.ListN.{length, drop, getD}
 use Rattle.format.specs.Bytes.{if_then_else_, bytes, between, same, rowOf, isSome, orDefault}
 use Rattle.format.specs.Words.{trimFront, trimEnd, numberIn, valueOfNumber, words, numbersIn}
 use Rattle.format.specs.Limits.{maxAxes, maxSize, maxSkip, pastExtent}
-use Rattle.format.specs.Fields.{Given, descriptorOf, isGiven, fileNames, fieldSince, manyFilesSince, isUnderstood, dimension, type, encoding, endian, sizes, lineSkip, byteSkip, dataFile, space, spaceDimension, spaceOrigin, spaceDirections, measurementFrame}
+use Rattle.format.specs.Fields.{Given, descriptorOf, isGiven, fileNames, fieldSince, manyFilesSince, isUnderstood, dimension, type, encoding, endian, sizes, lineSkip, byteSkip, dataFile, space, spaceDimension, spaceOrigin, spaceDirections, measurementFrame, centers, labels, units, kinds}
 use Rattle.format.specs.Spaces.{spaceCount, maxSpace, spaceSize, spaceNamed}
 use Rattle.format.specs.Vectors.{vectorsSaid, directionsSaid}
+use Rattle.format.specs.Kinds.{centringsSaid, kindsSaid}
+use Rattle.format.specs.Strings.{stringsSaid}
 use Rattle.format.specs.DataFiles.{isList, isManyForm, DataFile, dataFileSaid, filesSaid, coverSaid, lastNumbered}
 
 -- ---- the text of a descriptor
@@ -263,6 +265,10 @@ mayDescribe n m f t =
     else if eqb f spaceOrigin then isSome (vectorsSaid 1 m t)
     else if eqb f spaceDirections then isSome (directionsSaid n m t)
     else if eqb f measurementFrame then isSome (vectorsSaid m m t)
+    else if eqb f centers then isSome (centringsSaid n t)
+    else if eqb f kinds then isSome (kindsSaid n t)
+    else if eqb f labels then isSome (stringsSaid n t)
+    else if eqb f units then isSome (stringsSaid n t)
     else true
 
 -- ---- what is needed (refusal 14), the encoding that a byte skip of -1 asks for (11 with line 0), and the extent

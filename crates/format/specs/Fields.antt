@@ -1,5 +1,5 @@
 -- The 30 fields: their names in either spelling, first versions and order
--- (document 01, "Understood fields", "Carried fields", "Versions", "Order"; document 02, W2, the five that became understood).
+-- (document 01, "Understood fields", "Carried fields", "Versions", "Order"; document 02, W2 and W6, those that became understood).
 -- A field is a number from 0: its row in the table. The numbers are those that callers in C use: they stay when a field becomes understood.
 use Prim.Native.Nat.{ℕ}
 use Prim.Native.String.{String}
@@ -52,10 +52,10 @@ fieldTable =
     ∷ fieldRow ("thicknesses" ∷ []) 4 afterDimension carried
     ∷ fieldRow ("axis mins" ∷ "axismins" ∷ []) 1 afterDimension carried
     ∷ fieldRow ("axis maxs" ∷ "axismaxs" ∷ []) 1 afterDimension carried
-    ∷ fieldRow ("centers" ∷ "centerings" ∷ []) 1 afterDimension carried
-    ∷ fieldRow ("labels" ∷ []) 1 afterDimension carried
-    ∷ fieldRow ("units" ∷ []) 1 afterDimension carried
-    ∷ fieldRow ("kinds" ∷ []) 3 afterDimension carried
+    ∷ fieldRow ("centers" ∷ "centerings" ∷ []) 1 afterDimension understood
+    ∷ fieldRow ("labels" ∷ []) 1 afterDimension understood
+    ∷ fieldRow ("units" ∷ []) 1 afterDimension understood
+    ∷ fieldRow ("kinds" ∷ []) 3 afterDimension understood
     ∷ []
 
 -- how many fields there are
@@ -155,6 +155,18 @@ spaceDirections = 20
 
 abbrev pub measurementFrame : ℕ
 measurementFrame = 21
+
+abbrev pub centers : ℕ
+centers = 26
+
+abbrev pub labels : ℕ
+labels = 27
+
+abbrev pub units : ℕ
+units = 28
+
+abbrev pub kinds : ℕ
+kinds = 29
 
 -- ---- versions
 

@@ -7,7 +7,7 @@ use mathlib.Core.Option.{Option, some}
 use Rattle.format.specs.declared.FindAnswer.{FindAnswer}
 use Rattle.format.specs.Bytes.{bytes, LF}
 use Rattle.format.specs.Refusals.{atLine, fine}
-use Rattle.format.specs.Fields.{fieldNamed, dimension, type, encoding, endian, sizes, lineSkip, byteSkip, dataFile, space, spaceDimension, spaceOrigin, spaceDirections, measurementFrame}
+use Rattle.format.specs.Fields.{fieldNamed, dimension, type, encoding, endian, sizes, lineSkip, byteSkip, dataFile, space, spaceDimension, spaceOrigin, spaceDirections, measurementFrame, centers, labels, units, kinds}
 use Rattle.format.specs.Calls.{noPlace, foundAt, findFieldCall, findKeyCall}
 use Rattle.format.specs.Trials.{Trial, trial, Hold, texts, wholeS, fileS}
 
@@ -24,7 +24,7 @@ spacedFile =
     ∷ "encoding: raw"
     ∷ "content:   two words  "
     ∷ "OldMin: 0"
-    ∷ "units: "
+    ∷ "number: "
     ∷ ""
     ∷ [])
 
@@ -66,6 +66,10 @@ namedFields =
     ∷ ("space origin", spaceOrigin)
     ∷ ("space directions", spaceDirections)
     ∷ ("measurement frame", measurementFrame)
+    ∷ ("centers", centers)
+    ∷ ("labels", labels)
+    ∷ ("units", units)
+    ∷ ("kinds", kinds)
     ∷ []
 
 -- ---- the trials; fields by their numbers (specs/Fields.antt)
@@ -81,8 +85,8 @@ findTrials =
     ∷ trial FindAnswer (findFieldCall spacedFile 9) (foundAt 71 11)
     -- old min in its other spelling
     ∷ trial FindAnswer (findFieldCall spacedFile 12) (foundAt 93 1)
-    -- units is given, and empty
-    ∷ trial FindAnswer (findFieldCall spacedFile 28) (foundAt 102 0)
+    -- number is given, and empty
+    ∷ trial FindAnswer (findFieldCall spacedFile 14) (foundAt 103 0)
     ∷ trial FindAnswer (findFieldCall crlfFile 1) (foundAt 16 4)
     ∷ trial FindAnswer (findFieldCall refusedFile 1) refusedThere
     -- S: the last of two pairs with the key, in the line that starts at 98

@@ -1,6 +1,6 @@
 -- Trials beside the starred ones, as one statement: `FurtherTrials`. They show rules of document 01 that the starred trials do not: which headers are
 -- accepted, what the look-ups find, what is listed, which bytes are written, and the bytes of numbers that callers in C lend; the byte skip of -1 (document 02, W1); decimals,
--- vectors, spaces and headers with them (W2); and data in several files (W5).
+-- vectors, spaces and headers with them (W2); data in several files (W5); and axis records (W6).
 use Rattle.format.specs.AcceptanceTrials.{AcceptanceTrials}
 use Rattle.format.specs.FindTrials.{FindTrials}
 use Rattle.format.specs.ListingTrials.{ListingTrials}
@@ -11,6 +11,7 @@ use Rattle.format.specs.OrientationTrials.{OrientationTrials}
 use Rattle.format.specs.HeaderTrials.{HeaderTrials}
 use Rattle.format.specs.ListTrials.{ListTrials}
 use Rattle.format.specs.FilesTrials.{FilesTrials}
+use Rattle.format.specs.AxisTrials.{AxisTrials}
 
 pub record FurtherTrials : Type 0 where
   pub accepted : AcceptanceTrials
@@ -22,4 +23,5 @@ pub record FurtherTrials : Type 0 where
   pub oriented : OrientationTrials
   pub posed : HeaderTrials
   pub listing : ListTrials
+  pub axial : AxisTrials
   pub filed : FilesTrials

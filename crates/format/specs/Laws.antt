@@ -1,21 +1,22 @@
 -- The laws that make the definitions believable, as one statement: `Laws`. proofs/ proves them; the crates above use most of them.
 use Prim.Native.Nat.{ℕ, _+_, _-_, _^_, _/_, _%_, _≤_, _<_}
 use mathlib.Core.Path.{_≡_}
-use mathlib.Core.Bool.{Bool, true, false, not}
+use mathlib.Core.Bool.{Bool, true, false, not, _||_}
 use mathlib.Core.List.{List, [], _∷_, _++_}
 use mathlib.Core.Option.{some}
 use lib.Dec.{eqb}
 use lib.IntN.{ℤ}
-use lib.ListN.{length, drop, getD}
+use lib.ListN.{length, take, drop, getD}
 use Rattle.format.specs.declared.Decimal.{Decimal}
 use Rattle.format.specs.declared.Refusal.{Refusal}
-use Rattle.format.specs.Bytes.{if_then_else_, every, over, LF, CR}
+use Rattle.format.specs.Bytes.{if_then_else_, every, over, spaceOrTab, LF, CR, QUOTE, BACKSLASH}
 use Rattle.format.specs.Limits.{maxFile}
 use Rattle.format.specs.Lines.{Line, line, lf, crlf, eof, text, lines, unlines, starts}
 use Rattle.format.specs.Pairs.{pairMark, mark, escape, unescape}
-use Rattle.format.specs.Fields.{pairsSince, Given, fileNames, isUnderstood}
+use Rattle.format.specs.Fields.{pairsSince, Given, isGiven, fileNames, isUnderstood, labels, units}
 use Rattle.format.specs.Words.{number}
-use Rattle.format.specs.Descriptors.{NumberKind, signed, fromEnd, byteSkipOf, isDetached, sizesOf, product, extentOf, namesFollow, fileCountOf, mayDescribe}
+use Rattle.format.specs.Strings.{Quoted, quoted, startOf, textOf, noString, stringsSaid}
+use Rattle.format.specs.Descriptors.{NumberKind, signed, fromEnd, byteSkipOf, isDetached, dimensionOf, sizesOf, product, extentOf, namesFollow, fileCountOf, mayDescribe}
 use Rattle.format.specs.Header.{Entry, linesOf, right, judge, pair, refused, accepted, header, headerLength, fieldLines}
 use Rattle.format.specs.Rules.{closed, KeepsRules}
 use Rattle.format.specs.Data.{part, placeOf}
@@ -24,6 +25,7 @@ use Rattle.format.specs.Writer.{decimal, signedDecimal, hexText, dataByt
 use Rattle.format.specs.Settings.{keyFine, valueFine, pairText}
 use Rattle.format.specs.Calls.{findFieldCall, findKeyCall}
 use Rattle.format.specs.Found.{FindsField, FindsKey}
+use Rattle.format.specs.AxisRecords.{stringsOf, stringPlaceOf}
 use Rattle.format.specs.Trials.{AtLimits}
 use Rattle.format.specs.Boundary.{wordBytes, numbersOf, samplesLent, lentNumbers, lentSamples, decimalBytes, decimalOf}
 
@@ -69,7 +71,48 @@ AllBytes s = AllBelow 256 s
 abbrev pub FitsBytes : Decimal → Type 0
 FitsBytes d = (inType signed 8 (d .number) ≡ true) × (inType signed 4 (d .power) ≡ true) × (d .kind < 256 ^ 4)
 
+-- ---- a descriptor of strings (source 000, section 6; document 02, W6), said of its strings instead of read byte by byte
+
+-- a string of a descriptor: the blanks before it, and its text
+pub data Piece : Type 0 where
+  piece : List ℕ → List ℕ → Piece
+
+abbrev pub blanksOf : Piece → List ℕ
+blanksOf (piece blanks w) = blanks
+
+abbrev pub wordOf : Piece → List ℕ
+wordOf (piece blanks w) = w
+
+-- the descriptor: each string in quotes after its blanks, then the blanks at its end
+unfoldable pub laid : List Piece → List ℕ → List ℕ
+laid [] end = end
+laid (piece blanks w ∷ ps) end = blanks ++ QUOTE ∷ (w ++ QUOTE ∷ laid ps end)
+
+-- these strings with their places, `at` bytes being before the blanks of the first
+unfoldable pub placed : ℕ → List Piece → List Quoted
+placed at [] = []
+placed at (piece blanks w ∷ ps) = quoted (at + length blanks + 1) w ∷ placed (at + length blanks + 1 + length w + 1) ps
+
+-- a quote in a text stands right after a backslash; the last byte is no backslash, since the quote after it would be in the text
+pub record ClosedText (w : List ℕ) : Type 0 where
+  pub inner : (a b : List ℕ) → w ≡ a ++ QUOTE ∷ b → (c : List ℕ) × (a ≡ c ++ BACKSLASH ∷ [])
+  pub last : (a : List ℕ) → w ≡ a ++ BACKSLASH ∷ [] → ⊥
+
+-- all blanks are spaces and tabs, at least one stands before every string but the first, and the texts are closed
+pub record Layout (ps : List Piece) (end : List ℕ) : Type 0 where
+  pub blank : Each (λ (p : Piece). every spaceOrTab (blanksOf p) ≡ true) ps
+  pub end-blank : every spaceOrTab end ≡ true
+  pub parted : Each (λ (p : Piece). 1 ≤ length (blanksOf p)) (drop 1 ps)
+  pub texts : Each (λ (p : Piece). ClosedText (wordOf p)) ps
+
 -- ---- the laws
+
+-- the text of a string stands in t between two quotes
+pub record InQuotes (t : List ℕ) (q : Quoted) : Type 0 where
+  pub after : 1 ≤ startOf q
+  pub within : startOf q + length (textOf q) + 1 ≤ length t
+  pub between : take (length (textOf q) + 2) (drop (startOf q - 1) t) ≡ QUOTE ∷ (textOf q ++ QUOTE ∷ [])
+  pub text : take (length (textOf q)) (drop (startOf q) t) ≡ textOf q
 
 pub record Laws : Type 0 where
   -- no byte is lost, the lines keep the line rule, and no other lines of these bytes do
@@ -111,6 +154,17 @@ pub record Laws : Type 0 where
   -- what the look-ups find is the reading's: the descriptor of the field, and the last value of the key as it is written
   pub field-found : (file : List ℕ) (f : ℕ) → FindsField file f (header file) (findFieldCall file f)
   pub key-found : (file k : List ℕ) → FindsKey file k (header file) (findKeyCall file k)
+  -- the strings of a descriptor are as many as are asked for, and each stands in it between two quotes
+  pub strings-counted : (n : ℕ) (t : List ℕ) (qs : List Quoted) → stringsSaid n t ≡ some qs → length qs ≡ n
+  pub strings-there : (n : ℕ) (t : List ℕ) (qs : List Quoted) → stringsSaid n t ≡ some qs → (i : ℕ) → i < length qs → InQuotes t (getD qs i noString)
+  -- a descriptor with such a layout is read as exactly its strings, and one that is read has such a layout of exactly the strings read
+  pub strings-laid : (ps : List Piece) (end : List ℕ) → Layout ps end → stringsSaid (length ps) (laid ps end) ≡ some (placed 0 ps)
+  pub laid-strings : (n : ℕ) (t : List ℕ) (qs : List Quoted) → stringsSaid n t ≡ some qs → (ps : List Piece) × (end : List ℕ) × Layout ps end × (length ps ≡ n) × (t ≡ laid ps end) × (qs ≡ placed 0 ps)
+  -- the bytes at the place that the record of an axis tells of its label, or of its unit, are that text; f is labels or units
+  pub string-text : (file : List ℕ) {es : List Entry} {gs : List Given} {r : List Line} → header file ≡ accepted es gs r → (f i : ℕ) → take (stringPlaceOf f es gs i .1) (drop (stringPlaceOf f es gs i .0) file) ≡ textOf (getD (stringsOf f gs) i noString)
+  -- where the field is given, the text of each axis stands there between two quotes, all of it in the header
+  pub string-quoted : (file : List ℕ) {es : List Entry} {gs : List Given} {r : List Line} → header file ≡ accepted es gs r → (f i : ℕ) → (eqb f labels || eqb f units) ≡ true → isGiven f gs ≡ true → i < dimensionOf gs
+      → InQuotes file (quoted (stringPlaceOf f es gs i .0) (textOf (getD (stringsOf f gs) i noString))) × (stringPlaceOf f es gs i .0 + stringPlaceOf f es gs i .1 + 1 ≤ headerLength es)
   -- bytes of a sample and its value are inverse, over the width, for either endian
   pub value-of-bytes : (k : NumberKind) (w endian : ℕ) (z : ℤ) → 1 ≤ w → inType k w z ≡ true → sampleValue k endian (valueBytes w endian z) ≡ z
   pub bytes-of-value : (k : NumberKind) (endian : ℕ) (s : List ℕ) → AllBytes s → valueBytes (length s) endian (sampleValue k endian s) ≡ s

@@ -9,6 +9,8 @@ pub mod Decimals
 pub mod Spaces
 pub mod Vectors
 pub mod Columns
+pub mod Kinds
+pub mod Strings
 pub mod DataFiles
 pub mod Descriptors
 pub mod Widths
@@ -24,6 +26,7 @@ pub mod Settings
 pub mod Calls
 pub mod Files
 pub mod Orientation
+pub mod AxisRecords
 pub mod Listing
 pub mod Found
 pub mod Trials
@@ -40,6 +43,7 @@ pub mod OrientationTrials
 pub mod HeaderTrials
 pub mod FilesTrials
 pub mod ListTrials
+pub mod AxisTrials
 pub mod FurtherTrials
 pub mod Rules
 pub mod Laws

@@ -1,6 +1,6 @@
 -- How much room is always enough for what a call stores: the manual promises it (include/craneholt.h), and document 01 asks for refusal 22 only where
--- what is lent is too short ("Numbers of refusal"). That it is enough is the theorem of `theorem_room`; each call's contract says its own part, but for the
--- orientation's. The room of a listing is `Limits.maxListing`.
+-- what is lent is too short ("Numbers of refusal"). That it is enough is the theorem of `theorem_room`; each call's contract says its own part, but for those of the
+-- orientation and that of `read_records::list::axes`. The room of a listing is `Limits.maxListing`.
 use Prim.Native.Nat.{ℕ, _+_, _*_, _≤_}
 use mathlib.Core.Path.{_≡_}
 use mathlib.Core.List.{List}
@@ -15,6 +15,7 @@ use Rattle.format.specs.Descriptors.{product}
 use Rattle.format.specs.Header.{Outcome, refused, accepted}
 use Rattle.format.specs.Boundary.{entryBytes, decimalWidth}
 use Rattle.format.specs.Calls.{countOf}
+use Rattle.format.specs.AxisRecords.{axisWidth}
 
 -- what is lent was long enough: the refusal is another one, or none
 abbrev pub Enough : Refusal → Type 0
@@ -93,3 +94,13 @@ directionsRoom = maxAxes * maxSpace * decimalWidth
 -- bytes for those of a measurement frame: a vector for each dimension of the space
 abbrev pub frameRoom : ℕ
 frameRoom = maxSpace * maxSpace * decimalWidth
+
+-- ---- axis records
+
+-- records for the axes of a header (document 02, W6): there are never more
+abbrev pub axisRecords : ℕ
+axisRecords = maxAxes
+
+-- the bytes that so many have in C
+abbrev pub axesRoom : ℕ
+axesRoom = axisRecords * axisWidth

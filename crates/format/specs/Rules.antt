@@ -1,4 +1,4 @@
--- When a header keeps the rules of document 01, with requests W1, W2 and W5 of document 02: `KeepsRules`.
+-- When a header keeps the rules of document 01, with requests W1, W2, W5 and W6 of document 02: `KeepsRules`.
 -- It is said of all lines at once, each with the lines before it, and not by a walk over them.
 -- Headers are accepted exactly when they keep the rules: the laws `accepted-keeps` and `keeps-accepted` (specs/Laws.antt).
 -- At each rule stand its heading, where that is not "Lines and headers", and the number of the refusal where it is broken.

@@ -25,5 +25,13 @@ pub const SPACE_DIRECTIONS: usize = 20;
 
 pub const MEASUREMENT_FRAME: usize = 21;
 
+pub const CENTERS: usize = 26;
+
+pub const LABELS: usize = 27;
+
+pub const UNITS: usize = 28;
+
+pub const KINDS: usize = 29;
+
 // How many fields there are.
 pub const COUNT: usize = 30;

@@ -238,6 +238,28 @@ pub struct VectorAnswer {
     pub parts: [Decimal; SPACE],
 }
 
+// What a header says of an axis. All as callers in C have them: 32 bytes.
+#[repr(C)]
+pub struct Axis {
+    pub size: u64,
+    // 0 unknown, 1 cell, 2 node
+    pub centring: u32,
+    // 0 unknown, else from 1 as section 6 of source 000 lists them
+    pub kind: u32,
+    // where the text of the label lies in the file, without its quotes; both 0 where the field is not given
+    pub labelplace: u32,
+    pub labellength: u32,
+    // the same of the unit
+    pub unitplace: u32,
+    pub unitlength: u32,
+}
+
+// The answer of the call for axis records, and the records by value: one for each axis, zeros past them and where the call is refused.
+pub struct Axes {
+    pub answer: CountAnswer,
+    pub records: [Axis; AXES],
+}
+
 // What a reading says in numbers. All zero where the call is refused.
 #[repr(C)]
 pub struct Reading {
@@ -311,7 +333,7 @@ pub struct DataAnswer {
     pub length: u64,
 }
 
-// The answer of the sample calls and of the call for the number of files: how many there are.
+// The answer of the sample calls, of the call for the number of files and of that for axis records: how many there are.
 #[repr(C)]
 pub struct CountAnswer {
     pub refusal: Refusal,

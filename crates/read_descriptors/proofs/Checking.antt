@@ -11,9 +11,11 @@ use lib.Seq.{take-length}
 use borrow.Author.Tests.{eqb-true, ne-eqb}
 use Rattle.format.specs.Bytes.{isIn, isSome, if_then_else_}
 use Rattle.format.specs.Limits.{maxAxes, maxSize}
-use Rattle.format.specs.Fields.{dimension, type, encoding, endian, sizes, lineSkip, byteSkip, dataFile, space, spaceDimension, spaceOrigin, spaceDirections, measurementFrame}
+use Rattle.format.specs.Fields.{dimension, type, encoding, endian, sizes, lineSkip, byteSkip, dataFile, space, spaceDimension, spaceOrigin, spaceDirections, measurementFrame, centers, labels, units, kinds}
 use Rattle.format.specs.Words.{trimEnd, valueOfNumber, words, numbersIn}
 use Rattle.format.specs.Descriptors.{fromDescriptor, descriptor, mayDescribe, numberSaid, sizesFine, sizesSaid}
+use Rattle.format.specs.Kinds.{centringsSaid, kindsSaid}
+use Rattle.format.specs.Strings.{Quoted, stringsSaid}
 use Rattle.format.specs.DataFiles.{DataFile, dataFileSaid, coverSaid, lastNumbered}
 use Rattle.format.specs.Calls.{padded}
 use Rattle.format.proofs.Bytes.{and-left, and-right}
@@ -22,8 +24,12 @@ use Rattle.read_files.specs.Said.{isListed, coverCode}
 use Rattle.read_text.specs.Numbers.{noSizes, sizesAnswer}
 use Rattle.read_text.specs.declared.numbers.Sizes.{Sizes}
 use Rattle.read_text.proofs.Places.{eqb-comm}
+use Rattle.read_axes.specs.declared.codes.Codes.{Codes}
+use Rattle.read_axes.specs.declared.strings.Strings.{Strings}
+use Rattle.read_axes.specs.Codes.{codesAnswer}
+use Rattle.read_axes.specs.Strings.{stringsAnswer}
 use Rattle.read_descriptors.specs.declared.check.Checked.{Checked}
-use Rattle.read_descriptors.specs.Checked.{found, answered, checked, asked, NoneOf}
+use Rattle.read_descriptors.specs.Checked.{found, answered, checked, asked, oriented, NoneOf}
 
 -- ---- where a descriptor stands
 
@@ -99,21 +105,46 @@ other-checked n m f t ns h = rw (no sizes refl, no byteSkip refl, no dataFile re
     go true = refl
     go false = refl
 
--- the arms of `check_orientation`, the last one first
-abbrev pub oriented : List ℕ
-oriented = measurementFrame ∷ spaceDirections ∷ spaceOrigin ∷ spaceDimension ∷ space ∷ []
+-- the arms of `check_axes`, the last one first
+abbrev pub axial : List ℕ
+axial = kinds ∷ units ∷ labels ∷ centers ∷ []
 
--- a field that is in neither list may have any descriptor, and says no number
-pub any-taken : (n m f : ℕ) (t : List ℕ) → NoneOf f asked → NoneOf f oriented → found true 0 false ≡ found (mayDescribe n m f t) (numberSaid f t) false
-unfolding mayDescribe isIn
-any-taken n m f t h k =
-    rw (no dimension refl, no type refl, no encoding refl, no endian refl, no sizes refl, no lineSkip refl, no byteSkip refl, no dataFile refl, nor space refl, nor spaceDimension refl, nor spaceOrigin refl, nor spaceDirections refl, nor measurementFrame refl)
-  where
-    no : (g : ℕ) → isIn g asked ≡ true → eqb f g ≡ false
-    no = none-is f asked h
+-- a field that has no arm in `check` and in `check_orientation` is none of theirs
+module _ (n m f : ℕ) (t : List ℕ) (h : NoneOf f asked) (k : NoneOf f oriented) where
+  no : (g : ℕ) → isIn g asked ≡ true → eqb f g ≡ false
+  no = none-is f asked h
 
-    nor : (g : ℕ) → isIn g oriented ≡ true → eqb f g ≡ false
-    nor = none-is f oriented k
+  nor : (g : ℕ) → isIn g oriented ≡ true → eqb f g ≡ false
+  nor = none-is f oriented k
+
+  -- what it may say is asked of the fields after those
+  pub axis-taken : mayDescribe n m f t
+      ≡ (if eqb f centers then isSome (centringsSaid n t) else if eqb f kinds then isSome (kindsSaid n t) else if eqb f labels then isSome (stringsSaid n t) else if eqb f units then isSome (stringsSaid n t) else true)
+  unfolding mayDescribe isIn
+  axis-taken =
+      rw (no dimension refl, no type refl, no encoding refl, no endian refl, no sizes refl, no lineSkip refl, no byteSkip refl, no dataFile refl, nor space refl, nor spaceDimension refl, nor spaceOrigin refl, nor spaceDirections refl, nor measurementFrame refl)
+
+  -- and it says no number
+  pub no-number : numberSaid f t ≡ 0
+  unfolding isIn
+  no-number =
+      rw (no dimension refl, no type refl, no encoding refl, no endian refl, no lineSkip refl, no byteSkip refl, no dataFile refl, nor space refl, nor spaceDimension refl)
+
+  -- a field that has no arm in `check_axes` either may have any descriptor
+  pub any-taken : NoneOf f axial → found true 0 false ≡ found (mayDescribe n m f t) (numberSaid f t) false
+  unfolding isIn
+  any-taken q = rw (axis-taken, no-number, none-is f axial q centers refl, none-is f axial q kinds refl, none-is f axial q labels refl, none-is f axial q units refl)
+
+-- ---- words and strings for each axis: what is read is fine where the descriptor says it
+
+pub codes-fine : (o : Option (List ℕ)) (r : Codes) → r ≡ codesAnswer o → r .fine ≡ isSome o
+codes-fine none r e = rw e
+codes-fine (some ns) r e = rw e
+
+pub strings-fine : (base : ℕ) (o : Option (List Quoted)) (r : Strings) → r ≡ stringsAnswer base o → r .fine ≡ isSome o
+unfolding stringsAnswer
+strings-fine base none r e = rw e
+strings-fine base (some qs) r e = rw e
 
 -- ---- data files
 

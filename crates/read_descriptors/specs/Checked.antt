@@ -6,7 +6,7 @@ use mathlib.Core.List.{List, [], _∷_}
 use lib.Dec.{eqb, leb}
 use Rattle.format.specs.Bytes.{if_then_else_}
 use Rattle.format.specs.Limits.{maxAxes}
-use Rattle.format.specs.Fields.{dimension, type, encoding, endian, sizes, lineSkip, byteSkip, dataFile}
+use Rattle.format.specs.Fields.{dimension, type, encoding, endian, sizes, lineSkip, byteSkip, dataFile, space, spaceDimension, spaceOrigin, spaceDirections, measurementFrame}
 use Rattle.format.specs.Descriptors.{isFromEnd, byteSkipSaid, mayDescribe, numberSaid, sizesSaid}
 use Rattle.format.specs.DataFiles.{dataFileSaid, coverSaid}
 use Rattle.format.specs.Calls.{padded}
@@ -52,13 +52,17 @@ sizesKept f t ns = if eqb sizes f then padded (sizesSaid t) else ns
 abbrev pub checked : ℕ → ℕ → ℕ → List ℕ → List ℕ → Checked × List ℕ
 checked n m f t ns = (answered n m f t, if takes n m f t then sizesKept f t ns else ns)
 
--- ---- fields that `check` has no arm for
+-- ---- fields that a match has no arm for
 
 -- the arms of `check`, the last one first
 abbrev pub asked : List ℕ
 asked = dataFile ∷ byteSkip ∷ lineSkip ∷ sizes ∷ endian ∷ encoding ∷ type ∷ dimension ∷ []
 
--- f is none of them, as the arm `_` of a match is told
+-- the arms of `check_orientation`, the last one first
+abbrev pub oriented : List ℕ
+oriented = measurementFrame ∷ spaceDirections ∷ spaceOrigin ∷ spaceDimension ∷ space ∷ []
+
+-- f is none of such fields, as the arm `_` of a match is told
 abbrev pub NoneOf : ℕ → List ℕ → Type 0
 NoneOf f [] = Unit
 NoneOf f (g ∷ gs) = NoneOf f gs × (f ≡ g → ⊥)

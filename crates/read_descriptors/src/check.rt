@@ -9,15 +9,17 @@ ghost use mathlib.Core.Option.{Option};
 ghost use Prim.Native.Nat.{ℕ, _≤_};
 ghost use Rattle.format.specs.Bytes.{isSome, orDefault};
 ghost use lib.ListN.{length};
-ghost use Rattle.format.specs.Limits.{maxSize, maxSkip, maxHeader};
+ghost use Rattle.format.specs.Limits.{maxSize, maxSkip, maxHeader, maxAxes};
 ghost use Rattle.format.specs.Fields.{sizes, dataFile};
 ghost use Rattle.format.specs.Spaces.{maxSpace};
 ghost use Rattle.format.specs.Vectors.{vectorsSaid, directionsSaid};
+ghost use Rattle.format.specs.Strings.{stringsSaid};
 ghost use Rattle.format.specs.Words.{numberIn, valueOfNumber};
 ghost use Rattle.format.specs.Descriptors.{mayDescribe, numberSaid, isMinusOne, byteSkipSaid, bytesForward, isFromEnd};
 ghost use Rattle.read_text.specs.Rows.{rowAnswer};
+ghost use Rattle.read_axes.specs.Codes.{codesSaid};
 ghost use Rattle.read_descriptors.specs.declared.check.Checked.{Checked};
-ghost use Rattle.read_descriptors.specs.Checked.{found, answered, checked, asked, NoneOf};
+ghost use Rattle.read_descriptors.specs.Checked.{found, answered, checked, asked, oriented, NoneOf};
 
 // Whether the descriptor is one that the field may have; the number that it says, 0 where it says none or is wrong; whether it says that the data is found from the end;
 // whether it is LIST, after which names stand on lines of their own; and how many axes one data file covers, as `read_files::said` tells it.
@@ -180,9 +182,49 @@ fn check_directions(t: &[u8], count: u32, space: u32) -> Checked
     says_none(read_vectors::list::are_directions(t, count as usize, n))
 }
 
-// The descriptor t of the field f that is one of the five of the orientation, or a carried one, in a header of this dimension and a space of this one.
+// A word for each axis: a kind, or else a centring. No header has more than 16 axes: that is tested here.
+fn check_codes(t: &[u8], dimension: u32, kinds: bool) -> Checked
+    ensures { λ r. ⌜ (dimension ≤ maxAxes → r ≡ found (isSome (codesSaid kinds dimension (now (t .entry)))) 0 false) ⌝ }
+{
+    let n = dimension as usize;
+    if format::AXES < n {
+        return says_none(false);
+    }
+    let x = read_axes::codes::read_codes(t, n, kinds);
+    says_none(x.fine)
+}
+
+// A string in quotes for each axis. No header has more than 16 axes, and none is longer than the limit: both are tested here.
+fn check_strings(t: &[u8], dimension: u32) -> Checked
+    ensures { λ r. ⌜ (dimension ≤ maxAxes → length (now (t .entry)) ≤ maxHeader → r ≡ found (isSome (stringsSaid dimension (now (t .entry)))) 0 false) ⌝ }
+{
+    let n = dimension as usize;
+    if format::AXES < n {
+        return says_none(false);
+    }
+    if format::MAX_HEADER < t.len() {
+        return says_none(false);
+    }
+    let x = read_axes::strings::read_strings(t, n, 0);
+    says_none(x.fine)
+}
+
+// The descriptor t of the field f that is centers, labels, units or kinds, or a carried one, in a header of this dimension.
+fn check_axes(f: usize, t: &[u8], dimension: u32) -> Checked
+    ensures { λ r. ⌜ ((m : ℕ) → NoneOf f asked → NoneOf f oriented → dimension ≤ maxAxes → length (now (t .entry)) ≤ maxHeader → r ≡ found (mayDescribe dimension m f (now (t .entry))) (numberSaid f (now (t .entry))) false) ⌝ }
+{
+    match f {
+        field::CENTERS => check_codes(t, dimension, false),
+        field::LABELS => check_strings(t, dimension),
+        field::UNITS => check_strings(t, dimension),
+        field::KINDS => check_codes(t, dimension, true),
+        _ => says_none(true),
+    }
+}
+
+// The descriptor t of the field f that is one of the five of the orientation, or one that is handed to `check_axes`, in a header of this dimension and a space of this one.
 fn check_orientation(f: usize, t: &[u8], dimension: u32, space: u32) -> Checked
-    ensures { λ r. ⌜ (NoneOf f asked → space ≤ maxSpace → length (now (t .entry)) ≤ maxHeader → r ≡ found (mayDescribe dimension space f (now (t .entry))) (numberSaid f (now (t .entry))) false) ⌝ }
+    ensures { λ r. ⌜ (NoneOf f asked → dimension ≤ maxAxes → space ≤ maxSpace → length (now (t .entry)) ≤ maxHeader → r ≡ found (mayDescribe dimension space f (now (t .entry))) (numberSaid f (now (t .entry))) false) ⌝ }
 {
     match f {
         field::SPACE => check_row(read_text::words::space_named(t)),
@@ -190,7 +232,7 @@ fn check_orientation(f: usize, t: &[u8], dimension: u32, space: u32) -> Checked
         field::SPACE_ORIGIN => check_vectors(t, 1, space),
         field::SPACE_DIRECTIONS => check_directions(t, dimension, space),
         field::MEASUREMENT_FRAME => check_vectors(t, space, space),
-        _ => says_none(true),
+        _ => check_axes(f, t, dimension),
     }
 }
 
@@ -202,7 +244,7 @@ pub fn check(
     space: u32,
     kept: &mut [u64; format::AXES],
 ) -> Checked
-    ensures { λ r. ⌜ (space ≤ maxSpace → length (now (t .entry)) ≤ maxHeader → _≡_ {A = Checked × List ℕ} (r, now (kept .exit)) (checked dimension space f (now (t .entry)) (now (kept .entry)))) ⌝ }
+    ensures { λ r. ⌜ (dimension ≤ maxAxes → space ≤ maxSpace → length (now (t .entry)) ≤ maxHeader → _≡_ {A = Checked × List ℕ} (r, now (kept .exit)) (checked dimension space f (now (t .entry)) (now (kept .entry)))) ⌝ }
 {
     match f {
         field::DIMENSION => check_number(t, 1, format::MAX_AXES),

@@ -2,7 +2,7 @@
 -- Assumes nothing.
 use Prim.Native.Nat.{ℕ, zero, suc, _+_, _≤_, _<_, _-_}
 use Prim.Native.String.{String}
-use native.Mathlib.Nat.{add-zero, zero-add, not-suc-le-zero, le-of-suc-le-suc}
+use native.Mathlib.Nat.{zero-add}
 use native.Mathlib.Omega.{arith}
 use mathlib.Core.Path.{_≡_, refl, sym, ap, subst, _∙_}
 use mathlib.Core.Bool.{Bool, true, false, not, _&&_, _||_, false≢true}
@@ -14,7 +14,7 @@ use lib.Seq.{take-at}
 use borrow.Author.Tests.{lt-ltb, le-ltb, le-leb, leb-true, eqb-true, eqb-false, eq-eqb, ne-eqb}
 use mir.Val.{boolByte}
 use Rattle.format.specs.declared.Reading.{Reading}
-use Rattle.format.specs.Bytes.{isAny, isSome, rowFrom, orDefault, if_then_else_}
+use Rattle.format.specs.Bytes.{isAny, isSome, rowFrom, orDefault, if_then_else_, each}
 use Rattle.format.specs.Limits.{maxAxes, maxSize, maxExtent}
 use Rattle.format.specs.Refusals.{badDescriptor, missingField, extentTooLarge, refusal, fine}
 use Rattle.format.specs.Fields.{namesOf, fieldTable, fieldAt, fieldCount, fieldNamed, Given, given, named, descriptorOf, isGiven, dimension, type, encoding, endian, sizes, lineSkip, byteSkip, dataFile, space, spaceDimension, spaceOrigin, spaceDirections, measurementFrame, needsDimension}
@@ -27,7 +27,7 @@ use Rattle.read_files.specs.Said.{isListed, coverCode}
 use Rattle.format.specs.Header.{Item, field, givenOf, Entry, wrong, right, judge, refused, withField, afterItem, versionOf, headerLength, fieldLines}
 use Rattle.format.specs.Rules.{FieldLine, Keeps}
 use Rattle.format.specs.Calls.{readAnswer, padded, readingAt, readingOf}
-use Rattle.format.proofs.Bytes.{and-left, and-right}
+use Rattle.format.proofs.Bytes.{and-left, and-right, each-from, each-same}
 use Rattle.format.proofs.Judged.{is-field, is-name, judge-keeps, after-cases}
 use Rattle.format.proofs.Rules.{needed-of}
 use Rattle.format.proofs.Named.{Counts, said-counts}
@@ -35,7 +35,7 @@ use Rattle.read_descriptors.specs.declared.check.Checked.{Checked}
 use Rattle.read_descriptors.specs.Checked.{takes, saysEnd, saysList, saysCover, sizesKept, checked}
 use Rattle.read_descriptors.proofs.Checking.{fine-length}
 use Rattle.read_fields.specs.declared.state.Step.{Step}
-use Rattle.read_fields.specs.States.{each, flags, numbersOf, Kept, Holds, Known, described, fieldGiven, numberGiven, endGiven, listGiven, coverGiven, coverKept, sizesGiven, stepOf, stepped, keptAt, completeNumber, finished}
+use Rattle.read_fields.specs.States.{flags, numbersOf, Kept, Holds, Known, described, fieldGiven, numberGiven, endGiven, listGiven, coverGiven, coverKept, sizesGiven, stepOf, stepped, keptAt, completeNumber, finished}
 
 -- ---- what a data file's descriptor says
 
@@ -51,12 +51,6 @@ listed-is d h = go (dataFileSaid d) h (said-counts d)
 
 -- ---- flags and numbers
 
--- fields from f on of which v and w say the same
-each-same : {A : Type 0} (v w : ℕ → A) (f n : ℕ) → ((g : ℕ) → f ≤ g → v g ≡ w g) → each v f n ≡ each w f n
-unfolding each
-each-same v w f zero h = refl
-each-same v w f (suc n) h = rw (h f (omega arith), each-same v w (f + 1) n (λ g l. h g (omega arith)))
-
 -- one field of which w says x, and the others as v does
 each-set : {A : Type 0} (v w : ℕ → A) (x : A) (f n i g : ℕ) → ((k : ℕ) → (k ≡ g → ⊥) → w k ≡ v k) → w g ≡ x → g ≡ f + i → i < n
     → each w f n ≡ set (each v f n) i x
@@ -64,19 +58,11 @@ unfolding each
 each-set v w x f zero i g h e p l = absurd (omega arith)
 each-set v w x f (suc n) zero g h e p l =
     let q : f ≡ g = omega arith in
-    rw (q, e, each-same w v (g + 1) n (λ k m. h k (omega arith)))
+    rw (q, e, each-same w v (g + 1) n (λ k m l. h k (omega arith)))
 each-set v w x f (suc n) (suc i) g h e p l =
     rw (h f (omega arith), each-set v w x (f + 1) n i g h e (omega arith) (omega arith))
 
 -- what v says of a field
-each-from : {A : Type 0} (v : ℕ → A) (d : A) (f n i : ℕ) → i < n → getD (each v f n) i d ≡ v (f + i)
-unfolding each
-each-from v d f zero i h = absurd (not-suc-le-zero h)
-each-from v d f (suc n) zero h = rw add-zero
-each-from v d f (suc n) (suc i) h =
-    let e : f + suc i ≡ f + 1 + i = omega arith in
-    rw e (each-from v d (f + 1) n i (le-of-suc-le-suc h))
-
 each-at : {A : Type 0} (v : ℕ → A) (d : A) (f : ℕ) → f < fieldCount → getD (each v 0 fieldCount) f d ≡ v f
 each-at v d f h = each-from v d 0 fieldCount f h ∙ rw zero-add
 

@@ -1,13 +1,13 @@
 -- Internal to the library. What the reader keeps of the fields given so far, and its steps.
-use Prim.Native.Nat.{ℕ, zero, suc, _+_, _-_, _≤_}
+use Prim.Native.Nat.{ℕ, _+_, _-_, _≤_}
 use mathlib.Core.Path.{_≡_}
 use mathlib.Core.Bool.{Bool, true, false, not}
-use mathlib.Core.List.{List, [], _∷_}
+use mathlib.Core.List.{List}
 use mathlib.Core.Option.{Option, none, some}
 use lib.Dec.{ltb, eqb}
 use lib.ListN.{length, set}
 use Rattle.format.specs.declared.ReadAnswer.{ReadAnswer}
-use Rattle.format.specs.Bytes.{if_then_else_, isSome}
+use Rattle.format.specs.Bytes.{if_then_else_, isSome, each}
 use Rattle.format.specs.Limits.{maxAxes, maxExtent}
 use Rattle.format.specs.Spaces.{maxSpace}
 use Rattle.format.specs.Refusals.{badDescriptor, missingField, extentTooLarge, refusal, fine}
@@ -20,11 +20,6 @@ use Rattle.format.specs.Laws.{Each}
 use Rattle.read_files.specs.Said.{coverCode}
 use Rattle.read_descriptors.specs.Checked.{saysEnd, saysList, saysCover, sizesKept}
 use Rattle.read_fields.specs.declared.state.Step.{Step}
-
--- what v says of each of n fields from f on
-unfoldable pub each : {A : Type 0} → (ℕ → A) → ℕ → ℕ → List A
-each v f zero = []
-each v f (suc n) = v f ∷ each v (f + 1) n
 
 -- whether each field is given
 abbrev pub flags : List Given → List Bool

@@ -95,7 +95,7 @@ module _ (k : List ℕ) (at : ℕ) (found : FindAnswer) {t : List ℕ} {i : Item
 -- ---- a field's descriptor, in one line
 
 -- the place of the descriptor in what follows a mark, which starts at `at`
-abbrev placeIn : ℕ → ℕ → List ℕ → FindAnswer
+abbrev pub placeIn : ℕ → ℕ → List ℕ → FindAnswer
 placeIn f at rest = foundAt (at + (length rest - length (fromDescriptor f rest))) (length (descriptor f rest))
 
 -- the name's row is the field, or not
@@ -333,8 +333,12 @@ module _ (file : List ℕ) {n at : ℕ} (a : Fielded file n) (s : SecondAt file 
       start (λ es. findKeyCall file k ≡ keyElse k at es (noPlace fine)) λ l v es e q.
       ap (findKeyIn k) (a .is) ∙ key-place-before file (a .is) k ∙ ap (keyPlace k 0) q ∙ rw (zero-add, e)
 
-  pub field-start : (f : ℕ) → FieldLeft file f at (n - 1)
+  -- for any number of fields at once
+  pub start-fields : (Q : List Entry → Type 0) → ((es : List Entry) → ((f : ℕ) → findFieldCall file f ≡ fieldPlace f at es) → Q es) → Left Q file at (n - 1)
   unfolding fieldPlace
-  field-start f =
-      start (λ es. findFieldCall file f ≡ fieldPlace f at es) λ l v es e q.
+  start-fields Q h =
+      start Q λ l v es e q. h es λ f.
       ap (findFieldIn f) (a .is) ∙ field-place-before file (a .is) f ∙ ap (fieldPlace f 0) q ∙ rw (zero-add, e)
+
+  pub field-start : (f : ℕ) → FieldLeft file f at (n - 1)
+  field-start f = start-fields (λ es. findFieldCall file f ≡ fieldPlace f at es) λ es h. h f

@@ -27,7 +27,7 @@ fn is_field(name: &[u8], field: u32) -> bool
 }
 
 // The place of a field's descriptor in what follows its mark, which starts at `at`.
-fn descriptor_at(rest: &[u8], field: u32, at: usize) -> FindAnswer
+pub(crate) fn descriptor_at(rest: &[u8], field: u32, at: usize) -> FindAnswer
     requires { ⌜ at + length (now rest) ≤ maxHeader ⌝ }
     ensures { λ r. ⌜ r ≡ foundAt (at + (length (now (rest .entry)) - length (fromDescriptor field (now (rest .entry))))) (length (descriptor field (now (rest .entry)))) ⌝ }
 {

@@ -1,4 +1,5 @@
 pub mod Places
 pub mod Rows
 pub mod NumberLaws
+pub mod Said
 pub mod Meanings

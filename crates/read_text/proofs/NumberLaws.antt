@@ -254,7 +254,7 @@ sizesFrom dim n v ws =
     else noSizes
 
 -- numbers that are stored at the front of n zeros
-stored : (n : ℕ) (xs : List ℕ) → length xs ≤ n → sets (replicate n 0) 0 xs ≡ xs ++ replicate (n - length xs) 0
+pub stored : (n : ℕ) (xs : List ℕ) → length xs ≤ n → sets (replicate n 0) 0 xs ≡ xs ++ replicate (n - length xs) 0
 stored n xs h =
     let k : ℕ = length xs in
     let e : k + (n - k) ≡ n = omega arith in

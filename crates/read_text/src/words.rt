@@ -103,7 +103,7 @@ pub fn is_alike(a: &[u8], b: &[u8]) -> bool
 }
 
 // The row of the name that s is, in a table of names.
-fn row_among(names: &[u8], s: &[u8]) -> Row
+pub fn row_among(names: &[u8], s: &[u8]) -> Row
     requires { ⌜ ((ns : List Name) × (now names ≡ packed ns)) ⌝ }
     ensures { λ r. ⌜ ((ns : List Name) → now (names .entry) ≡ packed ns → r ≡ rowAnswer (rowAmong (now (s .entry)) ns)) ⌝ }
 {

@@ -1,4 +1,3 @@
 pub mod WordLaws
-pub mod Said
 pub mod VectorLaws
 pub mod ListLaws

@@ -17,7 +17,7 @@ use Rattle.read_vectors.specs.declared.vector.Vector.{Vector}
 use Rattle.format.specs.Columns.{eight, column, matrix}
 use Rattle.read_vectors.specs.Outside.{part, Next}
 use Rattle.read_vectors.specs.Answers.{vectorAnswer, directionAnswer, wordSaid, frameSaid}
-use Rattle.read_vectors.proofs.Said.{cons-some, said-done, said-short, said-long, said-cons, said-values, said-both}
+use Rattle.read_text.proofs.Said.{cons-some, said-done, said-short, said-long, said-cons, said-values, said-both}
 use Rattle.read_vectors.proofs.WordLaws.{words-none, words-more}
 
 -- ---- whether the vectors are there, `left` of them from a place on

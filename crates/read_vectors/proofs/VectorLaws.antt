@@ -23,7 +23,7 @@ use Rattle.read_decimals.specs.Components.{componentAnswer}
 use Rattle.read_vectors.specs.declared.vector.Vector.{Vector}
 use Rattle.format.specs.Columns.{eight, column}
 use Rattle.read_vectors.specs.Answers.{vectorAnswer, directionAnswer}
-use Rattle.read_vectors.proofs.Said.{said-done, said-short, said-long, said-cons}
+use Rattle.read_text.proofs.Said.{said-done, said-short, said-long, said-cons}
 use Rattle.read_vectors.proofs.WordLaws.{all-after, drop-leading}
 
 -- ---- a component

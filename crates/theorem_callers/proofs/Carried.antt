@@ -5,24 +5,27 @@ use mathlib.Core.Path.{_≡_, refl, sym, ap, subst, _∙_}
 use Prim.Native.Nat.{ℕ, _+_, _*_, _^_, _/_, _≤_, _<_}
 use native.Mathlib.Omega.{arith}
 use mathlib.Core.Bool.{Bool, true, false}
-use mathlib.Core.List.{List, [], _∷_}
+use mathlib.Core.List.{List, [], _∷_, map}
 use lib.Dec.{eqb, ltb}
 use lib.IntN.{ℤ}
 use lib.ListN.{length, take, drop, length-take}
-use lib.Seq.{take-at, length-take-le}
+use lib.Seq.{take-at, take-all, length-take-le}
 use borrow.Author.Tests.{ltb-false, le-ltb}
 use Rattle.format.specs.declared.Refusal.{Refusal}
 use Rattle.format.specs.declared.ReadAnswer.{ReadAnswer}
 use Rattle.format.specs.declared.CountAnswer.{CountAnswer}
+use Rattle.format.specs.declared.Axis.{Axis}
 use Rattle.format.specs.declared.SetAnswer.{SetAnswer}
 use Rattle.format.specs.Bytes.{if_then_else_, over}
 use Rattle.format.specs.Limits.{maxHeader}
-use Rattle.format.specs.Refusals.{refusal, lentTooShort}
+use Rattle.format.specs.Refusals.{refusal, lentTooShort, fine}
 use Rattle.format.specs.Lines.{Line, size, unlines, starts}
 use Rattle.format.specs.Fields.{Given}
+use Rattle.format.specs.Descriptors.{dimensionOf}
 use Rattle.format.specs.Header.{Entry, linesOf, Outcome, refused, accepted, header, valueOf, tableOf}
 use Rattle.format.specs.Settings.{refilled, Lent, lent, Setting, setting, SetOutcome, kept, changed, setKey}
-use Rattle.format.specs.Calls.{readingOf, readAnswer, withTable, copyValue, copyValueIn, copyValueCall, setAnswer, setKeyCall, callOn, left, recorded, setKeysBy, setKeys}
+use Rattle.format.specs.AxisRecords.{axesOf, axisWidth, axesBytes, axesListed, axesEntry}
+use Rattle.format.specs.Calls.{readingOf, readAnswer, withTable, copyValue, copyValueIn, copyValueCall, noSamples, setAnswer, setKeyCall, callOn, left, recorded, setKeysBy, setKeys}
 use Rattle.format.specs.Boundary.{entryBytes, numbersOf, numberBytes, lentNumbers, samplesLent, lentSamples}
 use Rattle.format.specs.EntryPoints.{readEntry, setKeyEntry}
 use Rattle.format.specs.Laws.{AllBelow}
@@ -31,10 +34,11 @@ use Rattle.format.proofs.Header.{header-sound, length-table}
 use Rattle.format.proofs.Numbered.{NumberedOutcome, header-numbered}
 use Rattle.format.proofs.Samples.{AllBytes}
 use Rattle.format.proofs.Boundary.{length-over, over-past, bytes-over, length-number-bytes, number-bytes-bytes, length-numbers, first-numbers, numbers-over, lent-of-numbers, numbers-of-front}
-use Rattle.theorem_lists.specs.Lists.{tableIn, countIn, Settled}
+use Rattle.theorem_lists.specs.Lists.{tableIn, countIn, movedAxis, Settled}
 use Rattle.theorem_lists.proofs.Buffers.{Done, set-done}
+use Rattle.theorem_lists.proofs.AxesMove.{axes-counted, all-moved}
 use Rattle.theorem_lists.proofs.Lists.{settings}
-use Rattle.theorem_callers.specs.Callers.{NotRefused, inNumbers, Carried, SettingsAreCarried}
+use Rattle.theorem_callers.specs.Callers.{NotRefused, inNumbers, recordsOver, Carried, SettingsAreCarried}
 
 -- the lines of a header start below its end
 starts-below : (m at : ℕ) (ls : List Line) → at + length (unlines ls) < m → AllBelow m (starts at ls)
@@ -172,6 +176,24 @@ value-of : (file key out : List ℕ) (es : List Entry) (gs : List Given) (ls : L
     → copyValueCall file key out ≡ copyValue out (valueOf key es)
 value-of file key out es gs ls e = ap (copyValueIn key out) e
 
+-- a refused call for records leaves the list
+none-over : (r : Refusal) (records : List Axis) (list : List ℕ) → (noSamples r, list) ≡ recordsOver (noSamples r) records list
+unfolding axesBytes
+none-over r records list = refl
+
+-- axis records in the bytes of a list, where the records of a second file are `moved`
+axes-over : (first file : List ℕ) (es fs : List Entry) (gs : List Given) (ls : List Line) (moved : List Axis) → header first ≡ accepted es gs ls
+    → header file ≡ accepted fs gs ls → axesOf fs gs ≡ moved → (list : List ℕ) → axesEntry file list ≡ recordsOver (axesEntry first list .0) moved list
+unfolding axesListed
+axes-over first file es fs gs ls moved e g q list = rw (g, e) (go (ltb (length list / axisWidth) (dimensionOf gs)))
+  where
+    answer : Bool → List Axis → CountAnswer × List ℕ
+    answer x records = if x then (noSamples (refusal lentTooShort), list) else (record { refusal = fine; count = dimensionOf gs }, over (axesBytes records) list)
+
+    go : (x : Bool) → answer x (axesOf fs gs) ≡ recordsOver (answer x (axesOf es gs) .0) moved list
+    go true = none-over (refusal lentTooShort) moved list
+    go false = rw (q, take-all (dimensionOf gs) moved (omega (arith, ap length q, axes-counted fs gs)))
+
 -- what a list left, after a reading of `first` with `table`
 carried-at : (first table : List ℕ) (es : List Entry) (gs : List Given) (ls : List Line) (b : List ℕ) (u : ℕ) (x : Lent) (done : List Setting)
     → header first ≡ accepted es gs ls → Follows (lent b u table 0) x → Settled first es gs ls (inNumbers x) done → Carried first table x done
@@ -199,6 +221,7 @@ carried-at first table es gs ls b u (lent buf used t n) done e f s =
       files = s .files;
       name = s .name;
       sampleFile = s .sampleFile;
+      axes = axes-over first (take used buf) es (s .entries) gs ls (map (movedAxis gs es (s .entries)) (axesOf es gs)) e (s .reading) (all-moved es (s .entries) gs (s .axis));
       samples = λ second list. ap (λ (a : CountAnswer × List ℤ). (a .0, lentSamples (a .1) list)) (s .samples second (samplesLent list));
     }
 

@@ -15,13 +15,15 @@ use Rattle.format.specs.declared.ReadAnswer.{ReadAnswer}
 use Rattle.format.specs.declared.ValueAnswer.{ValueAnswer}
 use Rattle.format.specs.declared.WriteAnswer.{WriteAnswer}
 use Rattle.format.specs.declared.CountAnswer.{CountAnswer}
+use Rattle.format.specs.declared.Axis.{Axis}
 use Rattle.format.specs.Bytes.{if_then_else_, isEmpty}
 use Rattle.format.specs.Refusals.{lentTooShort}
 use Rattle.format.specs.Header.{Outcome, refused, accepted, header, valueOf}
-use Rattle.format.specs.Descriptors.{spaceSizeOf, fileCountOf}
+use Rattle.format.specs.Descriptors.{dimensionOf, spaceSizeOf, fileCountOf}
 use Rattle.format.specs.Settings.{Lent, lent, setting}
 use Rattle.format.specs.Calls.{withTable, copyValue, copyValueIn, writeAnswer, seenIn, listAfter, samplesCall, setKeyCall, left}
 use Rattle.format.specs.Files.{fileNameOf, fileNameIn}
+use Rattle.format.specs.AxisRecords.{axesIn, axisWidth, axesListed}
 use Rattle.format.specs.Orientation.{originOf, directionsOf, frameOf, listed, originListed, directionDecimals, directionsListed, frameListed}
 use Rattle.format.specs.Writer.{fileBytes, writable, writeRefusal}
 use Rattle.format.specs.HeaderWriter.{Orientation, orientedBytes, spaceListed, inVersion, afterReading, writeHeader}
@@ -80,6 +82,18 @@ frame-kept : (o : Outcome) (list : List ℕ) → Kept (λ (a : CountAnswer). a .
 frame-kept (refused r) list = λ h. refl
 frame-kept (accepted es gs ls) list = listed-kept (flatMap (λ c. c) (frameOf gs)) list
 
+-- axis records, or 22: in bytes, and as records
+axes-kept : (o : Outcome) (list : List ℕ) → Kept (λ (a : CountAnswer). a .refusal) list (axesListed list o)
+unfolding axesListed
+axes-kept (refused r) list = λ h. refl
+axes-kept (accepted es gs ls) list =
+    either (λ (a : CountAnswer). a .refusal) list (ltb (length list / axisWidth) (dimensionOf gs)) _ _ (λ h. refl) (λ h. absurd (h refl))
+
+records-kept : (o : Outcome) (list : List Axis) → Kept (λ (a : CountAnswer). a .refusal) list (axesIn list o)
+unfolding axesIn
+records-kept (refused r) list = λ h. refl
+records-kept (accepted es gs ls) list = either (λ (a : CountAnswer). a .refusal) list (ltb (length list) (dimensionOf gs)) _ _ (λ h. refl) (λ h. absurd (h refl))
+
 -- a written header, along its refusals
 header-kept : (version : ℕ) (sizes : List ℕ) (t e endian : ℕ) (shaped : Bool) (o : Orientation) (out : List ℕ)
     → Kept (λ (a : WriteAnswer). a .refusal) out (writeHeader version sizes t e endian shaped o out)
@@ -124,6 +138,8 @@ keeps =
       directions = λ file list. directions-kept (header file) list;
       frame = λ file list. frame-kept (header file) list;
       name = λ file n out. name-kept n out (header file);
+      axes = λ file list. axes-kept (header file) list;
+      records = λ file list. records-kept (header file) list;
       written-header = entry-kept;
       write = λ version sizes t e endian samples out h.
           let ns = numbersOf wordBytes sizes in

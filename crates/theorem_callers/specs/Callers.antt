@@ -1,16 +1,17 @@
 -- What the demands say of the bytes that callers in C lend, beyond what each entry point's own contract says, as one statement: `CallersHold`.
 -- A refused call leaves them (demand 1), what is written is read back (demand 2; headers with their orientation: document 02, W2), lists of settings (demand 3).
--- It speaks of what the entry points answer, which their contracts cite (EntryPoints.antt, Calls.antt, Listing.antt), over the bytes that callers lend,
--- however many. Numbers in lent bytes have their low byte first: 4 bytes an entry of a table, 8 a size or a sample (Boundary.antt).
+-- It speaks of what the entry points answer, which their contracts cite (EntryPoints.antt, Calls.antt, Files.antt, Orientation.antt, AxisRecords.antt, Listing.antt), over the
+-- bytes that callers lend, however many. Numbers in lent bytes have their low byte first: 4 bytes an entry of a table, 8 a size or a sample (Boundary.antt), 32 an axis record.
 use Prim.Native.Nat.{ℕ, _*_, _/_, _≤_, _<_}
 use mathlib.Core.Path.{_≡_}
 use mathlib.Core.Bool.{not}
-use mathlib.Core.List.{List, [], flatMap}
+use mathlib.Core.List.{List, [], map, flatMap}
 use mathlib.Core.Option.{none}
 use lib.Dec.{eqb}
 use lib.ListN.{length, take, drop}
 use Rattle.format.specs.declared.Refusal.{Refusal}
 use Rattle.format.specs.declared.CountAnswer.{CountAnswer}
+use Rattle.format.specs.declared.Axis.{Axis}
 use Rattle.format.specs.Bytes.{if_then_else_, isEmpty, over, isSome, orElse, orDefault}
 use Rattle.format.specs.Refusals.{fine}
 use Rattle.format.specs.Lines.{Line}
@@ -24,12 +25,13 @@ use Rattle.format.specs.Files.{fileCountCall, fileNameCall, sampleFileCall}
 use Rattle.format.specs.Listing.{listingCall}
 use Rattle.format.specs.Boundary.{entryBytes, wordBytes, numbersOf, samplesLent, decimalsLent}
 use Rattle.format.specs.Orientation.{originCall, directionCall, frameCall, listed, directionDecimals, originEntry, directionsEntry, frameEntry}
+use Rattle.format.specs.AxisRecords.{axesOf, axesCall, axesBytes, axesEntry}
 use Rattle.format.specs.HeaderWriter.{Orientation, orientation, orientationOf}
 use Rattle.format.specs.EntryPoints.{readEntry, samplesEntry, writeEntry, shapeLent, columnsLent, writeHeaderEntry, setKeyEntry}
 use Rattle.format.specs.Laws.{AllBytes}
 use Rattle.theorem_roundtrip.specs.RoundTrip.{readBack, dataBack}
 use Rattle.theorem_headers.specs.HeadersBack.{originGiven, directionsGiven, frameGiven, sizeGiven, meantOrientation, readBack as headerBack, originBack, directionBack, frameBack}
-use Rattle.theorem_lists.specs.Lists.{tableIn, countIn, fileIn, lastAccepted, resized, Settled, firstCase, setCases}
+use Rattle.theorem_lists.specs.Lists.{tableIn, countIn, fileIn, lastAccepted, resized, movedAxis, Settled, firstCase, setCases}
 
 -- a call answers the number of its refusal, 0 where nothing is refused (document 01, "Numbers of refusal")
 abbrev pub NotRefused : Refusal → Type 0
@@ -60,6 +62,11 @@ pub record RefusedKeeps : Type 0 where
   -- craneholt_file_name: the buffer (document 02, W5)
   pub name : (file : List ℕ) (n : ℕ) (out : List ℕ)
       → Refused (fileNameCall file n out .0 .refusal) → fileNameCall file n out .1 ≡ out
+  -- craneholt_axes: the list; and the list of records that `read_records::list::axes` is lent (document 02, W6)
+  pub axes : (file list : List ℕ)
+      → Refused (axesEntry file list .0 .refusal) → axesEntry file list .1 ≡ list
+  pub records : (file : List ℕ) (list : List Axis)
+      → Refused (axesCall file list .0 .refusal) → axesCall file list .1 ≡ list
   -- craneholt_write: the buffer
   pub write : (version : ℕ) (sizes : List ℕ) (t e endian : ℕ) (samples out : List ℕ)
       → Refused (writeEntry version sizes t e endian samples out .0 .refusal) → writeEntry version sizes t e endian samples out .1 ≡ out
@@ -149,6 +156,10 @@ inNumbers (lent buf used table count) = lent buf used (numbersOf entryBytes tabl
 abbrev pub bytesCounted : Lent → ℕ
 bytesCounted l = entryBytes * countIn l
 
+-- an answer, and a list with the bytes of as many of these records at its front as are answered, none with a refusal
+abbrev pub recordsOver : CountAnswer → List Axis → List ℕ → CountAnswer × List ℕ
+recordsOver a records list = (a, over (axesBytes (take (a .count) records)) list)
+
 -- `first` was read, and `table` was lent to craneholt_read; `after` is what the list left, `done` the settings of it that were accepted
 pub record Carried (first table : List ℕ) (after : Lent) (done : List Setting) : Type 0 where
   -- the first reading, and what lists of settings do (Lists.antt): header lines, data and its place, used length
@@ -179,6 +190,11 @@ pub record Carried (first table : List ℕ) (after : Lent) (done : List Setting)
   pub files : fileCountCall (fileIn after) ≡ fileCountCall first
   pub name : (n : ℕ) (out : List ℕ) → fileNameCall (fileIn after) n out ≡ fileNameCall first n out
   pub sampleFile : (s : ℕ) → sampleFileCall (fileIn after) s ≡ sampleFileCall first s
+  -- craneholt_axes answers as before, with any list, and leaves the bytes of the first records but for the places of labels and units, which move with their lines; their texts
+  -- are the same (Lists.antt: `label`, `unit`). Bytes past the records are as lent (document 02, W6)
+  pub axes : (list : List ℕ)
+      → axesEntry (fileIn after) list
+      ≡ recordsOver (axesEntry first list .0) (map (movedAxis first-fields first-entries (settled .entries)) (axesOf first-entries first-fields)) list
   -- craneholt_samples answers and leaves what it did before, with any second file and list
   pub samples : (second list : List ℕ) → samplesEntry (fileIn after) second list ≡ samplesEntry first second list
 

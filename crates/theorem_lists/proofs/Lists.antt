@@ -28,6 +28,7 @@ use Rattle.theorem_lists.proofs.Buffers.{unless, take-refilled, buffers
 use Rattle.theorem_lists.proofs.Data.{place-moved, place-past, same-data, same-samples}
 use Rattle.theorem_lists.proofs.Settled.{afterList, put-after-list, after-list-nil, lines-after-list, value-after-list}
 use Rattle.theorem_lists.proofs.NamesStay.{names-after-list}
+use Rattle.theorem_lists.proofs.AxesMove.{line-stays, axis-moved, label-past, unit-past, same-label, same-unit, axes-moved}
 
 -- ---- what is lent
 
@@ -197,6 +198,12 @@ module _ (l : Line) (n : ℕ) (gs : List Given) (ls : List Line) where
         files = rw (g .reading, e);
         name = λ m out. rw (g .reading, e);
         sampleFile = λ s. rw (g .reading, e);
+        axis = axis-moved first (fileIn x) e (g .reading) (line-stays done l n es);
+        label-in-line = label-past first e;
+        unit-in-line = unit-past first e;
+        label = same-label first (fileIn x) e (g .reading);
+        unit = same-unit first (fileIn x) e (g .reading);
+        axes = axes-moved first (fileIn x) e (g .reading) (line-stays done l n es);
         count = g .count;
         table = g .table;
         fresh = λ own h. rw (g .reading, le-ltb (length own) (length (entry l (magic n) ∷ afterList done (ending l) es)) h, g .table);

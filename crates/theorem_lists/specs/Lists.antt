@@ -1,9 +1,9 @@
 -- What every list of settings does (demand 3; document 01, "Lists of settings"), as one statement: `SettingsHold`.
 -- It speaks of `setKeyCall`, the definition that the setter's contract cites, and of `setKeys`, which is that call again and again.
-use Prim.Native.Nat.{ℕ, _+_, _-_, _≤_, max}
+use Prim.Native.Nat.{ℕ, _+_, _-_, _≤_, _<_, max}
 use mathlib.Core.Path.{_≡_}
 use mathlib.Core.Bool.{Bool, true, false, not, _&&_, _||_}
-use mathlib.Core.List.{List, [], _∷_, _++_}
+use mathlib.Core.List.{List, [], _∷_, _++_, map}
 use mathlib.Core.Option.{Option, none, some}
 use lib.Dec.{eqb, ltb}
 use lib.IntN.{ℤ}
@@ -11,15 +11,19 @@ use lib.ListN.{length, take, drop, replicate}
 use Rattle.format.specs.declared.Refusal.{Refusal}
 use Rattle.format.specs.declared.Reading.{Reading}
 use Rattle.format.specs.declared.DataAnswer.{DataAnswer}
+use Rattle.format.specs.declared.CountAnswer.{CountAnswer}
+use Rattle.format.specs.declared.Axis.{Axis}
 use Rattle.format.specs.Bytes.{if_then_else_, same, isSome, orElse, orDefault, over}
 use Rattle.format.specs.Limits.{maxFile, maxHeader, maxLines}
 use Rattle.format.specs.Refusals.{fileTooLong, headerTooLong, tooManyLines, notInVersion, lentTooShort, badKey, badValue, wrongTable, refusal, fine}
-use Rattle.format.specs.Lines.{Line, line, Ending, ending, unlines}
-use Rattle.format.specs.Fields.{Given, pairsSince}
-use Rattle.format.specs.Header.{pairOf, Entry, entry, linesOf, Outcome, refused, accepted, header, versionOf, valueOf, tableOf, headerLength, fieldLines}
+use Rattle.format.specs.Lines.{Line, line, Ending, ending, size, unlines}
+use Rattle.format.specs.Fields.{Given, given, named, isGiven, labels, units, pairsSince}
+use Rattle.format.specs.Descriptors.{dimensionOf}
+use Rattle.format.specs.Header.{pairOf, givenOf, Entry, entry, linesOf, Outcome, refused, accepted, header, versionOf, valueOf, tableOf, headerLength, fieldLines}
 use Rattle.format.specs.Settings.{keyFine, valueFine, pairText, hasKey, newLines, tableFine, Lent, lent, Setting, setting}
 use Rattle.format.specs.Orientation.{originCall, directionCall, frameCall}
 use Rattle.format.specs.Files.{fileCountCall, fileNameCall, sampleFileCall}
+use Rattle.format.specs.AxisRecords.{axisOf, axesCall}
 use Rattle.format.specs.Calls.{readHeaderCall, readCall, dataPlaceCall, dataCall, samplesCall, setKeyCall, callOn, left, setKeys}
 
 -- ---- parts of what is lent
@@ -118,6 +122,47 @@ abbrev pub movedPlace : ℕ → ℕ → DataAnswer → DataAnswer
 movedPlace h n d =
     record { refusal = d .refusal; second = d .second; start = if inFirst d then n + (d .start - h) else d .start; length = d .length }
 
+-- ---- axis records (document 02, W6): a label or a unit counts by its text, and its place moves with the lines before it
+
+-- what a line gives is the field f
+abbrev pub isField : ℕ → Option Given → Bool
+isField f none = false
+isField f (some (given g d)) = eqb f g
+isField f (some (named t)) = false
+
+-- where the line that gives the field f starts in the header: after as many bytes as the lines before it have
+unfoldable pub lineStart : ℕ → List Entry → ℕ
+lineStart f [] = 0
+lineStart f (entry l i ∷ es) = if isField f (givenOf i) then 0 else size l + lineStart f es
+
+-- a place in that line once the header's entries es have become fs: as far past the line's start as before; 0 where the field is not given
+abbrev pub movedIn : ℕ → List Given → List Entry → List Entry → ℕ → ℕ
+movedIn f gs es fs p = if isGiven f gs then lineStart f fs + (p - lineStart f es) else 0
+
+-- the record of an axis then: the places of its label and of its unit move, all else stays
+abbrev pub movedAxis : List Given → List Entry → List Entry → Axis → Axis
+movedAxis gs es fs a =
+    record {
+      size = a .size;
+      centring = a .centring;
+      kind = a .kind;
+      labelplace = movedIn labels gs es fs (a .labelplace);
+      labellength = a .labellength;
+      unitplace = movedIn units gs es fs (a .unitplace);
+      unitlength = a .unitlength;
+    }
+
+-- an answer of `axes` and its list then: as many records as it answers have moved, those past them stay
+abbrev pub movedAxes : List Given → List Entry → List Entry → CountAnswer × List Axis → CountAnswer × List Axis
+movedAxes gs es fs a = (a .0, map (movedAxis gs es fs) (take (a .0 .count) (a .1)) ++ drop (a .0 .count) (a .1))
+
+-- the texts that a record tells of: the bytes of the file at their places
+abbrev pub labelIn : List ℕ → Axis → List ℕ
+labelIn file a = take (a .labellength) (drop (a .labelplace) file)
+
+abbrev pub unitIn : List ℕ → Axis → List ℕ
+unitIn file a = take (a .unitlength) (drop (a .unitplace) file)
+
 -- `after` is what the list left, `done` the settings of it that were accepted; the first file was `first`, its header es with the fields gs,
 -- before the lines ls
 pub record Settled (first : List ℕ) (es : List Entry) (gs : List Given) (ls : List Line) (after : Lent) (done : List Setting) : Type 0 where
@@ -137,6 +182,16 @@ pub record Settled (first : List ℕ) (es : List Entry) (gs : List Given) (ls : 
   pub name : (n : ℕ) (out : List ℕ) → fileNameCall (fileIn after) n out ≡ fileNameCall first n out
   -- each sample is in the same file, at the same byte of that file's share (document 02, W5)
   pub sampleFile : (s : ℕ) → sampleFileCall (fileIn after) s ≡ sampleFileCall first s
+  -- the record of each axis is the first one, but for the places of its label and of its unit: each is as far past the start of its line as it was (document 02, W6)
+  pub axis : (i : ℕ) → i < dimensionOf gs → axisOf entries gs i ≡ movedAxis gs es entries (axisOf es gs i)
+  -- where the field is given, such a place is never before the start of its line
+  pub label-in-line : (i : ℕ) → i < dimensionOf gs → isGiven labels gs ≡ true → lineStart labels es ≤ axisOf es gs i .labelplace
+  pub unit-in-line : (i : ℕ) → i < dimensionOf gs → isGiven units gs ≡ true → lineStart units es ≤ axisOf es gs i .unitplace
+  -- the text of each label and of each unit is the same bytes (document 02, W6)
+  pub label : (i : ℕ) → labelIn (fileIn after) (axisOf entries gs i) ≡ labelIn first (axisOf es gs i)
+  pub unit : (i : ℕ) → unitIn (fileIn after) (axisOf entries gs i) ≡ unitIn first (axisOf es gs i)
+  -- the call for the records answers as before, a refusal too, and leaves these records in whatever list; those past the dimension are as lent (document 02, W6)
+  pub axes : (list : List Axis) → axesCall (fileIn after) list ≡ movedAxes gs es entries (axesCall first list)
   -- a key that was set has its latest accepted value, any other key the one that it had in the first reading
   pub values : (k : List ℕ) → valueOf k entries ≡ orElse (lastAccepted k done) (valueOf k es)
   -- the carried count and table are those of the fresh reading

@@ -35,12 +35,14 @@ use Rattle.format.proofs.Header.{header-sound}
 use Rattle.format.proofs.Numbered.{NumberedOutcome, header-numbered}
 use Rattle.format.proofs.Places.{place-numbered}
 use Rattle.format.specs.Files.{fileNameCall}
-use Rattle.format.specs.Room.{Enough, tableEntries, tableRoom, writeRoom, valueRoom, Copied, nameRoom, samplesRoom, setRoom}
+use Rattle.format.specs.AxisRecords.{axesEntry}
+use Rattle.format.specs.Room.{Enough, tableEntries, tableRoom, writeRoom, valueRoom, Copied, nameRoom, axesRoom, samplesRoom, setRoom}
 use Rattle.theorem_room.specs.Room.{RoomEnough}
 use Rattle.theorem_room.proofs.Written.{room-for-file}
 use Rattle.theorem_room.proofs.Checked.{list-long}
 use Rattle.theorem_room.proofs.FileNames.{name-enough}
 use Rattle.theorem_room.proofs.Oriented.{origin-enough, directions-enough, frame-enough}
+use Rattle.theorem_room.proofs.Axes.{records-enough, axes-enough}
 use Rattle.theorem_room.proofs.Grown.{escape-length, header-grown}
 
 -- ---- the reading, with a table or without
@@ -199,6 +201,8 @@ room-enough =
       origin-enough = λ file list h. origin-enough file list (omega (arith, h));
       directions-enough = λ file list h. directions-enough file list (omega (arith, h));
       frame-enough = λ file list h. frame-enough file list (omega (arith, h));
+      records-enough = λ file list h. records-enough file list (omega (arith, h));
+      axes-enough = λ file list h. axes-enough file list (omega (arith, h));
     }
 
 -- an answer with this refusal is refused for what is lent only if the other is
@@ -218,6 +222,10 @@ value-answered file k buf e h = subst (Copied (findKeyCall file k)) (sym (ap (λ
 pub name-answered : (file : List ℕ) (n : ℕ) (out : List ℕ) {a : WriteAnswer} {after : List ℕ}
     → _≡_ {A = WriteAnswer × List ℕ} (a, after) (fileNameCall file n out) → nameRoom ≤ length out → Enough (a .refusal)
 name-answered file n out q h = same-refusal (ap (λ (x : WriteAnswer × List ℕ). x .0 .refusal) q) (name-enough file n out h)
+
+pub axes-answered : (file list : List ℕ) {a : CountAnswer} {after : List ℕ}
+    → _≡_ {A = CountAnswer × List ℕ} (a, after) (axesEntry file list) → axesRoom ≤ length list → Enough (a .refusal)
+axes-answered file list q h = same-refusal (ap (λ (x : CountAnswer × List ℕ). x .0 .refusal) q) (axes-enough file list h)
 
 pub samples-answered : (file second : List ℕ) (list : List ℤ) {a : CountAnswer} {after : List ℤ}
     → _≡_ {A = CountAnswer × List ℤ} (a, after) (samplesCall file second list) → samplesRoom (header file) ≤ length list → Enough (a .refusal)

@@ -3,4 +3,5 @@ pub mod Checked
 pub mod Grown
 pub mod Oriented
 pub mod FileNames
+pub mod Axes
 pub mod Enough

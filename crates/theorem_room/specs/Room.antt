@@ -5,12 +5,14 @@ use mathlib.Core.Path.{_≡_}
 use mathlib.Core.List.{List}
 use lib.IntN.{ℤ}
 use lib.ListN.{length}
+use Rattle.format.specs.declared.Axis.{Axis}
 use Rattle.format.specs.Refusals.{extentTooLarge}
 use Rattle.format.specs.Header.{header}
 use Rattle.format.specs.Calls.{readHeaderCall, readCall, findKeyCall, copyValueCall, samplesCall, writeCall, setKeyCall}
 use Rattle.format.specs.Orientation.{originEntry, directionsEntry, frameEntry}
 use Rattle.format.specs.Files.{fileNameCall}
-use Rattle.format.specs.Room.{Enough, tableEntries, writeRoom, valueRoom, Copied, nameRoom, samplesRoom, setRoom, originRoom, directionsRoom, frameRoom}
+use Rattle.format.specs.AxisRecords.{axesCall, axesEntry}
+use Rattle.format.specs.Room.{Enough, tableEntries, writeRoom, valueRoom, Copied, nameRoom, samplesRoom, setRoom, originRoom, directionsRoom, frameRoom, axisRecords, axesRoom}
 
 pub record RoomEnough : Type 0 where
   -- a reading's refusals end at 15, so that 22 is never one of them
@@ -31,3 +33,6 @@ pub record RoomEnough : Type 0 where
   pub origin-enough : (file list : List ℕ) → originRoom ≤ length list → Enough (originEntry file list .0 .refusal)
   pub directions-enough : (file list : List ℕ) → directionsRoom ≤ length list → Enough (directionsEntry file list .0 .refusal)
   pub frame-enough : (file list : List ℕ) → frameRoom ≤ length list → Enough (frameEntry file list .0 .refusal)
+  -- the records of all axes, in a list of records and in bytes (document 02, W6)
+  pub records-enough : (file : List ℕ) (list : List Axis) → axisRecords ≤ length list → Enough (axesCall file list .0 .refusal)
+  pub axes-enough : (file list : List ℕ) → axesRoom ≤ length list → Enough (axesEntry file list .0 .refusal)

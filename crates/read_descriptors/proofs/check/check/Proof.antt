@@ -48,52 +48,52 @@ check-orientation-requires c κs = search needs
 
 returns : tie.Need-returns
 unfolding mayDescribe
-returns c m l = let a = c .before .before .before .args in let e : a .f ≡ dimension = omega arith in rw e (stay (a .kept .now) (c .check-number .ensures))
+returns c d m l = let a = c .before .before .before .args in let e : a .f ≡ dimension = omega arith in rw e (stay (a .kept .now) (c .check-number .ensures))
 
 returns-2 : tie.Need-returns-2
 unfolding mayDescribe
-returns-2 c m l =
+returns-2 c d m l =
     let a = c .before .before .before .before .args in
     let e : a .f ≡ type = omega arith in
     rw e (stay (a .kept .now) (c .check-row .ensures (typeNamed (a .t .now)) 0 (c .before .type-named .ensures)))
 
 returns-3 : tie.Need-returns-3
 unfolding mayDescribe
-returns-3 c m l =
+returns-3 c d m l =
     let a = c .before .before .before .before .args in
     let e : a .f ≡ encoding = omega arith in
     rw e (stay (a .kept .now) (c .check-row2 .ensures (encodingNamed (a .t .now)) 0 (c .before .encoding-named .ensures)))
 
 returns-4 : tie.Need-returns-4
 unfolding mayDescribe
-returns-4 c m l =
+returns-4 c d m l =
     let a = c .before .before .before .before .args in
     let e : a .f ≡ endian = omega arith in
     rw e (stay (a .kept .now) (c .check-row3 .ensures (endianNamed (a .t .now)) noEndian (c .before .endian-named .ensures)))
 
 returns-5 : tie.Need-returns-5
-returns-5 c m l = let e : c .before .before .before .before .args .f ≡ sizes = omega arith in rw e (c .check-sizes .ensures (c .before .before .before .before .args .space))
+returns-5 c d m l = let e : c .before .before .before .before .args .f ≡ sizes = omega arith in rw e (c .check-sizes .ensures (c .before .before .before .before .args .space))
 
 returns-6 : tie.Need-returns-6
 unfolding mayDescribe
-returns-6 c m l = let a = c .before .before .before .args in let e : a .f ≡ lineSkip = omega arith in rw e (stay (a .kept .now) (c .check-number2 .ensures))
+returns-6 c d m l = let a = c .before .before .before .args in let e : a .f ≡ lineSkip = omega arith in rw e (stay (a .kept .now) (c .check-number2 .ensures))
 
 returns-7 : tie.Need-returns-7
 unfolding mayDescribe
-returns-7 c m l = let a = c .before .before .before .args in let e : a .f ≡ byteSkip = omega arith in rw e (stay (a .kept .now) (c .check-byte-skip .ensures))
+returns-7 c d m l = let a = c .before .before .before .args in let e : a .f ≡ byteSkip = omega arith in rw e (stay (a .kept .now) (c .check-byte-skip .ensures))
 
 returns-8 : tie.Need-returns-8
 unfolding mayDescribe
-returns-8 c m l =
+returns-8 c d m l =
     let a = c .before .before .before .args in
     let e : a .f ≡ dataFile = omega arith in
     rw e (stay (a .kept .now) (c .check-files .ensures (a .dimension) (a .space)))
 
 returns-9 : tie.Need-returns-9
-returns-9 c m l =
+returns-9 c d m l =
     let a = c .before .before .before .args in
     let h = c .before .match .rest in
-    ap (λ (x : Checked). (x, a .kept .now)) (c .check-orientation .ensures h m l) ∙ other-checked (a .dimension) (a .space) (a .f) (a .t .now) (a .kept .now) h
+    ap (λ (x : Checked). (x, a .kept .now)) (c .check-orientation .ensures h d m l) ∙ other-checked (a .dimension) (a .space) (a .f) (a .t .now) (a .kept .now) h
 
 pub check-spec : {M : Type 1} → statement M
 check-spec =

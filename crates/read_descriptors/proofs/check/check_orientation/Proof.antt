@@ -1,11 +1,10 @@
 -- `check::check_orientation` meets its contract: each arm's field is the one that it matched, and the last arm's is none of them. Assumes nothing.
-use mathlib.Core.Path.{_≡_, _∙_}
+use mathlib.Core.Path.{_≡_}
 use native.Mathlib.Omega.{arith}
 use borrow.Author.Needs.{needs}
 use Rattle.format.specs.Fields.{space, spaceDimension, spaceOrigin, spaceDirections, measurementFrame}
 use Rattle.format.specs.Spaces.{spaceNamed}
 use Rattle.format.specs.Descriptors.{noSpace, mayDescribe}
-use Rattle.read_descriptors.proofs.Checking.{any-taken}
 use Rattle.read_descriptors.proofs.check.check_orientation.Statement.{statement}
 use Rattle.read_descriptors.proofs.check.check_orientation.Tie as tie
 
@@ -27,36 +26,35 @@ check-directions-requires c κs = search needs
 check-vectors-requires-2 : tie.Need-check-vectors-requires-2
 check-vectors-requires-2 c κs = search needs
 
-says-none-requires : tie.Need-says-none-requires
-says-none-requires c κs = search needs
+check-axes-requires : tie.Need-check-axes-requires
+check-axes-requires c κs = search needs
 
 returns : tie.Need-returns
 unfolding mayDescribe
-returns c h m l =
+returns c h d m l =
     let a = c .before .before .before .before .args in
     let e : a .f ≡ space = omega arith in
     rw e (c .check-row .ensures (spaceNamed (a .t .now)) noSpace (c .before .space-named .ensures))
 
 returns-2 : tie.Need-returns-2
 unfolding mayDescribe
-returns-2 c h m l = let e : c .before .before .before .args .f ≡ spaceDimension = omega arith in rw e (c .check-number .ensures)
+returns-2 c h d m l = let e : c .before .before .before .args .f ≡ spaceDimension = omega arith in rw e (c .check-number .ensures)
 
 returns-3 : tie.Need-returns-3
 unfolding mayDescribe
-returns-3 c h m l = let e : c .before .before .before .args .f ≡ spaceOrigin = omega arith in rw e (c .check-vectors .ensures m l)
+returns-3 c h d m l = let e : c .before .before .before .args .f ≡ spaceOrigin = omega arith in rw e (c .check-vectors .ensures m l)
 
 returns-4 : tie.Need-returns-4
 unfolding mayDescribe
-returns-4 c h m l = let e : c .before .before .before .args .f ≡ spaceDirections = omega arith in rw e (c .check-directions .ensures m l)
+returns-4 c h d m l = let e : c .before .before .before .args .f ≡ spaceDirections = omega arith in rw e (c .check-directions .ensures m l)
 
 returns-5 : tie.Need-returns-5
 unfolding mayDescribe
-returns-5 c h m l = let e : c .before .before .before .args .f ≡ measurementFrame = omega arith in rw e (c .check-vectors2 .ensures m l)
+returns-5 c h d m l = let e : c .before .before .before .args .f ≡ measurementFrame = omega arith in rw e (c .check-vectors2 .ensures m l)
 
 returns-6 : tie.Need-returns-6
-returns-6 c h m l =
-    let a = c .before .before .before .args in
-    c .says-none .ensures ∙ any-taken (a .dimension) (a .space) (a .f) (a .t .now) h (c .before .match .rest)
+returns-6 c h d m l =
+    c .check-axes .ensures (c .before .before .before .args .space) h (c .before .match .rest) d l
 
 pub check-orientation-spec : {M : Type 1} → statement M
 check-orientation-spec =
@@ -68,7 +66,7 @@ check-orientation-spec =
     check-vectors-requires
     check-directions-requires
     check-vectors-requires-2
-    says-none-requires
+    check-axes-requires
     returns
     returns-2
     returns-3

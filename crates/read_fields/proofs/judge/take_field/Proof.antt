@@ -15,14 +15,14 @@ returns : tie.Need-returns
 returns c h m l =
     let a = c .before .before .before .before .before .before .args in
     let k = c .before .before .before .check in
-    let t = check-taken (a .dimension) (a .space) (a .f) (a .t .now) (a .sizes .now) (k .result) _ (k .ensures m l) h in
+    let t = check-taken (a .dimension) (a .space) (a .f) (a .t .now) (a .sizes .now) (k .result) _ (k .ensures h m l) h in
     rw (c .without-field .ensures) (rw (not-true (k .result .fine) (c .before .if1 .taken)) at t)
 
 returns-2 : tie.Need-returns-2
 returns-2 c h m l =
     let a = c .before .before .before .before .before .args in
     let k = c .before .before .check in
-    let t = check-taken (a .dimension) (a .space) (a .f) (a .t .now) (a .sizes .now) (k .result) _ (k .ensures m l) h in
+    let t = check-taken (a .dimension) (a .space) (a .f) (a .t .now) (a .sizes .now) (k .result) _ (k .ensures h m l) h in
     rw (not-false (k .result .fine) (c .if1 .left)) at t
 
 pub take-field-spec : {M : Type 1} → statement M

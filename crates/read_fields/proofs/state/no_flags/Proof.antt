@@ -1,7 +1,7 @@
 -- `state::no_flags` meets its contract, by computation. Assumes nothing.
 use mathlib.Core.Path.{refl}
 use Rattle.format.specs.Fields.{descriptorOf}
-use Rattle.read_fields.specs.States.{each}
+use Rattle.format.specs.Bytes.{each}
 use Rattle.read_fields.proofs.state.no_flags.Statement.{statement}
 use Rattle.read_fields.proofs.state.no_flags.Tie as tie
 

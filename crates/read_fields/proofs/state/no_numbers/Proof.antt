@@ -2,7 +2,7 @@
 use mathlib.Core.Path.{refl}
 use borrow.Author.Needs.{needs}
 use Rattle.format.specs.Fields.{descriptorOf}
-use Rattle.read_fields.specs.States.{each}
+use Rattle.format.specs.Bytes.{each}
 use Rattle.read_fields.proofs.state.no_numbers.Statement.{statement}
 use Rattle.read_fields.proofs.state.no_numbers.Tie as tie
 
