@@ -317,8 +317,8 @@ module _ (s : List ℕ) where
   pub length_samples : length (samples_lent s) ≡ length s / 8
   length_samples = length_lent _ 8 s
 
-  pub sample_at_lem : (k : ℕ) (z : ℤ) → k < length s / 8 → get_or (samples_lent s) k z ≡ sample_value signed little (take 8 (drop (8 * k) s))
-  sample_at_lem k z h = lent_at (sample_value signed little) 8 s k h z
+  pub sample_at : (k : ℕ) (z : ℤ) → k < length s / 8 → get_or (samples_lent s) k z ≡ sample_value signed little (take 8 (drop (8 * k) s))
+  sample_at k z h = lent_at (sample_value signed little) 8 s k h z
 
   module _ (p : AllBytes s) where
     -- the bytes of all samples

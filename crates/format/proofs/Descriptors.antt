@@ -1,5 +1,6 @@
 -- Laws of descriptors: the text is a part of what follows its field's mark, and a carried field may have any.
 -- Assumes nothing.
+use Rattle.std.specs.Prelude.{if◌then◌else◌}
 use Prim.Native.Nat.{ℕ, suc, ◌≤◌, ◌-◌, min}
 use native.Mathlib.Omega.{arith}
 use mathlib.Core.Path.{◌≡◌, refl, sym, ap, ◌∙◌}
@@ -8,7 +9,7 @@ use mathlib.Core.List.{List, [], ◌∷◌}
 use lib.Dec.{eqb}
 use lib.ListN.{length, take, drop, length-take}
 use borrow.Author.Tests.{ne_eqb}
-use Rattle.format.specs.Bytes.{space_or_tab, if◌then◌else◌}
+use Rattle.format.specs.Bytes.{space_or_tab}
 use Rattle.format.specs.Fields.{is_understood, field_at, dimension, type, encoding, endian, sizes, line_skip, byte_skip, data_file, space, space_dimension, space_origin, space_directions, measurement_frame, centers, labels, units, kinds}
 use Rattle.format.specs.Words.{trim_front, trim_byte, trim_end}
 use Rattle.format.specs.Descriptors.{from_descriptor, descriptor, may_describe}

@@ -1,5 +1,6 @@
 -- What the look-ups find is the reading's: the bytes at the place of a field are its descriptor, those at the place of a key its escaped value.
 -- Assumes nothing.
+use Rattle.std.specs.Prelude.{if◌then◌else◌}
 use Prim.Native.Nat.{ℕ, ◌+◌, ◌-◌, ◌<◌}
 use native.Mathlib.Omega.{arith}
 use mathlib.Core.Path.{◌≡◌, refl, sym, ap, ◌∙◌, subst}
@@ -11,7 +12,7 @@ use lib.ListN.{length, take, drop, length-append, length-drop, take-append-drop}
 use lib.Seq.{drop-drop, take-append_seam, drop-append_seam}
 use borrow.Author.Tests.{eqb-true}
 use Rattle.format.specs.declared.FindAnswer.{FindAnswer}
-use Rattle.format.specs.Bytes.{if◌then◌else◌, bytes, same, is_some, or_else}
+use Rattle.format.specs.Bytes.{bytes, same, is_some, or_else}
 use Rattle.format.specs.Refusals.{fine}
 use Rattle.format.specs.Lines.{Line, line, text, size, ending_bytes, line_bytes, unlines}
 use Rattle.format.specs.Pairs.{escape}
@@ -76,22 +77,22 @@ past file at l ls z h = sym (drop-drop (size l) at file) ∙ ap (drop (size l)) 
 -- What holds at the end of a header, and of a line with those after it where it holds of those, holds of a whole header.
 -- P is told where the lines start in the file, the fields before them, their entries, and the header's fields.
 module _ (file : List ℕ) (P : ℕ → List Given → List Entry → List Given → Type 0)
-    (at_end_lem : (at : ℕ) (gs : List Given) → P at gs [] gs)
+    (at_end : (at : ℕ) (gs : List Given) → P at gs [] gs)
     (before : (version at : ℕ) (gs : List Given) (l : Line) (i : Item) (es : List Entry) (gs' : List Given) (z : List ℕ) → drop at file ≡ line_bytes l ++ z
     → judge version gs (text l) ≡ right i → Keeps version gs (text l) i → P (at + size l) (after_item i gs) es gs' → P at gs (entry l i ∷ es) gs')
     (first : (l : Line) (v : ℕ) (es : List Entry) (gs' : List Given) → P (0 + size l) [] es gs' → P 0 [] (entry l (magic v) ∷ es) gs') where
   fine_lines : (version at : ℕ) (gs : List Given) (es : List Entry) (gs' : List Given) (r : List Line) (z : List ℕ)
       → Fine version gs es gs' r → drop at file ≡ unlines (lines_of es) ++ z → P at gs es gs'
   unfolding unlines
-  fine_lines version at gs [] gs' r z f h = rw f.3 (at_end_lem at gs)
+  fine_lines version at gs [] gs' r z f h = rw f.3 (at_end at gs)
   fine_lines version at gs (entry l i ∷ es) gs' r z f h =
       let cut : drop at file ≡ line_bytes l ++ (unlines (lines_of es) ++ z) = h ∙ simp append_assoc in
       fine_cases version gs l i es gs' r (λ es gs'. P at gs (entry l i ∷ es) gs') f
-      (λ s c k. before version at gs l i [] (after_item i gs) _ cut f.0 s (at_end_lem (at + size l) (after_item i gs)))
+      (λ s c k. before version at gs l i [] (after_item i gs) _ cut f.0 s (at_end (at + size l) (after_item i gs)))
       (λ s c g. before version at gs l i es gs' _ cut f.0 s (fine_lines version (at + size l) (after_item i gs) es gs' r z g (past file at l (lines_of es) z h)))
 
-  header_lines_lem : {es : List Entry} {gs : List Given} {r : List Line} → header file ≡ accepted es gs r → P 0 [] es gs
-  header_lines_lem {es} {gs} {r} e =
+  header_lines : {es : List Entry} {gs : List Given} {r : List Line} → header file ≡ accepted es gs r → P 0 [] es gs
+  header_lines {es} {gs} {r} e =
       let x = header_sound file e in
       let l = x.first in
       let bytes : file ≡ unlines (l ∷ lines_of x.rest) ++ unlines r = rw x.entries at x.bytes in
@@ -114,11 +115,11 @@ module _ (file : List ℕ) (f : ℕ) where
       go (some d) e = e
 
   -- a line that gives g the descriptor d
-  field_given_lem : (version at : ℕ) (gs : List Given) (l : Line) (g : ℕ) (d : List ℕ) (es : List Entry) (gs' : List Given) (z : List ℕ)
+  field_given : (version at : ℕ) (gs : List Given) (l : Line) (g : ℕ) (d : List ℕ) (es : List Entry) (gs' : List Given) (z : List ℕ)
       → drop at file ≡ line_bytes l ++ z → FieldLine version gs (text l) g d
       → Field (field_place f (at + size l) es) gs' (descriptor_of f (given g d ∷ gs)) → Field (field_place f at (entry l (field g d) ∷ es)) gs' (descriptor_of f gs)
   unfolding field_place descriptor_of
-  field_given_lem version at gs (line t e) g d es gs' z h w = go (eqb f g) refl
+  field_given version at gs (line t e) g d es gs' z h w = go (eqb f g) refl
     where
       rest : FindAnswer
       rest = field_place f (at + size (line t e)) es
@@ -144,7 +145,7 @@ module _ (file : List ℕ) (f : ℕ) where
 
       go : (o : Option Given) → given_of i ≡ o → Field rest gs' (descriptor_of f (with_field o gs)) → Field (given_place f at (text l) o rest) gs' (descriptor_of f gs)
       go none e p = p
-      go (some (given g d)) e p = field_given_lem version at gs l g d es gs' z h (subst (Keeps version gs (text l)) (is_field i e) s) p
+      go (some (given g d)) e p = field_given version at gs l g d es gs' z h (subst (Keeps version gs (text l)) (is_field i e) s) p
       go (some (named n)) e p = p
 
   pub field_found : FindsField file f (header file) (find_field_call file f)
@@ -154,7 +155,7 @@ module _ (file : List ℕ) (f : ℕ) where
       go : (o : Outcome) → header file ≡ o → FindsField file f o (find_field_in f o)
       go (refused r) e = refl
       go (accepted es gs ls) e =
-          header_lines_lem file (λ at gs es gs'. Field (field_place f at es) gs' (descriptor_of f gs)) field_ends field_before (λ l v es gs' p. p) e
+          header_lines file (λ at gs es gs'. Field (field_place f at es) gs' (descriptor_of f gs)) field_ends field_before (λ l v es gs' p. p) e
 
 -- ---- keys
 
@@ -199,5 +200,5 @@ module _ (file k : List ℕ) where
       go : (o : Outcome) → header file ≡ o → FindsKey file k o (find_key_in k o)
       go (refused r) e = refl
       go (accepted es gs ls) e =
-          header_lines_lem file (λ at gs es gs'. Key at es) (λ at gs. refl)
+          header_lines file (λ at gs es gs'. Key at es) (λ at gs. refl)
           (λ version at gs l i es gs' z h j s p. key_before at l i es (key_in version at gs l i z h j) p) (λ l v es gs' p. key_before 0 l (magic v) es refl p) e

@@ -1,5 +1,6 @@
 -- The laws of specs/Header.antt: what the accepted headers are, that bytes after the closing line decide nothing, and which fields are given.
 -- Assumes nothing.
+use Rattle.std.specs.Prelude.{if◌then◌else◌}
 use mathlib.Core.Path.{◌≡◌, refl, sym, ap, ◌∙◌, subst}
 use Prim.Native.Nat.{ℕ, suc, ◌+◌, ◌≤◌}
 use mathlib.Core.Bool.{Bool, true, false, ◌&&◌, false≢true}
@@ -10,7 +11,7 @@ use lib.ListN.{length, drop, length-append, length-map}
 use borrow.Author.Tests.{ltb-false, le-ltb}
 use native.Mathlib.Omega.{arith}
 use Rattle.format.specs.declared.Refusal.{Refusal}
-use Rattle.format.specs.Bytes.{bytes, same, if◌then◌else◌}
+use Rattle.format.specs.Bytes.{bytes, same}
 use Rattle.format.specs.Limits.{max_file, max_header, max_lines, max_extent}
 use Rattle.format.specs.Refusals.{file_too_long, no_end, header_too_long, too_many_lines, at_line, refusal}
 use Rattle.format.specs.Lines.{Line, line, lf, crlf, eof, text, size, lines, unlines}

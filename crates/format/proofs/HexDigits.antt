@@ -25,5 +25,5 @@ same_value_lem (some v) (some w) h = rw (eqb-true v w h)
 pub at_each : (b : ℕ) → b < 256 → hex_digit b ≡ digit_named b
 at_each b h = same_value_lem (hex_digit b) (digit_named b) (every_below_lem (λ b. same_value (hex_digit b) (digit_named b)) 256 over_all b h)
 
-pub hex_digits_lem : HexDigits
-hex_digits_lem = record { over_all = over_all; at_each = at_each }
+pub hex_digits : HexDigits
+hex_digits = record { over_all = over_all; at_each = at_each }

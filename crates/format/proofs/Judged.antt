@@ -1,6 +1,7 @@
 -- A line is judged to be an item exactly when it keeps the rules of that item (specs/Rules.antt): `keeps_judge`, `judge_keeps`.
 -- Where no names follow, its text decides (`judge_by_text`); where they do, it is a name or closes the header (`judge_named`).
 -- Assumes nothing.
+use Rattle.std.specs.Prelude.{if◌then◌else◌}
 use mathlib.Core.Path.{◌≡◌, refl, sym, ap, subst}
 use Prim.Native.Nat.{ℕ, ◌≤◌}
 use mathlib.Core.Bool.{Bool, true, false, not, ◌&&◌, ◌||◌, false≢true}
@@ -8,7 +9,7 @@ use mathlib.Core.List.{List, [], ◌∷◌}
 use mathlib.Core.Option.{Option, none, some}
 use lib.Dec.{eqb, ltb}
 use borrow.Author.Tests.{eqb-true, not-true, ltb-false, le-ltb}
-use Rattle.format.specs.Bytes.{every, is_empty, if◌then◌else◌}
+use Rattle.format.specs.Bytes.{every, is_empty}
 use Rattle.format.specs.Refusals.{bad_byte, not_in_version, repeated_field, out_of_order, bad_descriptor}
 use Rattle.format.specs.Pairs.{plain, Marked, unmarked, field_mark, pair_mark, mark, LineKind, empty_line, comment_line, other_line, kind_of, is_other, unescape}
 use Rattle.format.specs.Fields.{field_named, pairs_since, Given, given, named, descriptor_of, is_given, other_field, is_repeated, needs_dimension, needs_space, in_order, dimension, space, space_dimension}
@@ -101,7 +102,7 @@ module _ (version : ℕ) (gs : List Given) where
   keeps_judge t comment k = rw (k.0, is_comment_lem t k.1)
   keeps_judge t (field f d) k =
       rw (judge_other t k.other, field_of_first k.marked, k.named, k.descriptor_is)
-      (on_field_is f k.rest (rw k.descriptor_is at k.in_version_lem) (not_repeated f k.new k.other_new) (in_order_lem f gs k.after_dimension_lem k.after_space_lem) (rw k.descriptor_is at k.described))
+      (on_field_is f k.rest (rw k.descriptor_is at k.in_version) (not_repeated f k.new k.other_new) (in_order_lem f gs k.after_dimension k.after_space) (rw k.descriptor_is at k.described))
   keeps_judge t (pair x v) k =
       rw (judge_other t k.other, pair_of_first k.marked) (on_pair_is k.key k.value x v k.key_filled k.since k.key_is k.value_is)
   keeps_judge t (file_name n) k = rw (k.follows, k.whole) (name_is t k.filled k.all_plain)
@@ -147,11 +148,11 @@ module _ (version : ℕ) (gs : List Given) where
             rest = rest;
             marked = first_of_field t m;
             named = e;
-            in_version_lem = ltb-false version (since f (descriptor f rest)) ha;
+            in_version = ltb-false version (since f (descriptor f rest)) ha;
             new = (or-false (is_given f gs) (is_given (other_field f) gs) hb).0;
             other_new = (or-false (is_given f gs) (is_given (other_field f) gs) hb).1;
-            after_dimension_lem = unless (needs_dimension f) (is_given dimension gs) (and_left axes spaces hc);
-            after_space_lem = unless (needs_space f) (is_given space gs || is_given space_dimension gs) (and_right axes spaces hc);
+            after_dimension = unless (needs_dimension f) (is_given dimension gs) (and_left axes spaces hc);
+            after_space = unless (needs_space f) (is_given space gs || is_given space_dimension gs) (and_right axes spaces hc);
             descriptor_is = refl;
             described = hd;
           }

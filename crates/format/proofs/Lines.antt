@@ -1,5 +1,6 @@
 -- The laws of specs/Lines.antt: no byte is lost, `lines` is the only split that keeps the line rule, and each start is where its line begins.
 -- Assumes nothing.
+use Rattle.std.specs.Prelude.{if◌then◌else◌}
 use Prim.Native.Nat.{ℕ, zero, suc, ◌+◌, ◌≤◌, ◌<◌, ◌-◌}
 use native.Mathlib.Nat.{zero-add, le_of_suc-le-suc, not-suc-le-zero}
 use native.Mathlib.Omega.{arith}
@@ -10,7 +11,7 @@ use lib.Dec.{eqb}
 use lib.ListN.{length, take, drop, get_or, length-append, length-drop, take-append-drop, drop_of_length-le}
 use lib.Seq.{drop-append_seam, take-suc, get_or-drop}
 use borrow.Author.Tests.{eqb-true, not-true, ne_eqb}
-use Rattle.format.specs.Bytes.{LF, CR, every, if◌then◌else◌}
+use Rattle.format.specs.Bytes.{LF, CR, every}
 use Rattle.format.specs.Lines.{Ending, lf, crlf, eof, Line, line, ending_bytes, line_bytes, size, extend, extend_first, with_byte, lines, unlines, starts}
 pub use Rattle.format.specs.Laws.{not_lf, NoLF, ends_in_cr, Shape, no_lines, lf_line, crlf_line, eof_line}
 use Rattle.format.proofs.Bytes.{and_left, and_right}
@@ -157,8 +158,8 @@ unfolding unlines
 length_unlines_cons l ls = length-append (line_bytes l) (unlines ls)
 
 -- a line has the bytes of its text and of its ending
-pub size_line_lem : (t : List ℕ) (e : Ending) → size (line t e) ≡ length t + length (ending_bytes e)
-size_line_lem t e = length-append t (ending_bytes e)
+pub size_line : (t : List ℕ) (e : Ending) → size (line t e) ≡ length t + length (ending_bytes e)
+size_line t e = length-append t (ending_bytes e)
 
 -- there are no more lines than bytes
 pub length_le_unlines : {ls : List Line} → Shape ls → length ls ≤ length (unlines ls)

@@ -1,5 +1,6 @@
 -- Laws of what a line is by its text, and of its first mark: what it parts, that it is the first (`FirstMark` in specs/Rules.antt), and where a text gets it.
 -- Assumes nothing.
+use Rattle.std.specs.Prelude.{if◌then◌else◌}
 use mathlib.Core.Path.{◌≡◌, refl, sym, ap, ◌∙◌}
 use Prim.Native.Nat.{ℕ, suc, ◌≤◌}
 use native.Mathlib.Omega.{arith}
@@ -8,7 +9,7 @@ use mathlib.Core.List.{List, [], ◌∷◌, ◌++◌}
 use lib.Dec.{eqb}
 use lib.ListN.{length, get_or}
 use borrow.Author.Tests.{eqb-true, not-true}
-use Rattle.format.specs.Bytes.{bytes, every, is_empty, HASH, COLON, SPACE, EQUALS, if◌then◌else◌}
+use Rattle.format.specs.Bytes.{bytes, every, is_empty, HASH, COLON, SPACE, EQUALS}
 use Rattle.format.specs.Pairs.{plain, Marked, unmarked, field_mark, pair_mark, after_colon, more_before, first_mark, mark, has_mark, LineKind, empty_line, comment_line, other_line, kind_of, is_other, is_unmarked}
 use Rattle.format.specs.Fields.{Given}
 use Rattle.format.specs.Descriptors.{names_follow}

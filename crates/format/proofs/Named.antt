@@ -1,6 +1,7 @@
 -- Names under LIST, and the number of files (document 02, W5).
 -- Once LIST is given every line is a name or closes the header (`under_cases`): no pair and no field stands there, so keys and fields are looked up in the lines before the names.
 -- Assumes nothing.
+use Rattle.std.specs.Prelude.{if◌then◌else◌}
 use Prim.Native.Nat.{ℕ, zero, suc, ◌+◌, ◌-◌, ◌*◌, ◌%◌, ◌≤◌, ◌<◌}
 use native.Mathlib.Nat.{zero-add, suc-add, one-mul, mul-one, mul_assoc, mul-le-mul_left, mul-le-mul_right, mul-mod_left, mod-one, mod-add-div', zero-mul, dvd_of_mod-eq-zero, mod-eq-zero_of_dvd, dvd-mul_left_of_dvd, le_of_dvd}
 use native.Mathlib.Omega.{arith}
@@ -12,7 +13,7 @@ use lib.Dec.{eqb, ltb, leb}
 use lib.ListN.{length, take, drop, get_or, length-append, length-map, drop_of_length-le, get_or-append, get_or-eq_default}
 use lib.Seq.{take-append_seam, drop-append_seam, drop-cons}
 use borrow.Author.Tests.{eqb-true, eqb-false, ltb-true, ltb-false, leb-true}
-use Rattle.format.specs.Bytes.{if◌then◌else◌, every_below, is_empty, is_some, or_else}
+use Rattle.format.specs.Bytes.{every_below, is_empty, is_some, or_else}
 use Rattle.format.specs.Words.{number, number_in, value_of_number, words, numbers_in}
 use Rattle.format.specs.Limits.{max_size, max_extent, max_file_number}
 use Rattle.format.specs.Refusals.{fine}
@@ -71,11 +72,11 @@ names_go_on version gs t j n =
 
 module _ (version : ℕ) (gs' : List Given) (r : List Line) where
   -- what holds at the end of a header, and of a name before lines of which it holds, and of the closing line, holds of the lines under LIST; P is told where they start in the file
-  module _ (P : ℕ → List Entry → Type 0) (at_end_lem : (at : ℕ) → P at [])
+  module _ (P : ℕ → List Entry → Type 0) (at_end : (at : ℕ) → P at [])
       (last : (at : ℕ) (l : Line) → text l ≡ [] → P at (entry l closing ∷ []))
       (name : (at : ℕ) (l : Line) (es : List Entry) → is_empty (text l) ≡ false → P (at + size l) es → P at (entry l (file_name (text l)) ∷ es)) where
     pub fine_under : (at : ℕ) (gs : List Given) (es : List Entry) → Fine version gs es gs' r → names_follow gs ≡ true → P at es
-    fine_under at gs [] f n = at_end_lem at
+    fine_under at gs [] f n = at_end at
     fine_under at gs (entry l i ∷ es) f n = go i f.0 f.1 (λ g m. fine_under (at + size l) (after_item i gs) es g m)
       where
         go : (i : Item) → judge version gs (text l) ≡ right i → FineBy (closes i) gs es gs' (Fine version (after_item i gs) es gs' r)
@@ -133,15 +134,15 @@ before_first x = ap before_names x.entries
 
 -- What holds of lines under LIST with none of them before the names, and of a line that is no name with those after it where it holds of those, holds of a header's lines and those before its names.
 -- P is told where the lines start in the file.
-module _ (P : ℕ → List Entry → List Entry → Type 0) (at_end_lem : (at : ℕ) → P at [] [])
+module _ (P : ℕ → List Entry → List Entry → Type 0) (at_end : (at : ℕ) → P at [] [])
     (under : (version at : ℕ) (gs : List Given) (es : List Entry) (gs' : List Given) (r : List Line) → Fine version gs es gs' r → names_follow gs ≡ true → P at es [])
     (before : (at : ℕ) (l : Line) (i : Item) (es fs : List Entry) → is_file_name i ≡ false → P (at + size l) es fs → P at (entry l i ∷ es) (entry l i ∷ fs)) where
   pub fine_before : (version at : ℕ) (gs : List Given) (es : List Entry) (gs' : List Given) (r : List Line) → Fine version gs es gs' r → P at es (before_names es)
   unfolding before_names
-  fine_before version at gs [] gs' r f = at_end_lem at
+  fine_before version at gs [] gs' r f = at_end at
   fine_before version at gs (entry l i ∷ es) gs' r f =
       go (is_file_name i) refl
-      (fine_cases version gs l i es gs' r (λ es gs'. P (at + size l) es (before_names es)) f (λ s c k. at_end_lem (at + size l)) (λ s c g. fine_before version (at + size l) (after_item i gs) es gs' r g))
+      (fine_cases version gs l i es gs' r (λ es gs'. P (at + size l) es (before_names es)) f (λ s c k. at_end (at + size l)) (λ s c g. fine_before version (at + size l) (after_item i gs) es gs' r g))
     where
       go : (x : Bool) → is_file_name i ≡ x → P (at + size l) es (before_names es) → P at (entry l i ∷ es) (if x then [] else entry l i ∷ before_names es)
       go true h p = under version at gs (entry l i ∷ es) gs' r f (name_follows version gs (text l) f.0 h)
@@ -466,20 +467,20 @@ numbers_some (w ∷ ws) h = (
 
 module _ (file : List ℕ) {es : List Entry} {gs : List Given} {r : List Line} (e : header file ≡ accepted es gs r) where
   -- there is a size for each axis, and it is at least 1
-  sizes_fine_lem : (o : Option (List ℕ)) → descriptor_of sizes gs ≡ o → is_some o ≡ true
+  sizes_fine : (o : Option (List ℕ)) → descriptor_of sizes gs ≡ o → is_some o ≡ true
       → (length (meaning [] sizes_said o) ≡ dimension_of gs) × Each (λ (n : ℕ). 1 ≤ n) (meaning [] sizes_said o)
   unfolding may_describe
-  sizes_fine_lem none q h = absurd (false≢true h)
-  sizes_fine_lem (some t) q h =
+  sizes_fine none q h = absurd (false≢true h)
+  sizes_fine (some t) q h =
       let d = (header_described file e sizes t q).described in
       let many = eqb (length (words t)) (dimension_of gs) in
       (length-map (words t) value_of_number ∙ eqb-true (length (words t)) (dimension_of gs) (and_left many (numbers_in 1 max_size (words t)) d), numbers_some (words t) (and_right many (numbers_in 1 max_size (words t)) d))
 
   pub sizes_many : length (sizes_of gs) ≡ dimension_of gs
-  sizes_many = (sizes_fine_lem (descriptor_of sizes gs) refl (accepted_keeps file e).needed.has_sizes).0
+  sizes_many = (sizes_fine (descriptor_of sizes gs) refl (accepted_keeps file e).needed.has_sizes).0
 
   pub sizes_some : Each (λ (n : ℕ). 1 ≤ n) (sizes_of gs)
-  sizes_some = (sizes_fine_lem (descriptor_of sizes gs) refl (accepted_keeps file e).needed.has_sizes).1
+  sizes_some = (sizes_fine (descriptor_of sizes gs) refl (accepted_keeps file e).needed.has_sizes).1
 
   -- there is a sample, and there are at most so many
   pub product_some : 1 ≤ product (sizes_of gs)

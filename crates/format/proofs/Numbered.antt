@@ -1,5 +1,6 @@
 -- The refusals of a reading have the numbers 1 to 15.
 -- Assumes nothing.
+use Rattle.std.specs.Prelude.{if◌then◌else◌}
 use mathlib.Core.Path.{◌≡◌, refl}
 use Prim.Native.Nat.{ℕ, ◌+◌, ◌≤◌, ◌<◌}
 use native.Mathlib.Omega.{arith}
@@ -8,7 +9,7 @@ use mathlib.Core.List.{List, [], ◌∷◌}
 use mathlib.Core.Option.{Option, none, some}
 use lib.Dec.{ltb}
 use lib.ListN.{length}
-use Rattle.format.specs.Bytes.{if◌then◌else◌, every}
+use Rattle.format.specs.Bytes.{every}
 use Rattle.format.specs.Limits.{max_file, max_header, max_lines, max_extent}
 use Rattle.format.specs.Refusals.{file_too_long, header_too_long, too_many_lines, bad_byte, not_in_version, repeated_field, out_of_order, bad_descriptor, no_end, extent_too_large, at_line, refusal}
 use Rattle.format.specs.Lines.{Line, size, text, lines}

@@ -1,6 +1,7 @@
 -- The fields of an accepted header: each has a descriptor that it may have in the dimension and the space of the whole header, and not only of the lines before it (`header_described`).
 -- So the vectors of origin, directions and frame are as many and as long as these say. Where one of them is given, the space has a dimension, at most 8.
 -- Assumes nothing.
+use Rattle.std.specs.Prelude.{if◌then◌else◌}
 use Prim.Native.Nat.{ℕ, zero, suc, ◌+◌, ◌-◌, ◌≤◌, ◌<◌}
 use Prim.Native.String.{String}
 use native.Mathlib.Omega.{arith}
@@ -11,7 +12,7 @@ use mathlib.Core.Option.{Option, none, some, none-ne-some, some-injective}
 use lib.Dec.{eqb, leb}
 use lib.ListN.{length, get_or, length-append, length-take, length-drop}
 use borrow.Author.Tests.{eqb-true, ne_eqb, leb-true}
-use Rattle.format.specs.Bytes.{if◌then◌else◌, bytes, is_some, or_default, is_any, row_from}
+use Rattle.format.specs.Bytes.{bytes, is_some, or_default, is_any, row_from}
 use Rattle.format.specs.Words.{trim_end, number, within}
 use Rattle.format.specs.Limits.{max_header, max_axes}
 use Rattle.format.specs.Lines.{Line, line, text, size, ending_bytes}
@@ -138,8 +139,8 @@ any_space n m m' g t h =
 -- ---- a field g and its descriptor t, in a header with the fields gs
 
 pub record Described (gs : List Given) (g : ℕ) (t : List ℕ) : Type 0 where
-  pub after_dimension_lem : needs_dimension g ≡ true → is_given dimension gs ≡ true
-  pub after_space_lem : needs_space g ≡ true → (is_given space gs || is_given space_dimension gs) ≡ true
+  pub after_dimension : needs_dimension g ≡ true → is_given dimension gs ≡ true
+  pub after_space : needs_space g ≡ true → (is_given space gs || is_given space_dimension gs) ≡ true
   pub described : may_describe (dimension_of gs) (space_size_of gs) g t ≡ true
   pub short : length t ≤ max_header
 
@@ -191,8 +192,8 @@ module _ (version : ℕ) (gs : List Given) {u : List ℕ} (f : ℕ) (d : List �
   -- what a field may say before it, it may say after it
   still : (g : ℕ) (t : List ℕ) → Described gs g t → Described (given f d ∷ gs) g t
   still g t x = record {
-    after_dimension_lem = λ h. given_still dimension (x.after_dimension_lem h);
-    after_space_lem = λ h. space_still (x.after_space_lem h);
+    after_dimension = λ h. given_still dimension (x.after_dimension h);
+    after_space = λ h. space_still (x.after_space h);
     described = sym (axes (needs_dimension g) refl ∙ lies (needs_space g) refl) ∙ x.described;
     short = x.short;
   }
@@ -201,11 +202,11 @@ module _ (version : ℕ) (gs : List Given) {u : List ℕ} (f : ℕ) (d : List �
       after = given f d ∷ gs
 
       axes : (b : Bool) → needs_dimension g ≡ b → may_describe (dimension_of gs) (space_size_of gs) g t ≡ may_describe (dimension_of after) (space_size_of gs) g t
-      axes true e = rw (axes_stay (x.after_dimension_lem e))
+      axes true e = rw (axes_stay (x.after_dimension e))
       axes false e = any_axes (dimension_of gs) (dimension_of after) (space_size_of gs) g t e
 
       lies : (b : Bool) → needs_space g ≡ b → may_describe (dimension_of after) (space_size_of gs) g t ≡ may_describe (dimension_of after) (space_size_of after) g t
-      lies true e = rw (space_stays (x.after_space_lem e))
+      lies true e = rw (space_stays (x.after_space e))
       lies false e = any_space (dimension_of after) (space_size_of gs) (space_size_of after) g t e
 
   more_described : AllDescribed gs → AllDescribed (given f d ∷ gs)
@@ -214,7 +215,7 @@ module _ (version : ℕ) (gs : List Given) {u : List ℕ} (f : ℕ) (d : List �
     where
       go : (x : Bool) → eqb g f ≡ x → (if x then some d else descriptor_of g gs) ≡ some t → Described (given f d ∷ gs) g t
       go true e q =
-          let o : Described gs f d = record { after_dimension_lem = w.after_dimension_lem; after_space_lem = w.after_space_lem; described = w.described; short = omega (arith, line_short w) } in
+          let o : Described gs f d = record { after_dimension = w.after_dimension; after_space = w.after_space; described = w.described; short = omega (arith, line_short w) } in
           still g t (subst (Described gs g) (some-injective d t q) (subst (λ h. Described gs h d) (sym (eqb-true g f e)) o))
       go false e q = still g t (p g t q)
 
@@ -228,7 +229,7 @@ none_described g t e = absurd (none-ne-some _ e)
 named_described : (gs : List Given) (n : List ℕ) → AllDescribed gs → AllDescribed (named n ∷ gs)
 unfolding descriptor_of
 named_described gs n p g t e =
-    let x = p g t e in record { after_dimension_lem = x.after_dimension_lem; after_space_lem = x.after_space_lem; described = x.described; short = x.short }
+    let x = p g t e in record { after_dimension = x.after_dimension; after_space = x.after_space; described = x.described; short = x.short }
 
 module _ (s : List ℕ) {es : List Entry} {gs : List Given} {r : List Line} (e : header s ≡ accepted es gs r) where
   -- each field's descriptor is one that it may have in this header
@@ -250,7 +251,7 @@ module _ (s : List ℕ) {es : List Entry} {gs : List Given} {r : List Line} (e :
 
   -- and one at least where a field that lies in it is given
   pub space_some : (g : ℕ) (t : List ℕ) → needs_space g ≡ true → descriptor_of g gs ≡ some t → 1 ≤ space_size_of gs
-  space_some g t n h = (sized_by (descriptor_of space gs) refl (descriptor_of space_dimension gs) refl).0 ((header_described g t h).after_space_lem n)
+  space_some g t n h = (sized_by (descriptor_of space gs) refl (descriptor_of space_dimension gs) refl).0 ((header_described g t h).after_space n)
 
   -- there is an axis
   pub some_axis : 1 ≤ dimension_of gs

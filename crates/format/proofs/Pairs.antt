@@ -1,5 +1,6 @@
 -- Laws of pair lines: escapes, the line that sets a key, and what the reader takes for a pair.
 -- Assumes nothing.
+use Rattle.std.specs.Prelude.{if◌then◌else◌}
 use mathlib.Core.Path.{◌≡◌, refl, sym, ap, ◌∙◌}
 use Prim.Native.Nat.{ℕ, ◌+◌, ◌≤◌}
 use native.Mathlib.Omega.{arith}
@@ -9,7 +10,7 @@ use mathlib.Core.Option.{Option, none, some}
 use lib.Dec.{eqb}
 use lib.ListN.{length, length-append}
 use borrow.Author.Tests.{eqb-true, not-true}
-use Rattle.format.specs.Bytes.{bytes, every, onto, is_empty, LF, BACKSLASH, if◌then◌else◌}
+use Rattle.format.specs.Bytes.{bytes, every, onto, is_empty, LF, BACKSLASH}
 use Rattle.format.specs.Pairs.{plain, unmarked, pair_mark, mark, other_line, kind_of, is_other, pair_texts, field_texts, escape, unescape_from, unescape}
 use Rattle.format.specs.Fields.{Given, given, field_named}
 use Rattle.format.specs.Descriptors.{descriptor, names_follow}

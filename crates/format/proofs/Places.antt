@@ -1,6 +1,7 @@
 -- Laws of specs/Data.antt: what a file's data, its place and its samples are depends on the fields, on the bytes after the header and on the
 -- second file alone, but for where it starts in this file.
 -- Assumes nothing.
+use Rattle.std.specs.Prelude.{if◌then◌else◌}
 use Prim.Native.Nat.{ℕ, zero, suc, ◌+◌, ◌-◌, ◌^◌, ◌≤◌, ◌<◌}
 use native.Mathlib.Omega.{arith}
 use mathlib.Core.Path.{◌≡◌, refl, ap, ◌∙◌, subst}
@@ -12,7 +13,7 @@ use lib.IntN.{ℤ}
 use lib.ListN.{length, drop, length-drop, length-append}
 use lib.Seq.{drop-drop}
 use borrow.Author.Tests.{lt-leb, ltb-false}
-use Rattle.format.specs.Bytes.{if◌then◌else◌, and_then, LF}
+use Rattle.format.specs.Bytes.{and_then, LF}
 use Rattle.format.specs.Limits.{max_file, max_extent}
 use Rattle.format.specs.Refusals.{file_too_long, several_files, place_too_large, data_too_short, float_samples, lent_too_short}
 use Rattle.format.specs.Lines.{Line, unlines}
@@ -262,7 +263,7 @@ pub data_at_end : (file : List ℕ) {es : List Entry} {gs : List Given} {r : Lis
     → (in_second ≡ is_detached gs) × ((if in_second then 0 else header_length es) ≤ start) × (n ≡ extent_of gs) × (start + n ≡ length (if in_second then second else file))
 data_at_end file {es} {gs} e b wanted second s start n p =
     subst (AtEnd gs (header_length es) file second) p
-    (place_at_end gs (header_length es) file second ((accepted_keeps file e).end_is_raw_lem b) (header_within file e) b wanted)
+    (place_at_end gs (header_length es) file second ((accepted_keeps file e).end_is_raw b) (header_within file e) b wanted)
 
 -- ---- the calls, of a file with an accepted header
 

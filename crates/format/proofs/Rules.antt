@@ -1,5 +1,6 @@
 -- The headers that keep the rules (specs/Rules.antt) are those that are accepted: `keeps_accepted`, `accepted_keeps`.
 -- Assumes nothing.
+use Rattle.std.specs.Prelude.{if◌then◌else◌}
 use mathlib.Core.Path.{◌≡◌, refl, sym, ap, ◌∙◌}
 use Prim.Native.Nat.{ℕ, zero, suc, ◌-◌, ◌%◌, ◌≤◌}
 use native.Mathlib.Omega.{arith}
@@ -9,7 +10,7 @@ use mathlib.Core.Option.{Option, none, some, none-ne-some}
 use lib.Dec.{eqb, ltb, leb}
 use lib.ListN.{length, drop, get_or}
 use borrow.Author.Tests.{eqb-true, ne_eqb, eq-eqb, leb-true, le-leb, ltb-true, ltb-false, lt-ltb, le-ltb}
-use Rattle.format.specs.Bytes.{if◌then◌else◌, between, or_default}
+use Rattle.format.specs.Bytes.{between, or_default}
 use Rattle.format.specs.declared.Refusal.{Refusal}
 use Rattle.format.specs.Lines.{Line, line, lf, crlf, eof, text, ending, lines}
 use Rattle.format.specs.Fields.{Given, is_given, file_names, dimension, type, encoding, endian, sizes, data_file}
@@ -275,8 +276,8 @@ keeps_accepted file {es} {gs} {r} k =
     } in
     rw k.entries
     (header_fine file k.first k.version k.others gs r (rw k.entries at k.split) (is_first k.first k.first_magic k.first_ended)
-    (lined_fine k.version gs r k.others [] t k.unclosed (record { filled = list_filled_is gs k.list_filled; needed = of_needed gs k.needed; fitting = end_with_raw gs k.end_is_raw_lem; small = k.extent_bytes; files = files_fine_lem gs k.files_cover }))
-    (rw k.entries at k.header_bytes_lem) (rw k.entries at k.header_lines_lem) k.file_bytes_lem)
+    (lined_fine k.version gs r k.others [] t k.unclosed (record { filled = list_filled_is gs k.list_filled; needed = of_needed gs k.needed; fitting = end_with_raw gs k.end_is_raw; small = k.extent_bytes; files = files_fine_lem gs k.files_cover }))
+    (rw k.entries at k.header_bytes) (rw k.entries at k.header_lines) k.file_bytes)
 
 pub accepted_keeps : (file : List ℕ) {es : List Entry} {gs : List Given} {r : List Line} → header file ≡ accepted es gs r → KeepsRules file es gs r
 accepted_keeps file {es} {gs} {r} e =
@@ -301,10 +302,10 @@ accepted_keeps file {es} {gs} {r} e =
       fields = t.fields ∙ append-nil (fields_of x.rest);
       needed = needed_of gs c.needed;
       list_filled = filled_list gs c.filled;
-      end_is_raw_lem = raw_at_end gs c.fitting;
-      file_bytes_lem = x.small;
-      header_bytes_lem = x.short;
-      header_lines_lem = x.few;
+      end_is_raw = raw_at_end gs c.fitting;
+      file_bytes = x.small;
+      header_bytes = x.short;
+      header_lines = x.few;
       extent_bytes = c.small;
       files_cover = files_covered gs c.files;
     }

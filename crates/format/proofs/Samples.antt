@@ -1,5 +1,6 @@
 -- Laws of samples: a value and its bytes are each other's inverse, for any width w and any endian number.
 -- Assumes nothing.
+use Rattle.std.specs.Prelude.{if◌then◌else◌}
 use Prim.Native.Nat.{ℕ, zero, suc, ◌+◌, ◌*◌, ◌-◌, ◌^◌, ◌/◌, ◌%◌, ◌≤◌, ◌<◌}
 use native.Mathlib.Nat.{pow-suc, one-le-pow, pow-le-pow_right}
 use native.Mathlib.Omega.{arith}
@@ -10,7 +11,6 @@ use lib.Dec.{ltb, eqb, lit<}
 use lib.IntN.{ℤ, pos, negsuc}
 use lib.ListN.{length, get_or, length-reverse}
 use borrow.Author.Tests.{lt-ltb, le-ltb, ltb-true, leb-true}
-use Rattle.format.specs.Bytes.{if◌then◌else◌}
 use Rattle.format.specs.Descriptors.{NumberKind, signed, unsigned, floating, big}
 pub use Rattle.format.specs.Laws.{AllBytes}
 use Rattle.format.specs.Samples.{in_type, from_bytes, to_bytes, ordered, from_signed, value_of_bits, sample_value, value_bytes}

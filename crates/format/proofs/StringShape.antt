@@ -1,5 +1,6 @@
 -- A descriptor is read as strings exactly where it is laid out as `Layout` says, and the strings read are those of the layout.
 -- Assumes nothing.
+use Rattle.std.specs.Prelude.{if◌then◌else◌}
 use Prim.Native.Nat.{ℕ, ◌+◌, ◌≤◌}
 use native.Mathlib.Nat.{not-suc-le-zero}
 use native.Mathlib.Omega.{arith}
@@ -10,7 +11,7 @@ use mathlib.Core.Option.{Option, none, some}
 use lib.Dec.{eqb}
 use lib.ListN.{length}
 use borrow.Author.Tests.{eqb-true, eq-eqb}
-use Rattle.format.specs.Bytes.{if◌then◌else◌, every, space_or_tab, QUOTE, BACKSLASH}
+use Rattle.format.specs.Bytes.{every, space_or_tab, QUOTE, BACKSLASH}
 use Rattle.format.specs.Strings.{Quoted, quoted, Stands, apart, closed, inside, closes, joins, strings_from, strings_said}
 use Rattle.format.specs.Laws.{Each, Piece, piece, blanks_of, word_of, laid, placed, ClosedText, Layout}
 use Rattle.format.proofs.Bytes.{and_left, and_right, and_both}
@@ -98,16 +99,16 @@ module _ (b : Bool) (c : ℕ) (w : List ℕ) where
 
 -- ---- a layout is read as its strings
 
-read_text_lem : (b : Bool) (w : List ℕ) → ClosedFrom b w → (at : ℕ) (r : List ℕ) (qs : List Quoted) → strings_from closed (at + length w + 1) r ≡ some qs
+read_text : (b : Bool) (w : List ℕ) → ClosedFrom b w → (at : ℕ) (r : List ℕ) (qs : List Quoted) → strings_from closed (at + length w + 1) r ≡ some qs
     → strings_from (inside b) at (w ++ QUOTE ∷ r) ≡ some (quoted at w ∷ qs)
 unfolding strings_from ended
-read_text_lem b [] h at r qs e =
+read_text b [] h at r qs e =
     let k : at + length {A = ℕ} [] + 1 ≡ at + 1 = omega arith in
     let f : b ≡ false = h.1 in
     rw (f, rw k at e)
-read_text_lem b (c ∷ w) h at r qs e =
+read_text b (c ∷ w) h at r qs e =
     let k : at + 1 + length w + 1 ≡ at + length (c ∷ w) + 1 = omega arith in
-    rw (from_first b c w h, read_text_lem (eqb c BACKSLASH) w (from_tail b c w h) (at + 1) r qs (rw k e))
+    rw (from_first b c w h, read_text (eqb c BACKSLASH) w (from_tail b c w h) (at + 1) r qs (rw k e))
 
 read_blanks : (s : List ℕ) → every space_or_tab s ≡ true → (at : ℕ) (r : List ℕ) → strings_from apart at (s ++ r) ≡ strings_from apart (at + length s) r
 unfolding strings_from every
@@ -140,7 +141,7 @@ read_piece : (s w : List ℕ) → every space_or_tab s ≡ true → ClosedText w
     → strings_from apart at (s ++ QUOTE ∷ (w ++ QUOTE ∷ r)) ≡ some (quoted (at + length s + 1) w ∷ qs)
 unfolding strings_from
 read_piece s w h c at r qs e =
-    read_blanks s h at (QUOTE ∷ (w ++ QUOTE ∷ r)) ∙ read_text_lem false w (from_closed w c) (at + length s + 1) r qs e
+    read_blanks s h at (QUOTE ∷ (w ++ QUOTE ∷ r)) ∙ read_text false w (from_closed w c) (at + length s + 1) r qs e
 
 module _ (end : List ℕ) (last : every space_or_tab end ≡ true) where
   -- strings that all have blanks before them, after a closing quote

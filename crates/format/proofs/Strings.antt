@@ -1,5 +1,6 @@
 -- Laws of strings in double quotes: how many there are, where each stands in its descriptor, and the place in the header that a record tells.
 -- Assumes nothing.
+use Rattle.std.specs.Prelude.{if◌then◌else◌}
 use Prim.Native.Nat.{ℕ, zero, suc, ◌+◌, ◌-◌, ◌≤◌, ◌<◌}
 use native.Mathlib.Nat.{le_of_suc-le-suc, not-suc-le-zero}
 use native.Mathlib.Omega.{arith}
@@ -12,7 +13,7 @@ use lib.ListN.{length, take, drop, get_or, length-append, length-drop, take-appe
 use lib.Seq.{drop-drop, take-append-le, drop-append-le, append_snoc, take-append_seam, drop-append_seam, take-append-add, drop-append-add}
 use borrow.Author.Tests.{eqb-true, ltb-true, ltb-false}
 use Rattle.format.specs.declared.FindAnswer.{FindAnswer}
-use Rattle.format.specs.Bytes.{if◌then◌else◌, is_some, or_default, space_or_tab, QUOTE, BACKSLASH}
+use Rattle.format.specs.Bytes.{is_some, or_default, space_or_tab, QUOTE, BACKSLASH}
 use Rattle.format.specs.Lines.{Line, unlines}
 use Rattle.format.specs.Fields.{Given, descriptor_of, is_given, labels, units}
 use Rattle.format.specs.Descriptors.{meaning, dimension_of, may_describe}
@@ -181,13 +182,13 @@ quotes_there file t a q h s =
 
 module _ (file : List ℕ) {es : List Entry} {gs : List Given} {ls : List Line} (e : header file ≡ accepted es gs ls) (f : ℕ) where
   -- what the look-up finds is the descriptor that is given
-  pub field_there_lem : Finds file (descriptor_of f gs) (field_place f 0 es)
-  field_there_lem = subst (λ (o : Outcome). FindsField file f o (find_field_in f o)) e (field_found file f)
+  pub field_there : Finds file (descriptor_of f gs) (field_place f 0 es)
+  field_there = subst (λ (o : Outcome). FindsField file f o (find_field_in f o)) e (field_found file f)
 
   -- the bytes at the place of a string are its text
   pub string_text : (i : ℕ) → let p = string_place_of f es gs i in take p.1 (drop p.0 file) ≡ text_of (get_or (strings_of f gs) i no_string)
   unfolding strings_of string_place
-  string_text i = go (descriptor_of f gs) field_there_lem
+  string_text i = go (descriptor_of f gs) field_there
     where
       start : ℕ
       start = (field_place f 0 es).start
@@ -227,7 +228,7 @@ Told file from qs i =
 string_told : (file : List ℕ) {es : List Entry} {gs : List Given} {ls : List Line} → header file ≡ accepted es gs ls → (f i : ℕ) → Said f gs → is_given f gs ≡ true → i < dimension_of gs
     → Told file (field_place f 0 es).start (strings_of f gs) i
 unfolding strings_of
-string_told file {es} {gs} {ls} e f i said g l = go (descriptor_of f gs) (field_there_lem file e f) said g
+string_told file {es} {gs} {ls} e f i said g l = go (descriptor_of f gs) (field_there file e f) said g
   where
     place : FindAnswer
     place = field_place f 0 es

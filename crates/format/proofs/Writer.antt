@@ -1,5 +1,6 @@
 -- Laws of the writer: decimal and hex text are read back, and the samples of written data are the samples given.
 -- Assumes nothing.
+use Rattle.std.specs.Prelude.{if◌then◌else◌}
 use Prim.Native.Nat.{ℕ, zero, suc, ◌+◌, ◌*◌, ◌/◌, ◌%◌, ◌^◌, ◌≤◌, ◌<◌, ◌-◌}
 use native.Mathlib.Nat.{pow-suc}
 use native.Mathlib.Omega.{arith}
@@ -12,7 +13,7 @@ use lib.IntN.{ℤ, pos, negsuc}
 use lib.ListN.{length, length-append}
 use lib.Seq.{take_at, drop_at}
 use borrow.Author.Tests.{ltb-true, ltb-false, leb-true, le-leb, lt-leb, ne_eqb}
-use Rattle.format.specs.Bytes.{between, is_digit, every, every_below, LF, if◌then◌else◌}
+use Rattle.format.specs.Bytes.{between, is_digit, every, every_below, LF}
 use Rattle.format.specs.Words.{digits_from, number}
 use Rattle.format.specs.Descriptors.{NumberKind, raw, as_text}
 use Rattle.format.specs.Samples.{in_type, value_bytes, raw_samples, blank, without_blanks, hex_digit, hex_run, hex_bytes, hex_samples, skip_blanks, token, after_token, signed_by, token_value, text_sample, tokens, text_samples, samples_of}
@@ -99,15 +100,15 @@ digits_few = of_decimal (λ n s. (k : ℕ) → n < 10 ^ suc k → length s ≤ s
     more n s h p (suc k) l = simp length-append (omega (arith, p k (omega (arith, pow-suc 10 (suc k)))))
 
 -- of a text that is not empty, `number` is `digitsFrom 0`
-pub number_from_lem : (s : List ℕ) → 1 ≤ length s → number s ≡ digits_from 0 s
+pub number_from : (s : List ℕ) → 1 ≤ length s → number s ≡ digits_from 0 s
 unfolding number
-number_from_lem [] h = absurd (omega arith)
-number_from_lem (b ∷ s) h = refl
+number_from [] h = absurd (omega arith)
+number_from (b ∷ s) h = refl
 
 -- a number is read back
 pub number_of_decimal : (n : ℕ) → number (decimal n) ≡ some n
 unfolding digits_from
-number_of_decimal n = number_from_lem (decimal n) (decimal_not_empty n) ∙ ap (digits_from 0) (sym (append-nil (decimal n))) ∙ digits_past n []
+number_of_decimal n = number_from (decimal n) (decimal_not_empty n) ∙ ap (digits_from 0) (sym (append-nil (decimal n))) ∙ digits_past n []
 
 -- ---- decimal samples
 

@@ -1,10 +1,10 @@
 -- Axis records (document 02, W6): what a header says of each axis, and the calls that hand the records over, the whole answer and the whole lent list, refused or not.
-use Rattle.std.specs.Prelude.{ℕ, zero, suc, ◌+◌, ◌/◌, List, [], ◌∷◌, ◌++◌, ltb, length, get_or, replicate}
+use Rattle.std.specs.Prelude.{ℕ, zero, suc, ◌+◌, ◌/◌, List, [], ◌∷◌, ◌++◌, nat_lt, length, slice_index, replicate, if◌then◌else◌}
 use Rattle.format.specs.declared.Axis.{Axis}
 use Rattle.format.specs.declared.Axes.{Axes}
 use Rattle.format.specs.declared.Refusal.{Refusal}
 use Rattle.format.specs.declared.CountAnswer.{CountAnswer}
-use Rattle.format.specs.Bytes.{if◌then◌else◌, or_default, each, over}
+use Rattle.format.specs.Bytes.{or_default, each, over}
 use Rattle.format.specs.Limits.{max_axes}
 use Rattle.format.specs.Refusals.{lent_too_short, refusal, fine}
 use Rattle.format.specs.Fields.{Given, descriptor_of, centers, labels, units, kinds}
@@ -43,9 +43,9 @@ string_place_of f es gs i = string_place (field_place f 0 es).start (strings_of 
 unfoldable pub axis_of : List Entry → List Given → ℕ → Axis
 axis_of es gs i =
     record {
-      size = get_or (sizes_of gs) i 0;
-      centring = get_or (centrings_of gs) i 0;
-      kind = get_or (kinds_of gs) i 0;
+      size = slice_index (sizes_of gs) i;
+      centring = slice_index (centrings_of gs) i;
+      kind = slice_index (kinds_of gs) i;
       labelplace = (string_place_of labels es gs i).0;
       labellength = (string_place_of labels es gs i).1;
       unitplace = (string_place_of units es gs i).0;
@@ -67,7 +67,7 @@ no_axes r = record { answer = no_samples r; records = replicate max_axes no_axis
 unfoldable pub records_in : ℕ → Outcome → Axes
 records_in room (refused r) = no_axes r
 records_in room (accepted es gs ls) =
-    if ltb room (dimension_of gs) then no_axes (refusal lent_too_short)
+    if nat_lt room (dimension_of gs) then no_axes (refusal lent_too_short)
     else record { answer = record { refusal = fine; count = dimension_of gs }; records = each (axis_of es gs) 0 max_axes }
 
 abbrev pub records_call : List ℕ → ℕ → Axes
@@ -78,7 +78,7 @@ records_call file room = records_in room (header file)
 unfoldable pub axes_in : List Axis → Outcome → CountAnswer × List Axis
 axes_in list (refused r) = (no_samples r, list)
 axes_in list (accepted es gs ls) =
-    if ltb (length list) (dimension_of gs) then (no_samples (refusal lent_too_short), list)
+    if nat_lt (length list) (dimension_of gs) then (no_samples (refusal lent_too_short), list)
     else (record { refusal = fine; count = dimension_of gs }, over (axes_of es gs) list)
 
 abbrev pub axes_call : List ℕ → List Axis → CountAnswer × List Axis
@@ -107,7 +107,7 @@ axes_bytes (a ∷ ys) = axis_bytes a ++ axes_bytes ys
 unfoldable pub axes_listed : List ℕ → Outcome → CountAnswer × List ℕ
 axes_listed list (refused r) = (no_samples r, list)
 axes_listed list (accepted es gs ls) =
-    if ltb (length list / axis_width) (dimension_of gs) then (no_samples (refusal lent_too_short), list)
+    if nat_lt (length list / axis_width) (dimension_of gs) then (no_samples (refusal lent_too_short), list)
     else (record { refusal = fine; count = dimension_of gs }, over (axes_bytes (axes_of es gs)) list)
 
 abbrev pub axes_entry : List ℕ → List ℕ → CountAnswer × List ℕ

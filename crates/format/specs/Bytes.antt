@@ -6,18 +6,14 @@
 -- An `Option` is `none` or `some` value. `λ x. ..` is a function of x, `map f s` is the list of what f gives for each entry of s. `(a, b)` is a pair, of the type
 -- `A × B`, `p.0` and `p.1` are its parts; `r.name` is a part of a record, `record { name = a; .. }` one with these parts. `data` lists the cases that a value may be.
 -- Numbers are whole and unbounded, `zero` or one more than another (`suc n`); `a - b` is 0 where b is larger. Of the signed ones `pos n` is n and `negsuc n` is -(n + 1).
--- `eqb`, `ltb` and `leb` test for equal, less, and less or equal; `not`, `&&` and `||` join tests.
+-- `==`, `nat_lt` and `nat_le` test for equal, less, and less or equal; `not`, `&&` and `||` join tests.
+-- `slice_index s i` is the number at place i of a list s, counted from 0, and 0 past its end; `slice_index_or s i d` the same of any list, with d past its end.
 -- A claim is a type: `a ≡ b` says that a and b are equal, `(n : ℕ) → n < 256 → a ≡ b` that they are for every n below 256; a record of claims says that all of them hold.
 -- `abbrev` and `unfoldable` say how proofs see a definition and change nothing of what it means.
-use Rattle.std.specs.Prelude.{ℕ, zero, suc, ◌+◌, Bool, true, false, ◌&&◌, ◌||◌, List, [], ◌∷◌, ◌++◌, eqb, leb, length, drop}
+use Rattle.std.specs.Prelude.{ℕ, zero, suc, ◌+◌, Bool, true, false, ◌&&◌, ◌||◌, List, [], ◌∷◌, ◌++◌, ◌==◌, nat_le, length, drop, if◌then◌else◌}
 use Prim.Native.Char.{code}
 use Prim.Native.String.{String, [] as []ˢ, ◌∷◌ as ◌∷ˢ◌}
 use Rattle.std.proofs.Math.Option.{Option, none, some}
-
-infixr 10 if◌then◌else◌
-abbrev pub if◌then◌else◌ {ℓ} : {A : Type ℓ} → Bool → A → A → A
-if◌then◌else◌ true a b = a
-if◌then◌else◌ false a b = b
 
 -- ---- bytes with a name, and quoted text as bytes
 
@@ -89,11 +85,11 @@ bytes (c ∷ˢ s) = code c ∷ bytes s
 
 -- from a to z, both included
 abbrev pub between : ℕ → ℕ → ℕ → Bool
-between a z b = leb a b && leb b z
+between a z b = nat_le a b && nat_le b z
 
 -- a space or a tab
 abbrev pub space_or_tab : ℕ → Bool
-space_or_tab b = eqb b SPACE || eqb b TAB
+space_or_tab b = b == SPACE || b == TAB
 
 -- `0` to `9`
 abbrev pub is_digit : ℕ → Bool
@@ -119,25 +115,25 @@ unfoldable pub same : List ℕ → List ℕ → Bool
 same [] [] = true
 same [] (c ∷ t) = false
 same (b ∷ s) [] = false
-same (b ∷ s) (c ∷ t) = eqb b c && same s t
+same (b ∷ s) (c ∷ t) = b == c && same s t
 
 -- the same but for the case of letters
 unfoldable pub alike : List ℕ → List ℕ → Bool
 alike [] [] = true
 alike [] (c ∷ t) = false
 alike (b ∷ s) [] = false
-alike (b ∷ s) (c ∷ t) = eqb (small b) (small c) && alike s t
+alike (b ∷ s) (c ∷ t) = small b == small c && alike s t
 
 -- the second text begins with the first
 unfoldable pub begins_with : List ℕ → List ℕ → Bool
 begins_with [] t = true
 begins_with (b ∷ s) [] = false
-begins_with (b ∷ s) (c ∷ t) = eqb b c && begins_with s t
+begins_with (b ∷ s) (c ∷ t) = b == c && begins_with s t
 
 -- a number is in a list of numbers, as a byte in a text
 unfoldable pub is_in : ℕ → List ℕ → Bool
 is_in n [] = false
-is_in n (m ∷ ms) = eqb n m || is_in n ms
+is_in n (m ∷ ms) = n == m || is_in n ms
 
 abbrev pub is_empty : List ℕ → Bool
 is_empty [] = true

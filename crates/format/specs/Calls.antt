@@ -1,7 +1,7 @@
 -- The whole answer of each public call: its result and every lent byte and entry as it returns, refused or not.
 -- Document 01 fixes the part that comes with a refused data call, and that a refused setting leaves length and count;
 -- with any other refusal come zeros (docs/DECISIONS.md, "What comes with a refusal").
-use Rattle.std.specs.Prelude.{ℕ, ◌+◌, ◌-◌, true, false, List, [], ◌∷◌, ◌++◌, eqb, ltb, ℤ, length, replicate}
+use Rattle.std.specs.Prelude.{ℕ, ◌+◌, ◌-◌, true, false, List, [], ◌∷◌, ◌++◌, ◌==◌, nat_lt, ℤ, length, replicate, if◌then◌else◌}
 use Rattle.std.proofs.Math.Option.{Option, none, some}
 use Rattle.format.specs.declared.Refusal.{Refusal}
 use Rattle.format.specs.declared.Reading.{Reading}
@@ -13,7 +13,7 @@ use Rattle.format.specs.declared.CountAnswer.{CountAnswer}
 use Rattle.format.specs.declared.NumberAnswer.{NumberAnswer}
 use Rattle.format.specs.declared.WriteAnswer.{WriteAnswer}
 use Rattle.format.specs.declared.SetAnswer.{SetAnswer}
-use Rattle.format.specs.Bytes.{if◌then◌else◌, is_some, over}
+use Rattle.format.specs.Bytes.{is_some, over}
 use Rattle.format.specs.Limits.{max_axes}
 use Rattle.format.specs.Refusals.{lent_too_short, bad_coordinates, refusal, fine}
 use Rattle.format.specs.Lines.{text, size}
@@ -82,7 +82,7 @@ read_header_call file = read_answer (header file)
 unfoldable pub with_table : List ℕ → Outcome → ReadAnswer × List ℕ
 with_table table (refused r) = (read_answer (refused r), table)
 with_table table (accepted es gs ls) =
-    if ltb (length table) (length es) then (read_answer (refused (refusal lent_too_short)), table)
+    if nat_lt (length table) (length es) then (read_answer (refused (refusal lent_too_short)), table)
     else (read_answer (accepted es gs ls), over (table_of es) table)
 
 abbrev pub read_call : List ℕ → List ℕ → ReadAnswer × List ℕ
@@ -132,7 +132,7 @@ before_descriptor f t = length t - length (from_descriptor f (after_mark (mark t
 -- the place of the descriptor that a line gives the field f, or what the lines after it say
 abbrev pub given_place : ℕ → ℕ → List ℕ → Option Given → FindAnswer → FindAnswer
 given_place f at t none rest = rest
-given_place f at t (some (given g d)) rest = if eqb f g then found_at (at + before_descriptor f t) (length d) else rest
+given_place f at t (some (given g d)) rest = if f == g then found_at (at + before_descriptor f t) (length d) else rest
 given_place f at t (some (named n)) rest = rest
 
 abbrev pub descriptor_place : ℕ → ℕ → List ℕ → Item → FindAnswer → FindAnswer
@@ -157,7 +157,7 @@ no_value r = record { refusal = r; found = false; length = 0 }
 abbrev pub copy_value : List ℕ → Option (List ℕ) → ValueAnswer × List ℕ
 copy_value buf none = (no_value fine, buf)
 copy_value buf (some v) =
-    if ltb (length buf) (length v) then (no_value (refusal lent_too_short), buf)
+    if nat_lt (length buf) (length v) then (no_value (refusal lent_too_short), buf)
     else (record { refusal = fine; found = true; length = length v }, over v buf)
 
 abbrev pub copy_value_in : List ℕ → List ℕ → Outcome → ValueAnswer × List ℕ
@@ -208,12 +208,12 @@ abbrev pub decoded : List Given → List ℕ → Decoded
 decoded gs s = samples_of (encoding_of gs) (number_kind (type_of gs)) (sample_bytes (type_of gs)) (endian_of gs) (count_of gs) s
 
 abbrev pub answer_decoded : ℕ → Decoded → CountAnswer
-answer_decoded n d = if eqb d.number 0 then record { refusal = fine; count = n } else no_samples (refusal d.number)
+answer_decoded n d = if d.number == 0 then record { refusal = fine; count = n } else no_samples (refusal d.number)
 
 abbrev pub check_at : List Given → Place → ℕ → List ℕ → List ℕ → CountAnswer
 check_at gs (nowhere n) room file second = no_samples (refusal n)
 check_at gs (part s start n) room file second =
-    if ltb room (count_of gs) then no_samples (refusal lent_too_short)
+    if nat_lt room (count_of gs) then no_samples (refusal lent_too_short)
     else answer_decoded (count_of gs) (decoded gs (part_of (part s start n) file second))
 
 abbrev pub check_in : ℕ → List ℕ → List ℕ → Outcome → CountAnswer
@@ -230,7 +230,7 @@ seen_in file second (accepted es gs ls) = (decoded gs (part_of (place_of true gs
 
 -- the lent list as it returns: the samples at its front, or as it was where they are refused
 abbrev pub list_after : CountAnswer → List ℤ → List ℤ → List ℤ
-list_after a zs list = if eqb a.refusal.number 0 then over zs list else list
+list_after a zs list = if a.refusal.number == 0 then over zs list else list
 
 abbrev pub samples_call : List ℕ → List ℕ → List ℤ → CountAnswer × List ℤ
 samples_call file second list =
@@ -251,7 +251,7 @@ sample_number_call file cs = number_answer cs (header file)
 
 abbrev pub write_answer : ℕ → List ℕ → List ℕ → WriteAnswer × List ℕ
 write_answer n file out =
-    if eqb n 0 then (record { refusal = fine; length = length file }, over file out)
+    if n == 0 then (record { refusal = fine; length = length file }, over file out)
     else (record { refusal = refusal n; length = 0 }, out)
 
 abbrev pub write_call : ℕ → List ℕ → ℕ → ℕ → ℕ → List ℤ → List ℕ → WriteAnswer × List ℕ
@@ -284,7 +284,7 @@ left a = lent a.1.0 a.0.length a.1.1 a.0.count
 
 -- the settings accepted so far, the last of them first; the number 0 says that nothing is refused
 abbrev pub recorded : SetAnswer → Setting → List Setting → List Setting
-recorded a s done = if eqb a.refusal.number 0 then s ∷ done else done
+recorded a s done = if a.refusal.number == 0 then s ∷ done else done
 
 -- what is lent after the list, and the settings accepted; `done` were accepted before
 unfoldable pub set_keys_by : SetCall → List Setting → Lent → List Setting → Lent × List Setting

@@ -1,8 +1,8 @@
 -- The place of the data (document 01, "Data and samples", the first paragraph; a byte skip of -1: document 02, W1).
 -- After the reading its refusals are tried in this order: 33 (more than one file: document 02, W5), 1 (a detached header's second file), 19 (where samples are wanted), 16, 17, 18.
-use Rattle.std.specs.Prelude.{ℕ, zero, suc, ◌+◌, ◌-◌, ◌^◌, Bool, true, false, ◌&&◌, List, [], ◌∷◌, eqb, ltb, leb, length, take, drop}
+use Rattle.std.specs.Prelude.{ℕ, zero, suc, ◌+◌, ◌-◌, ◌^◌, Bool, true, false, ◌&&◌, List, [], ◌∷◌, ◌==◌, nat_lt, nat_le, length, take, drop, if◌then◌else◌}
 use Rattle.std.proofs.Math.Option.{Option, none, some}
-use Rattle.format.specs.Bytes.{if◌then◌else◌, and_then, LF}
+use Rattle.format.specs.Bytes.{and_then, LF}
 use Rattle.format.specs.Limits.{max_file}
 use Rattle.format.specs.Refusals.{file_too_long, several_files, skip_past_end, place_too_large, data_too_short, float_samples}
 use Rattle.format.specs.Fields.{Given}
@@ -13,7 +13,7 @@ use Rattle.format.specs.Descriptors.{ByteSkip, forward, from_end, is_detached, l
 -- what follows the first line, which ends in LF
 unfoldable pub skip_line : List ℕ → Option (List ℕ)
 skip_line [] = none
-skip_line (b ∷ s) = if eqb b LF then some s else skip_line s
+skip_line (b ∷ s) = if b == LF then some s else skip_line s
 
 -- what follows so many lines
 unfoldable pub skip_lines : ℕ → List ℕ → Option (List ℕ)
@@ -22,7 +22,7 @@ skip_lines (suc n) s = and_then (skip_line s) (λ t. skip_lines n t)
 
 -- what follows so many bytes; a skip to the very end is taken
 unfoldable pub skip_bytes : ℕ → List ℕ → Option (List ℕ)
-skip_bytes n s = if ltb (length s) n then none else some (drop n s)
+skip_bytes n s = if nat_lt (length s) n then none else some (drop n s)
 
 -- the last n bytes, or all where there are fewer
 unfoldable pub last_bytes : ℕ → List ℕ → List ℕ
@@ -46,21 +46,21 @@ pub data Place : Type 0 where
 
 -- raw data is the next extent bytes, else all that is left
 abbrev pub data_length : List Given → List ℕ → ℕ
-data_length gs left = if eqb (encoding_of gs) raw then extent_of gs else length left
+data_length gs left = if encoding_of gs == raw then extent_of gs else length left
 
 -- the data starts where `left` does, which is the end of a file of `whole` bytes
 abbrev pub place_from : List Given → Bool → ℕ → Option (List ℕ) → Place
 place_from gs second whole none = nowhere skip_past_end
 place_from gs second whole (some left) =
-    if leb (2 ^ 64) (whole - length left + extent_of gs) then nowhere place_too_large
-    else if eqb (encoding_of gs) raw && ltb (length left) (extent_of gs) then nowhere data_too_short
+    if nat_le (2 ^ 64) (whole - length left + extent_of gs) then nowhere place_too_large
+    else if encoding_of gs == raw && nat_lt (length left) (extent_of gs) then nowhere data_too_short
     else part second (whole - length left) (data_length gs left)
 
 -- the place of the data of a header of h bytes with these fields; `wanted`: its samples are wanted
 unfoldable pub place_of : Bool → List Given → ℕ → List ℕ → List ℕ → Place
 place_of wanted gs h file second =
-    if ltb 1 (file_count_of gs) then nowhere several_files
-    else if is_detached gs && ltb max_file (length second) then nowhere file_too_long
+    if nat_lt 1 (file_count_of gs) then nowhere several_files
+    else if is_detached gs && nat_lt max_file (length second) then nowhere file_too_long
     else if wanted && is_floating (number_kind (type_of gs)) then nowhere float_samples
     else if is_detached gs then place_from gs true (length second) (after_skips gs second)
     else place_from gs false (length file) (after_skips gs (drop h file))

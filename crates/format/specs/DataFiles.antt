@@ -1,9 +1,9 @@
 -- What a data file descriptor says (document 02, W5; source 000, section 3; document 01, "Understood fields", the last sentence).
 -- It has one of three forms, told apart in this order: LIST, after which names stand on lines of their own; a pattern, which holds a `%`,
 -- with the numbers that go into it; and else, if it is not empty, the name of one file. The text is a descriptor: no space or tab stands at its ends.
-use Rattle.std.specs.Prelude.{ℕ, ◌+◌, ◌-◌, ◌/◌, Bool, true, false, not, ◌&&◌, ◌||◌, List, [], ◌∷◌, eqb, ltb, drop}
+use Rattle.std.specs.Prelude.{ℕ, ◌+◌, ◌-◌, ◌/◌, Bool, true, false, not, ◌&&◌, ◌||◌, List, [], ◌∷◌, ◌==◌, nat_lt, drop, if◌then◌else◌}
 use Rattle.std.proofs.Math.Option.{Option, none, some}
-use Rattle.format.specs.Bytes.{if◌then◌else◌, bytes, same, begins_with, is_in, is_empty, PERCENT, MINUS}
+use Rattle.format.specs.Bytes.{bytes, same, begins_with, is_in, is_empty, PERCENT, MINUS}
 use Rattle.format.specs.Limits.{max_file_number, max_width}
 use Rattle.format.specs.Words.{number, number_in, value_of_number, words}
 use Rattle.format.specs.Decimals.{digits_of, after_digits}
@@ -31,19 +31,19 @@ pub data Pattern : Type 0 where
 -- the digits of a width: 1 to 99 without a leading zero (48 is `0`); none at all only where no zero stands before them
 abbrev pub width_fine : Bool → List ℕ → Bool
 width_fine zeros [] = not zeros
-width_fine zeros (b ∷ w) = not (eqb b 48) && number_in 1 max_width (b ∷ w)
+width_fine zeros (b ∷ w) = not (b == 48) && number_in 1 max_width (b ∷ w)
 
 -- the digits w of a width, and what follows them: `d` (100), and a rest without a `%`
 abbrev pub after_width : Bool → List ℕ → List ℕ → Option Pattern
 after_width zeros w [] = none
 after_width zeros w (b ∷ s) =
-    if eqb b 100 && (width_fine zeros w && not (has_percent s)) then some (pattern [] zeros (value_of_number w) s) else none
+    if b == 100 && (width_fine zeros w && not (has_percent s)) then some (pattern [] zeros (value_of_number w) s) else none
 
 -- what follows the `%`: `d`, `Nd` or `0Nd`
 abbrev pub after_percent : List ℕ → Option Pattern
 after_percent [] = none
 after_percent (b ∷ s) =
-    if eqb b 48 then after_width true (digits_of s) (after_digits s) else after_width false (digits_of (b ∷ s)) (after_digits (b ∷ s))
+    if b == 48 then after_width true (digits_of s) (after_digits s) else after_width false (digits_of (b ∷ s)) (after_digits (b ∷ s))
 
 -- a byte more before the `%`
 abbrev pub byte_before : ℕ → Option Pattern → Option Pattern
@@ -53,7 +53,7 @@ byte_before b (some (pattern p zeros width s)) = some (pattern (b ∷ p) zeros w
 -- the pattern that a word is, if it has one `%` and that is of one of the three kinds
 unfoldable pub pattern_of : List ℕ → Option Pattern
 pattern_of [] = none
-pattern_of (b ∷ s) = if eqb b PERCENT then after_percent s else byte_before b (pattern_of s)
+pattern_of (b ∷ s) = if b == PERCENT then after_percent s else byte_before b (pattern_of s)
 
 -- ---- the numbers that go into a pattern
 
@@ -63,7 +63,7 @@ pub data Numbering : Type 0 where
 
 -- how many of low, low + size, low + 2 × size .. are at most high, for a size of at least 1
 abbrev pub count_up : ℕ → ℕ → ℕ → ℕ
-count_up low high size = if ltb high low then 0 else (high - low) / size + 1
+count_up low high size = if nat_lt high low then 0 else (high - low) / size + 1
 
 -- from the first to the last of them: falling numbers are as many as rising ones from the last to the first would be, though not always the same ones
 abbrev pub count_numbers : Bool → ℕ → ℕ → ℕ → ℕ
@@ -72,7 +72,7 @@ count_numbers true first last size = count_up last first size
 
 -- none where there is no number: no file (refusal 11)
 abbrev pub with_some : ℕ → Bool → ℕ → ℕ → Option Numbering
-with_some first falls size count = if eqb count 0 then none else some (numbering first falls size count)
+with_some first falls size count = if count == 0 then none else some (numbering first falls size count)
 
 -- the size of a step, 1 to the largest
 abbrev pub sized : Bool → List ℕ → Option (Bool × ℕ)
@@ -81,7 +81,7 @@ sized falls t = if number_in 1 max_file_number t then some (falls, value_of_numb
 -- a step: whether a `-` stands before its size; `+` is not taken, and 0 is no size
 abbrev pub step_said : List ℕ → Option (Bool × ℕ)
 step_said [] = none
-step_said (b ∷ t) = if eqb b MINUS then sized true t else sized false (b ∷ t)
+step_said (b ∷ t) = if b == MINUS then sized true t else sized false (b ∷ t)
 
 -- by the words for the first number and the last one, and the step
 abbrev pub numbering_said : List ℕ → List ℕ → Option (Bool × ℕ) → Option Numbering

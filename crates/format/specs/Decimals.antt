@@ -3,10 +3,10 @@
 -- either case, a sign or none, and a digit or more. Or one of the words nan, inf, infinity after a sign or none, in any case. Hex is not taken, nor brackets after nan;
 -- what is too large or too small for a double is. The text is the component alone: blanks beside it are dropped before (`component_in`, Vectors).
 -- Numbers here are whole and unbounded: the tests for eighteen digits and for the power are exact for a text of any length.
-use Rattle.std.specs.Prelude.{ℕ, ◌+◌, ◌-◌, Bool, true, false, ◌&&◌, ◌||◌, List, [], ◌∷◌, ◌++◌, eqb, ltb, leb, ℤ, pos, neg_ℤ, length}
+use Rattle.std.specs.Prelude.{ℕ, ◌+◌, ◌-◌, Bool, true, false, ◌&&◌, ◌||◌, List, [], ◌∷◌, ◌++◌, ◌==◌, nat_lt, nat_le, ℤ, pos, neg_ℤ, length, if◌then◌else◌}
 use Rattle.std.proofs.Math.Option.{Option, none, some}
 use Rattle.format.specs.declared.Decimal.{Decimal}
-use Rattle.format.specs.Bytes.{if◌then◌else◌, bytes, is_digit, is_empty, alike, PLUS, MINUS, POINT}
+use Rattle.format.specs.Bytes.{bytes, is_digit, is_empty, alike, PLUS, MINUS, POINT}
 use Rattle.format.specs.Words.{number, value_of_number}
 
 -- ---- a decimal
@@ -52,12 +52,12 @@ max_power = 400
 
 abbrev pub is_minus : List ℕ → Bool
 is_minus [] = false
-is_minus (b ∷ s) = eqb b MINUS
+is_minus (b ∷ s) = b == MINUS
 
 -- what follows a sign, or all where there is none
 abbrev pub after_sign : List ℕ → List ℕ
 after_sign [] = []
-after_sign (b ∷ s) = if eqb b MINUS || eqb b PLUS then s else b ∷ s
+after_sign (b ∷ s) = if b == MINUS || b == PLUS then s else b ∷ s
 
 -- a number of the size n: minus zero is zero
 abbrev pub signed_of : Bool → ℕ → ℤ
@@ -82,7 +82,7 @@ pub data Numeral : Type 0 where
 -- the digits w, then what follows them
 abbrev pub pointed : List ℕ → List ℕ → Numeral
 pointed w [] = numeral w [] []
-pointed w (b ∷ s) = if eqb b POINT then numeral w (digits_of s) (after_digits s) else numeral w [] (b ∷ s)
+pointed w (b ∷ s) = if b == POINT then numeral w (digits_of s) (after_digits s) else numeral w [] (b ∷ s)
 
 abbrev pub numeral_of : List ℕ → Numeral
 numeral_of t = pointed (digits_of t) (after_digits t)
@@ -91,7 +91,7 @@ numeral_of t = pointed (digits_of t) (after_digits t)
 
 -- `e` in either case
 abbrev pub is_e : ℕ → Bool
-is_e b = eqb b 101 || eqb b 69
+is_e b = b == 101 || b == 69
 
 abbrev pub signed_size : Bool → Option ℕ → Option (Bool × ℕ)
 signed_size minus none = none
@@ -105,7 +105,7 @@ exponent_of (b ∷ s) = if is_e b then signed_size (is_minus s) (number (after_s
 -- the power: the exponent minus the number of digits after the point, which is so folded into it
 abbrev pub point_folded : Bool × ℕ → ℕ → Bool × ℕ
 point_folded (true, n) f = (true, n + f)
-point_folded (false, n) f = if ltb n f then (true, f - n) else (false, n - f)
+point_folded (false, n) f = if nat_lt n f then (true, f - n) else (false, n - f)
 
 -- ---- the value
 
@@ -113,7 +113,7 @@ point_folded (false, n) f = if ltb n f then (true, f - n) else (false, n - f)
 abbrev pub valued : Bool → List ℕ → Bool × ℕ → Option Decimal
 valued minus ds p =
     if is_empty ds then none
-    else if ltb (value_of_number ds) past_number && leb p.1 max_power then some (num (signed_of minus (value_of_number ds)) (signed_of p.0 p.1))
+    else if nat_lt (value_of_number ds) past_number && nat_le p.1 max_power then some (num (signed_of minus (value_of_number ds)) (signed_of p.0 p.1))
     else none
 
 abbrev pub with_exponent : Bool → List ℕ → ℕ → Option (Bool × ℕ) → Option Decimal

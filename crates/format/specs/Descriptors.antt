@@ -1,9 +1,9 @@
 -- Descriptors and what they mean (document 01, "Lines and headers", point 5; "Understood fields", "Needed", "Types";
 -- "Data and samples", extent; document 02, W1, byte skips, W2, orientation, W5, data files, and W6, what is said of axes).
-use Rattle.std.specs.Prelude.{ℕ, ◌+◌, ◌-◌, ◌*◌, ◌%◌, min, Bool, true, false, not, ◌&&◌, ◌||◌, List, [], ◌∷◌, map, eqb, ltb, length, drop, get_or}
+use Rattle.std.specs.Prelude.{ℕ, ◌+◌, ◌-◌, ◌*◌, ◌%◌, min, Bool, true, false, not, ◌&&◌, ◌||◌, List, [], ◌∷◌, map, ◌==◌, nat_lt, length, drop, slice_index, slice_index_or, if◌then◌else◌}
 use Prim.Native.String.{String}
 use Rattle.std.proofs.Math.Option.{Option, none, some}
-use Rattle.format.specs.Bytes.{if◌then◌else◌, bytes, between, same, row_of, is_some, or_default}
+use Rattle.format.specs.Bytes.{bytes, between, same, row_of, is_some, or_default}
 use Rattle.format.specs.Words.{trim_front, trim_end, number_in, value_of_number, words, numbers_in}
 use Rattle.format.specs.Limits.{max_axes, max_size, max_skip, past_extent}
 use Rattle.format.specs.Fields.{Given, descriptor_of, is_given, file_names, field_since, many_files_since, is_understood, dimension, type, encoding, endian, sizes, line_skip, byte_skip, data_file, space, space_dimension, space_origin, space_directions, measurement_frame, centers, labels, units, kinds}
@@ -111,7 +111,7 @@ number_kind_type (sample_type name n k ns) = k
 
 -- the type of a number, and a stand-in past the list
 unfoldable pub type_at : ℕ → SampleType
-type_at t = get_or types t (sample_type "int8" 1 signed [])
+type_at t = slice_index_or types t (sample_type "int8" 1 signed [])
 
 -- the bytes of a sample
 abbrev pub sample_bytes : ℕ → ℕ
@@ -141,7 +141,7 @@ endian_named w = row_of w endians
 
 -- whether the order of a sample's bytes matters ("Needed"): raw or hex samples of several bytes
 abbrev pub endian_needed : ℕ → ℕ → Bool
-endian_needed t e = ltb 1 (sample_bytes t) && (eqb e raw || eqb e hex)
+endian_needed t e = nat_lt 1 (sample_bytes t) && (e == raw || e == hex)
 
 -- ---- what the given fields mean
 
@@ -158,19 +158,19 @@ no_space = space_count
 -- their value, of a byte skip the number of bytes, of a data file the number of the last one where a pattern names them; 0 for a field that says none
 abbrev pub number_said : ℕ → List ℕ → ℕ
 number_said f t =
-    if eqb f type then or_default 0 (type_named t)
-    else if eqb f encoding then or_default 0 (encoding_named t)
-    else if eqb f endian then or_default no_endian (endian_named t)
-    else if eqb f dimension || eqb f line_skip then value_of_number t
-    else if eqb f byte_skip then bytes_forward (byte_skip_said t)
-    else if eqb f space then or_default no_space (space_named t)
-    else if eqb f space_dimension then value_of_number t
-    else if eqb f data_file then last_numbered (data_file_said t)
+    if f == type then or_default 0 (type_named t)
+    else if f == encoding then or_default 0 (encoding_named t)
+    else if f == endian then or_default no_endian (endian_named t)
+    else if f == dimension || f == line_skip then value_of_number t
+    else if f == byte_skip then bytes_forward (byte_skip_said t)
+    else if f == space then or_default no_space (space_named t)
+    else if f == space_dimension then value_of_number t
+    else if f == data_file then last_numbered (data_file_said t)
     else 0
 
 -- the number of a field that is not given
 abbrev pub number_absent : ℕ → ℕ
-number_absent f = if eqb f endian then no_endian else if eqb f space then no_space else 0
+number_absent f = if f == endian then no_endian else if f == space then no_space else 0
 
 -- the number of a field
 abbrev pub number_of : ℕ → List Given → ℕ
@@ -225,7 +225,7 @@ names_follow gs = meaning false is_list (descriptor_of data_file gs)
 
 -- no name follows LIST
 unfoldable pub list_empty : List Given → Bool
-list_empty gs = names_follow gs && eqb (length (file_names gs)) 0
+list_empty gs = names_follow gs && length (file_names gs) == 0
 
 -- how many files hold the data: an attached header counts as one file
 unfoldable pub file_count_of : List Given → ℕ
@@ -237,34 +237,34 @@ cover_of gs = cover_said (data_file_of gs)
 
 -- the version from which a field may have the descriptor t: LIST and patterns, also bad ones, come later than the field
 unfoldable pub since : ℕ → List ℕ → ℕ
-since f t = if eqb f data_file && is_many_form t then many_files_since else field_since f
+since f t = if f == data_file && is_many_form t then many_files_since else field_since f
 
 -- ---- the descriptor that a field may have (refusal 11)
 
 -- as many sizes as the dimension
 abbrev pub sizes_fine : ℕ → List (List ℕ) → Bool
-sizes_fine n ws = eqb (length ws) n && numbers_in 1 max_size ws
+sizes_fine n ws = length ws == n && numbers_in 1 max_size ws
 
 -- the field may have the descriptor t in a header of dimension n, in a space of dimension m; a carried field may have any
 unfoldable pub may_describe : ℕ → ℕ → ℕ → List ℕ → Bool
 may_describe n m f t =
-    if eqb f dimension then number_in 1 max_axes t
-    else if eqb f type then is_some (type_named t)
-    else if eqb f encoding then is_some (encoding_named t)
-    else if eqb f endian then is_some (endian_named t)
-    else if eqb f sizes then sizes_fine n (words t)
-    else if eqb f line_skip then number_in 0 max_skip t
-    else if eqb f byte_skip then is_minus_one t || number_in 0 max_skip t
-    else if eqb f data_file then is_some (data_file_said t)
-    else if eqb f space then is_some (space_named t)
-    else if eqb f space_dimension then number_in 1 max_space t
-    else if eqb f space_origin then is_some (vectors_said 1 m t)
-    else if eqb f space_directions then is_some (directions_said n m t)
-    else if eqb f measurement_frame then is_some (vectors_said m m t)
-    else if eqb f centers then is_some (centrings_said n t)
-    else if eqb f kinds then is_some (kinds_said n t)
-    else if eqb f labels then is_some (strings_said n t)
-    else if eqb f units then is_some (strings_said n t)
+    if f == dimension then number_in 1 max_axes t
+    else if f == type then is_some (type_named t)
+    else if f == encoding then is_some (encoding_named t)
+    else if f == endian then is_some (endian_named t)
+    else if f == sizes then sizes_fine n (words t)
+    else if f == line_skip then number_in 0 max_skip t
+    else if f == byte_skip then is_minus_one t || number_in 0 max_skip t
+    else if f == data_file then is_some (data_file_said t)
+    else if f == space then is_some (space_named t)
+    else if f == space_dimension then number_in 1 max_space t
+    else if f == space_origin then is_some (vectors_said 1 m t)
+    else if f == space_directions then is_some (directions_said n m t)
+    else if f == measurement_frame then is_some (vectors_said m m t)
+    else if f == centers then is_some (centrings_said n t)
+    else if f == kinds then is_some (kinds_said n t)
+    else if f == labels then is_some (strings_said n t)
+    else if f == units then is_some (strings_said n t)
     else true
 
 -- ---- what is needed (refusal 14), the encoding that a byte skip of -1 asks for (11 with line 0), and the extent
@@ -280,7 +280,7 @@ has_needed gs =
 
 -- a byte skip of -1 stands with raw alone
 unfoldable pub end_is_raw : List Given → Bool
-end_is_raw gs = not (is_from_end (byte_skip_of gs)) || eqb (encoding_of gs) raw
+end_is_raw gs = not (is_from_end (byte_skip_of gs)) || encoding_of gs == raw
 
 unfoldable pub product : List ℕ → ℕ
 product [] = 1
@@ -297,14 +297,14 @@ extent_of gs = extent (sizes_of gs) (type_of gs)
 
 -- k divides n
 abbrev pub divides : ℕ → ℕ → Bool
-divides k n = eqb (n % k) 0
+divides k n = n % k == 0
 
 -- Each of k files covers the c fastest of n axes. Where these are fewer than all, there is a file for every place on the others; where they are all, the files are slabs along the slowest.
 -- And k divides the number of samples, which follows from either rule (law `files_divide`).
 abbrev pub cover_fine : ℕ → List ℕ → ℕ → ℕ → Bool
 cover_fine n ns k c =
     between 1 n c
-    && ((if ltb c n then eqb k (product (drop c ns)) else divides k (get_or ns (n - 1) 0))
+    && ((if nat_lt c n then k == product (drop c ns) else divides k (slice_index ns (n - 1)))
     && divides k (product ns))
 
 -- a number of axes that is left open is one less than the dimension; a single name and an attached header are held to nothing

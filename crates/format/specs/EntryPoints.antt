@@ -1,7 +1,7 @@
 -- What each entry point for C answers, where numbers cross in bytes: the call of Calls.antt on the numbers that the bytes hold
 -- (Boundary.antt). A lent table or list comes back as the bytes of its numbers; a rest too short for one stays.
 -- The other entry points answer as their calls do.
-use Rattle.std.specs.Prelude.{ℕ, zero, suc, List, [], ◌∷◌, eqb, length, take, drop, replicate}
+use Rattle.std.specs.Prelude.{ℕ, zero, suc, List, [], ◌∷◌, ◌==◌, length, take, drop, replicate, if◌then◌else◌}
 use Rattle.format.specs.declared.ReadAnswer.{ReadAnswer}
 use Rattle.format.specs.declared.CountAnswer.{CountAnswer}
 use Rattle.format.specs.declared.NumberAnswer.{NumberAnswer}
@@ -9,7 +9,7 @@ use Rattle.format.specs.declared.WriteAnswer.{WriteAnswer}
 use Rattle.format.specs.declared.SetAnswer.{SetAnswer}
 use Rattle.format.specs.declared.Decimal.{Decimal}
 use Rattle.format.specs.declared.Shape.{Shape}
-use Rattle.format.specs.Bytes.{if◌then◌else◌, is_empty}
+use Rattle.format.specs.Bytes.{is_empty}
 use Rattle.format.specs.Refusals.{bad_descriptor, refusal}
 use Rattle.format.specs.Columns.{column, matrix}
 use Rattle.format.specs.Samples.{from_bytes}
@@ -68,6 +68,6 @@ no_shape = record { given = 0; components = 0; axes = 0; columns = 0; space = 0;
 unfoldable pub write_header_entry : ℕ → List ℕ → ℕ → ℕ → ℕ → List ℕ → List ℕ → WriteAnswer × List ℕ
 write_header_entry version sizes t e endian lent out =
     if is_empty lent then write_header_call version (numbers_of word_bytes sizes) t e endian no_shape (column []) (replicate 16 (column [])) (matrix []) out
-    else if eqb (length lent) orientation_width then
+    else if length lent == orientation_width then
     write_header_call version (numbers_of word_bytes sizes) t e endian (shape_lent lent) (decimals_lent (take 128 (drop 32 lent))) (columns_lent 16 (drop 160 lent)) (columns_lent 8 (drop 2208 lent)) out
     else header_refused (refusal bad_descriptor) out

@@ -1,10 +1,10 @@
 -- The 30 fields: their names in either spelling, first versions and order
 -- (document 01, "Understood fields", "Carried fields", "Versions", "Order"; document 02, W2 and W6, those that became understood).
 -- A field is a number from 0: its row in the table. The numbers are those that callers in C use: they stay when a field becomes understood.
-use Rattle.std.specs.Prelude.{ℕ, Bool, true, false, not, ◌&&◌, ◌||◌, List, [], ◌∷◌, ◌++◌, map, eqb, length, get_or}
+use Rattle.std.specs.Prelude.{ℕ, Bool, true, false, not, ◌&&◌, ◌||◌, List, [], ◌∷◌, ◌++◌, map, ◌==◌, length, slice_index_or, if◌then◌else◌}
 use Prim.Native.String.{String}
 use Rattle.std.proofs.Math.Option.{Option, none, some}
-use Rattle.format.specs.Bytes.{if◌then◌else◌, row_of, is_some}
+use Rattle.format.specs.Bytes.{row_of, is_some}
 
 -- ---- the table
 
@@ -92,7 +92,7 @@ no_field = field_row [] 1 anywhere carried
 
 -- the row of a number
 unfoldable pub field_at : ℕ → FieldRow
-field_at f = get_or field_table f no_field
+field_at f = slice_index_or field_table f no_field
 
 -- the field of a name, ignoring case, or none
 abbrev pub field_named : List ℕ → Option ℕ
@@ -185,7 +185,7 @@ pub data Given : Type 0 where
 -- the descriptor of a field, if it is given
 unfoldable pub descriptor_of : ℕ → List Given → Option (List ℕ)
 descriptor_of f [] = none
-descriptor_of f (given g d ∷ gs) = if eqb f g then some d else descriptor_of f gs
+descriptor_of f (given g d ∷ gs) = if f == g then some d else descriptor_of f gs
 descriptor_of f (named t ∷ gs) = descriptor_of f gs
 
 abbrev pub is_given : ℕ → List Given → Bool
@@ -201,7 +201,7 @@ file_names (named t ∷ gs) = file_names gs ++ (t ∷ [])
 
 -- space and space dimension say the same: each counts as the other (document 02, W2)
 abbrev pub other_field : ℕ → ℕ
-other_field f = if eqb f space then space_dimension else if eqb f space_dimension then space else f
+other_field f = if f == space then space_dimension else if f == space_dimension then space else f
 
 -- the field is given already (refusal 9)
 unfoldable pub is_repeated : ℕ → List Given → Bool

@@ -1,7 +1,7 @@
 -- The names of data files, and the shares of the samples in them (document 02, W5; source 000, section 3).
-use Rattle.std.specs.Prelude.{ℕ, ◌+◌, ◌-◌, ◌*◌, ◌/◌, ◌%◌, Bool, true, false, List, [], ◌∷◌, ◌++◌, length, get_or, replicate}
+use Rattle.std.specs.Prelude.{ℕ, ◌+◌, ◌-◌, ◌*◌, ◌/◌, ◌%◌, Bool, true, false, List, [], ◌∷◌, ◌++◌, length, slice_index_or, replicate, if◌then◌else◌}
 use Rattle.std.proofs.Math.Option.{Option, none, some}
-use Rattle.format.specs.Bytes.{if◌then◌else◌, SPACE}
+use Rattle.format.specs.Bytes.{SPACE}
 use Rattle.format.specs.DataFiles.{Pattern, pattern, Numbering, numbering, DataFile, one_file, numbered_files, listed_files}
 use Rattle.format.specs.Writer.{decimal}
 
@@ -29,7 +29,7 @@ unfoldable pub name_said : Option DataFile → List (List ℕ) → ℕ → List 
 name_said none names n = []
 name_said (some (one_file t)) names n = t
 name_said (some (numbered_files p k axes)) names n = pattern_name p (number_at k n)
-name_said (some (listed_files axes)) names n = get_or names n []
+name_said (some (listed_files axes)) names n = slice_index_or names n []
 
 -- ---- shares: of so many samples each of so many files has equally many
 

@@ -235,7 +235,7 @@ shares =
 pub record FilesTrials : Type 0 where
   pub in_forms : Hold forms
   pub in_patterns : Hold patterns
-  pub in_numbers_lem : Hold numberings
+  pub in_numbers : Hold numberings
   pub in_names : Hold name_trials
   pub in_counts : Hold counts
   pub in_shares : Hold shares

@@ -1,10 +1,10 @@
 -- The header: what each line is, the walk over the lines with its refusals in order, the reading and the line table
 -- (document 01, "Lines and headers", "Numbers of refusal", order for reading; document 02: the 11 with line 0, after 14, W1; names under LIST, the 11 after 13 and after 15, W5).
 -- The refusals of a reading in their order: 1, 2, then for each line 3, 4 and 5 to 12, then 13, 11 (an empty LIST), 14, 11 (-1 without raw), 15, 11 (the number of files or of axes).
-use Rattle.std.specs.Prelude.{ℕ, ◌+◌, ◌-◌, Bool, true, false, not, List, [], ◌∷◌, map, ltb, length}
+use Rattle.std.specs.Prelude.{ℕ, ◌+◌, ◌-◌, Bool, true, false, not, List, [], ◌∷◌, map, nat_lt, length, if◌then◌else◌}
 use Rattle.std.proofs.Math.Option.{Option, none, some}
 use Rattle.format.specs.declared.Refusal.{Refusal}
-use Rattle.format.specs.Bytes.{if◌then◌else◌, bytes, every, same, or_else}
+use Rattle.format.specs.Bytes.{bytes, every, same, or_else}
 use Rattle.format.specs.Limits.{max_file, max_header, max_lines, max_extent}
 use Rattle.format.specs.Refusals.{file_too_long, no_magic, header_too_long, too_many_lines, bad_byte, no_mark, unknown_field, not_in_version, repeated_field, out_of_order, bad_descriptor, bad_backslash, no_end, missing_field, extent_too_large, at_line, refusal}
 use Rattle.format.specs.Lines.{Line, line, lf, crlf, eof, text, size, lines, unlines, starts}
@@ -117,14 +117,14 @@ unescaped (some k) (some v) = right (pair k v)
 unfoldable pub on_pair : ℕ → List ℕ → List ℕ → Judged
 on_pair version [] v = wrong no_mark
 on_pair version (b ∷ k) v =
-    if ltb version pairs_since then wrong not_in_version
+    if nat_lt version pairs_since then wrong not_in_version
     else unescaped (unescape (b ∷ k)) (unescape v)
 
 -- a field f, or an unknown one, with what follows its mark, after the fields given
 unfoldable pub on_field : ℕ → List Given → Option ℕ → List ℕ → Judged
 on_field version gs none rest = wrong unknown_field
 on_field version gs (some f) rest =
-    if ltb version (since f (descriptor f rest)) then wrong not_in_version
+    if nat_lt version (since f (descriptor f rest)) then wrong not_in_version
     else if is_repeated f gs then wrong repeated_field
     else if not (in_order f gs) then wrong out_of_order
     else if not (may_describe (dimension_of gs) (space_size_of gs) f (descriptor f rest)) then wrong bad_descriptor
@@ -175,7 +175,7 @@ complete n gs ls =
     if list_empty gs then refused (at_line bad_descriptor (n - 1))
     else if not (has_needed gs) then refused (refusal missing_field)
     else if not (end_is_raw gs) then refused (refusal bad_descriptor)
-    else if ltb max_extent (extent_of gs) then refused (refusal extent_too_large)
+    else if nat_lt max_extent (extent_of gs) then refused (refusal extent_too_large)
     else if not (files_fine gs) then refused (refusal bad_descriptor)
     else accepted [] gs ls
 
@@ -187,8 +187,8 @@ on_judged n l (right i) next = with_entry (entry l i) (next i)
 unfoldable pub walk : ℕ → ℕ → ℕ → List Given → List Line → Outcome
 walk version n at gs [] = if is_detached gs then complete n gs [] else refused (refusal no_end)
 walk version n at gs (l ∷ ls) =
-    if ltb max_header (at + size l) then refused (at_line header_too_long n)
-    else if ltb max_lines n then refused (at_line too_many_lines n)
+    if nat_lt max_header (at + size l) then refused (at_line header_too_long n)
+    else if nat_lt max_lines n then refused (at_line too_many_lines n)
     else on_judged n l (judge version gs (text l)) λ i. if closes i then complete n gs ls else walk version (n + 1) (at + size l) (after_item i gs) ls
 
 abbrev pub after_magic : Line → Option ℕ → List Line → Outcome
@@ -201,7 +201,7 @@ from_first (l ∷ ls) = after_magic l (version_of_line l) ls
 
 -- the header of a file
 unfoldable pub header : List ℕ → Outcome
-header file = if ltb max_file (length file) then refused (refusal file_too_long) else from_first (lines file)
+header file = if nat_lt max_file (length file) then refused (refusal file_too_long) else from_first (lines file)
 
 -- ---- the reading: version, form (`is_detached`), each field's descriptor (`descriptor_of`), the names under LIST (`file_names`), each key's value
 

@@ -1,12 +1,12 @@
 -- The header writer (document 02, W2): the text of a header with its orientation, and the whole answer of the call.
-use Rattle.std.specs.Prelude.{ℕ, ◌/◌, ◌%◌, Bool, true, false, not, ◌&&◌, List, [], ◌∷◌, ◌++◌, map, eqb, ltb, leb, ℤ, length, take}
+use Rattle.std.specs.Prelude.{ℕ, ◌/◌, ◌%◌, Bool, true, false, not, ◌&&◌, List, [], ◌∷◌, ◌++◌, map, ◌==◌, nat_lt, nat_le, ℤ, length, take, if◌then◌else◌}
 use Prim.Native.String.{String}
 use Rattle.std.proofs.Math.Option.{Option, none, some}
 use Rattle.format.specs.declared.Decimal.{Decimal}
 use Rattle.format.specs.declared.Shape.{Shape}
 use Rattle.format.specs.declared.Refusal.{Refusal}
 use Rattle.format.specs.declared.WriteAnswer.{WriteAnswer}
-use Rattle.format.specs.Bytes.{if◌then◌else◌, bytes, over, SPACE, OPEN, CLOSE, COMMA}
+use Rattle.format.specs.Bytes.{bytes, over, SPACE, OPEN, CLOSE, COMMA}
 use Rattle.format.specs.Limits.{max_axes}
 use Rattle.format.specs.Refusals.{not_in_version, bad_descriptor, lent_too_short, refusal, fine}
 use Rattle.format.specs.Lines.{Line, unlines}
@@ -25,10 +25,10 @@ number_text n p = signed_decimal n ++ 101 ∷ signed_decimal p
 
 unfoldable pub component_text : Decimal → List ℕ
 component_text d =
-    if eqb d.kind numeric then number_text d.number d.power
-    else if eqb d.kind nan then bytes "nan"
-    else if eqb d.kind inf then bytes "inf"
-    else if eqb d.kind minus_inf then bytes "-inf"
+    if d.kind == numeric then number_text d.number d.power
+    else if d.kind == nan then bytes "nan"
+    else if d.kind == inf then bytes "inf"
+    else if d.kind == minus_inf then bytes "-inf"
     else bytes "none"
 
 -- ---- vectors: one space between two of them, none inside
@@ -86,7 +86,7 @@ oriented_bytes version sizes t e endian o = unlines (header_with version sizes t
 
 -- it stands for an axis without a direction
 abbrev pub is_none : Decimal → Bool
-is_none d = eqb d.kind no_direction
+is_none d = d.kind == no_direction
 
 -- the decimals before the first that is none
 unfoldable pub until_none : List Decimal → List Decimal
@@ -109,7 +109,7 @@ direction_of n v = if starts_none v then without else along (vector_of n v)
 -- what is given: bit 0 of `given` says that there is a space, bit 1 a space's dimension, bit 2 an origin, bit 3 directions, bit 4 a frame. A vector has as many
 -- components as `components` says, or fewer; `axes` and `columns` say how many directions and columns there are.
 abbrev pub has : ℕ → ℕ → Bool
-has given bit = eqb (given / bit % 2) 1
+has given bit = given / bit % 2 == 1
 
 abbrev pub if_given : {A : Type 0} → Bool → A → Option A
 if_given x a = if x then some a else none
@@ -123,19 +123,19 @@ orientation_of s origin directions frame =
 
 -- its numbers are in their ranges (11)
 abbrev pub shape_fine : Shape → Bool
-shape_fine s = ltb s.given 32 && (leb s.components max_space && (leb s.axes max_axes && leb s.columns max_space))
+shape_fine s = nat_lt s.given 32 && (nat_le s.components max_space && (nat_le s.axes max_axes && nat_le s.columns max_space))
 
 -- ---- the call: the answer, and the lent buffer as it returns
 
 -- a space that is given is in the list (11)
 abbrev pub space_listed : Orientation → Bool
 space_listed (orientation none size origin directions frame) = true
-space_listed (orientation (some i) size origin directions frame) = ltb i space_count
+space_listed (orientation (some i) size origin directions frame) = nat_lt i space_count
 
 -- the version has a field that is given (8)
 abbrev pub since_for : {A : Type 0} → ℕ → ℕ → Option A → Bool
 since_for version f none = true
-since_for version f (some a) = leb (field_since f) version
+since_for version f (some a) = nat_le (field_since f) version
 
 unfoldable pub in_version : ℕ → Orientation → Bool
 in_version version (orientation i size origin directions frame) =
@@ -152,7 +152,7 @@ header_refused r out = (record { refusal = r; length = 0 }, out)
 abbrev pub after_reading : Outcome → List ℕ → List ℕ → WriteAnswer × List ℕ
 after_reading (refused r) text out = header_refused r out
 after_reading (accepted es gs ls) text out =
-    if ltb (length out) (length text) then header_refused (refusal lent_too_short) out
+    if nat_lt (length out) (length text) then header_refused (refusal lent_too_short) out
     else (record { refusal = fine; length = length text }, over text out)
 
 unfoldable pub write_header : ℕ → List ℕ → ℕ → ℕ → ℕ → Bool → Orientation → List ℕ → WriteAnswer × List ℕ

@@ -1,13 +1,13 @@
--- Hex digits over all 256 bytes (document 02, W3): what the three ranges of `Samples.hexDigit` say of each byte, compared with the digits as text.
-use Rattle.std.specs.Prelude.{ℕ, ◌+◌, ◌<◌, ◌≡◌, Bool, true, false, List, [], ◌∷◌, eqb}
+-- Hex digits over all 256 bytes (document 02, W3): what the three ranges of `Samples.hex_digit` say of each byte, compared with the digits as text.
+use Rattle.std.specs.Prelude.{ℕ, ◌+◌, ◌<◌, ◌≡◌, Bool, true, false, List, [], ◌∷◌, ◌==◌, if◌then◌else◌}
 use Rattle.std.proofs.Math.Option.{Option, none, some}
-use Rattle.format.specs.Bytes.{if◌then◌else◌, bytes, every_below, or_else}
+use Rattle.format.specs.Bytes.{bytes, every_below, or_else}
 use Rattle.format.specs.Samples.{hex_digit}
 
 -- the place of a byte in a text, the first place counted as n
 unfoldable pub place_from : ℕ → ℕ → List ℕ → Option ℕ
 place_from n b [] = none
-place_from n b (c ∷ s) = if eqb b c then some n else place_from (n + 1) b s
+place_from n b (c ∷ s) = if b == c then some n else place_from (n + 1) b s
 
 -- the value of a byte by its place among the digits, which count from 0, or among the letters of either case, which count from 10; no other byte has one
 abbrev pub digit_named : ℕ → Option ℕ
@@ -18,7 +18,7 @@ abbrev pub same_value : Option ℕ → Option ℕ → Bool
 same_value none none = true
 same_value none (some w) = false
 same_value (some v) none = false
-same_value (some v) (some w) = eqb v w
+same_value (some v) (some w) = v == w
 
 -- By the ranges exactly the digits have a value, each the one that the text gives it.
 pub record HexDigits : Type 0 where

@@ -1,9 +1,9 @@
 -- The laws that make the definitions believable, as one statement: `Laws`. proofs/ proves them; the crates above use most of them.
-use Rattle.std.specs.Prelude.{ℕ, ◌+◌, ◌-◌, ◌^◌, ◌/◌, ◌%◌, ◌≤◌, ◌<◌, ◌≡◌, Bool, true, false, not, ◌||◌, List, [], ◌∷◌, ◌++◌, eqb, ℤ, length, take, drop, get_or}
+use Rattle.std.specs.Prelude.{ℕ, ◌+◌, ◌-◌, ◌^◌, ◌/◌, ◌%◌, ◌≤◌, ◌<◌, ◌≡◌, Bool, true, false, not, ◌||◌, List, [], ◌∷◌, ◌++◌, ◌==◌, ℤ, length, take, drop, slice_index, slice_index_or, if◌then◌else◌}
 use Rattle.std.proofs.Math.Option.{some}
 use Rattle.format.specs.declared.Decimal.{Decimal}
 use Rattle.format.specs.declared.Refusal.{Refusal}
-use Rattle.format.specs.Bytes.{if◌then◌else◌, every, over, space_or_tab, LF, CR, QUOTE, BACKSLASH}
+use Rattle.format.specs.Bytes.{every, over, space_or_tab, LF, CR, QUOTE, BACKSLASH}
 use Rattle.format.specs.Limits.{max_file}
 use Rattle.format.specs.Lines.{Line, line, lf, crlf, eof, text, lines, unlines, starts}
 use Rattle.format.specs.Pairs.{pair_mark, mark, escape, unescape}
@@ -26,7 +26,7 @@ use Rattle.format.specs.Boundary.{word_bytes, numbers_of, samples_lent, lent_num
 -- ---- the line rule (document 01, "Lines and headers", the first point), said of lines instead of computed
 
 abbrev pub not_lf : ℕ → Bool
-not_lf b = not (eqb b LF)
+not_lf b = not (b == LF)
 
 -- no byte of the text is LF
 abbrev pub NoLF : List ℕ → Type 0
@@ -35,7 +35,7 @@ NoLF t = every not_lf t ≡ true
 -- the last byte is CR; an empty text has none
 unfoldable pub ends_in_cr : List ℕ → Bool
 ends_in_cr [] = false
-ends_in_cr (b ∷ []) = eqb b CR
+ends_in_cr (b ∷ []) = b == CR
 ends_in_cr (b ∷ c ∷ t) = ends_in_cr (c ∷ t)
 
 -- No text has an LF. A text that LF alone ends does not end in CR: that CR would belong to the ending.
@@ -114,7 +114,7 @@ pub record Laws : Type 0 where
   pub shape_of_lines : (s : List ℕ) → Shape (lines s)
   pub lines_unique : {ls : List Line} → Shape ls → lines (unlines ls) ≡ ls
   -- each start in the table is where its line begins: reading on from there gives that line and those after it
-  pub start_of_line : (s : List ℕ) (k : ℕ) → k < length (lines s) → lines (drop (get_or (starts 0 (lines s)) k 0) s) ≡ drop k (lines s)
+  pub start_of_line : (s : List ℕ) (k : ℕ) → k < length (lines s) → lines (drop (slice_index (starts 0 (lines s)) k) s) ≡ drop k (lines s)
   -- escape and unescape are inverse on all allowed texts, and equal escaped keys are equal keys
   pub unescape_of_escape : (s : List ℕ) → unescape (escape s) ≡ some s
   pub escape_of_unescape : (t s : List ℕ) → NoLF t → unescape t ≡ some s → escape s ≡ t
@@ -132,13 +132,13 @@ pub record Laws : Type 0 where
   -- a field that is not understood may have any descriptor
   pub carried_any : (n m f : ℕ) (t : List ℕ) → is_understood f ≡ false → may_describe n m f t ≡ true
   -- the n-th name of an accepted header, counted from 0, is the text of the line that n others part from LIST's, and this line is one of the header's
-  pub names_are_lines : (file : List ℕ) {es : List Entry} {gs : List Given} {r : List Line} → header file ≡ accepted es gs r → (n : ℕ) → n < length (file_names gs) → (get_or (file_names gs) n [] ≡ text (get_or (lines file) (field_lines es + n) (line [] eof))) × (field_lines es + n < length es)
+  pub names_are_lines : (file : List ℕ) {es : List Entry} {gs : List Given} {r : List Line} → header file ≡ accepted es gs r → (n : ℕ) → n < length (file_names gs) → (slice_index_or (file_names gs) n [] ≡ text (slice_index_or (lines file) (field_lines es + n) (line [] eof))) × (field_lines es + n < length es)
   -- an accepted header has at least one file
   pub files_some : (file : List ℕ) {es : List Entry} {gs : List Given} {r : List Line} → header file ≡ accepted es gs r → 1 ≤ file_count_of gs
   -- all its files have equal shares of the samples
   pub shares_fit : (file : List ℕ) {es : List Entry} {gs : List Given} {r : List Line} → header file ≡ accepted es gs r → product (sizes_of gs) % file_count_of gs ≡ 0
   -- where k files cover c of n axes as they should, k divides the number of samples: that the shares are equal is no rule of its own
-  pub files_divide : (n : ℕ) (ns : List ℕ) (k c : ℕ) → length ns ≡ n → 1 ≤ c → c ≤ n → (c < n → k ≡ product (drop c ns)) → (c ≡ n → get_or ns (n - 1) 0 % k ≡ 0) → product ns % k ≡ 0
+  pub files_divide : (n : ℕ) (ns : List ℕ) (k c : ℕ) → length ns ≡ n → 1 ≤ c → c ≤ n → (c < n → k ≡ product (drop c ns)) → (c ≡ n → slice_index ns (n - 1) % k ≡ 0) → product ns % k ≡ 0
   -- what follows the closing line decides nothing about the header; the data area is what follows it
   pub header_ends : (s : List ℕ) {es : List Entry} {gs : List Given} {r : List Line} → header s ≡ accepted es gs r → closed es ≡ true → (d : List ℕ) → length (unlines (lines_of es) ++ d) ≤ max_file → header (unlines (lines_of es) ++ d) ≡ accepted es gs (lines d)
   pub data_area : (s : List ℕ) {es : List Entry} {gs : List Given} {r : List Line} → header s ≡ accepted es gs r → drop (header_length es) s ≡ unlines r
@@ -150,15 +150,15 @@ pub record Laws : Type 0 where
   pub key_found : (file k : List ℕ) → FindsKey file k (header file) (find_key_call file k)
   -- the strings of a descriptor are as many as are asked for, and each stands in it between two quotes
   pub strings_counted : (n : ℕ) (t : List ℕ) (qs : List Quoted) → strings_said n t ≡ some qs → length qs ≡ n
-  pub strings_there : (n : ℕ) (t : List ℕ) (qs : List Quoted) → strings_said n t ≡ some qs → (i : ℕ) → i < length qs → InQuotes t (get_or qs i no_string)
+  pub strings_there : (n : ℕ) (t : List ℕ) (qs : List Quoted) → strings_said n t ≡ some qs → (i : ℕ) → i < length qs → InQuotes t (slice_index_or qs i no_string)
   -- a descriptor with such a layout is read as exactly its strings, and one that is read has such a layout of exactly the strings read
   pub strings_laid : (ps : List Piece) (end : List ℕ) → Layout ps end → strings_said (length ps) (laid ps end) ≡ some (placed 0 ps)
   pub laid_strings : (n : ℕ) (t : List ℕ) (qs : List Quoted) → strings_said n t ≡ some qs → (ps : List Piece) × (end : List ℕ) × Layout ps end × (length ps ≡ n) × (t ≡ laid ps end) × (qs ≡ placed 0 ps)
   -- the bytes at the place that the record of an axis tells of its label, or of its unit, are that text; f is labels or units
-  pub string_text : (file : List ℕ) {es : List Entry} {gs : List Given} {r : List Line} → header file ≡ accepted es gs r → (f i : ℕ) → take (string_place_of f es gs i).1 (drop (string_place_of f es gs i).0 file) ≡ text_of (get_or (strings_of f gs) i no_string)
+  pub string_text : (file : List ℕ) {es : List Entry} {gs : List Given} {r : List Line} → header file ≡ accepted es gs r → (f i : ℕ) → take (string_place_of f es gs i).1 (drop (string_place_of f es gs i).0 file) ≡ text_of (slice_index_or (strings_of f gs) i no_string)
   -- where the field is given, the text of each axis stands there between two quotes, all of it in the header
-  pub string_quoted : (file : List ℕ) {es : List Entry} {gs : List Given} {r : List Line} → header file ≡ accepted es gs r → (f i : ℕ) → (eqb f labels || eqb f units) ≡ true → is_given f gs ≡ true → i < dimension_of gs
-      → InQuotes file (quoted (string_place_of f es gs i).0 (text_of (get_or (strings_of f gs) i no_string))) × ((string_place_of f es gs i).0 + (string_place_of f es gs i).1 + 1 ≤ header_length es)
+  pub string_quoted : (file : List ℕ) {es : List Entry} {gs : List Given} {r : List Line} → header file ≡ accepted es gs r → (f i : ℕ) → (f == labels || f == units) ≡ true → is_given f gs ≡ true → i < dimension_of gs
+      → InQuotes file (quoted (string_place_of f es gs i).0 (text_of (slice_index_or (strings_of f gs) i no_string))) × ((string_place_of f es gs i).0 + (string_place_of f es gs i).1 + 1 ≤ header_length es)
   -- bytes of a sample and its value are inverse, over the width, for either endian
   pub value_of_bytes : (k : NumberKind) (w endian : ℕ) (z : ℤ) → 1 ≤ w → in_type k w z ≡ true → sample_value k endian (value_bytes w endian z) ≡ z
   pub bytes_of_value : (k : NumberKind) (endian : ℕ) (s : List ℕ) → AllBytes s → value_bytes (length s) endian (sample_value k endian s) ≡ s

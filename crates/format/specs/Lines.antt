@@ -1,7 +1,7 @@
 -- Lines, their endings and their places (document 01, "Lines and headers", the first point; "line table").
 -- A file is a list of lines. `unlines` gives the bytes back, and `lines` is the only split by the rule: proofs/Lines.antt.
-use Rattle.std.specs.Prelude.{ℕ, ◌+◌, List, [], ◌∷◌, ◌++◌, eqb, length}
-use Rattle.format.specs.Bytes.{if◌then◌else◌, LF, CR}
+use Rattle.std.specs.Prelude.{ℕ, ◌+◌, List, [], ◌∷◌, ◌++◌, ◌==◌, length, if◌then◌else◌}
+use Rattle.format.specs.Bytes.{LF, CR}
 
 -- what ends a line: LF, CR LF, or, for the last line alone, the end of the bytes
 pub data Ending : Type 0 where
@@ -33,7 +33,7 @@ size l = length (line_bytes l)
 
 -- a byte other than LF before a line: a CR right before the LF joins the ending
 abbrev pub extend : ℕ → Line → Line
-extend b (line [] lf) = if eqb b CR then line [] crlf else line (b ∷ []) lf
+extend b (line [] lf) = if b == CR then line [] crlf else line (b ∷ []) lf
 extend b (line [] crlf) = line (b ∷ []) crlf
 extend b (line [] eof) = line (b ∷ []) eof
 extend b (line (c ∷ t) e) = line (b ∷ c ∷ t) e
@@ -44,7 +44,7 @@ extend_first b (l ∷ ls) = extend b l ∷ ls
 
 -- a byte before lines: LF is the end of a line before them
 abbrev pub with_byte : ℕ → List Line → List Line
-with_byte b ls = if eqb b LF then line [] lf ∷ ls else extend_first b ls
+with_byte b ls = if b == LF then line [] lf ∷ ls else extend_first b ls
 
 -- the lines of a file; no line starts at its end
 unfoldable pub lines : List ℕ → List Line

@@ -1,10 +1,10 @@
 -- What the listing program prints (document 01, "Trials", the listing program), and the call that lists a file.
-use Rattle.std.specs.Prelude.{ℕ, false, List, [], ◌∷◌, ◌++◌, eqb, ltb, length}
+use Rattle.std.specs.Prelude.{ℕ, false, List, [], ◌∷◌, ◌++◌, ◌==◌, nat_lt, length, if◌then◌else◌}
 use Prim.Native.String.{String}
 use Rattle.std.proofs.Math.Option.{Option, none, some}
 use Rattle.format.specs.declared.Refusal.{Refusal}
 use Rattle.format.specs.declared.WriteAnswer.{WriteAnswer}
-use Rattle.format.specs.Bytes.{if◌then◌else◌, bytes, LF, SPACE, EQUALS}
+use Rattle.format.specs.Bytes.{bytes, LF, SPACE, EQUALS}
 use Rattle.format.specs.Limits.{max_listed}
 use Rattle.format.specs.Refusals.{lent_too_short, refusal}
 use Rattle.format.specs.Pairs.{escape}
@@ -44,7 +44,7 @@ abbrev pub shown_form : List Given → List ℕ
 shown_form gs = if is_detached gs then bytes "detached" else bytes "attached"
 
 abbrev pub shown_endian : List Given → List ℕ
-shown_endian gs = if eqb (endian_of gs) no_endian then bytes "none" else name_at endians (endian_of gs)
+shown_endian gs = if endian_of gs == no_endian then bytes "none" else name_at endians (endian_of gs)
 
 unfoldable pub shown_reading : List Entry → List Given → ℕ → List ℕ
 shown_reading es gs start =
@@ -72,10 +72,10 @@ shown_header file (accepted es gs ls) =
 
 -- the whole output for a file on standard input
 unfoldable pub listing : List ℕ → List ℕ
-listing file = if ltb max_listed (length file) then shown_refusal (refusal lent_too_short) else shown_header file (header file)
+listing file = if nat_lt max_listed (length file) then shown_refusal (refusal lent_too_short) else shown_header file (header file)
 
 -- ---- listing_text::listing: the answer, and the lent buffer as it returns
 
 -- 22 where the buffer is too short
 abbrev pub listing_call : List ℕ → List ℕ → WriteAnswer × List ℕ
-listing_call file out = write_answer (if ltb (length out) (length (listing file)) then lent_too_short else 0) (listing file) out
+listing_call file out = write_answer (if nat_lt (length out) (length (listing file)) then lent_too_short else 0) (listing file) out

@@ -1,12 +1,12 @@
 -- The orientation that a header says, and the calls for it (document 02, W2): the whole answer of each, refused or not.
-use Rattle.std.specs.Prelude.{ℕ, ◌-◌, ◌/◌, Bool, true, false, ltb, length, get_or, replicate}
+use Rattle.std.specs.Prelude.{ℕ, ◌-◌, ◌/◌, Bool, true, false, nat_lt, length, slice_index_or, replicate, if◌then◌else◌}
 use mathlib.Core.List.{List, [], ◌∷◌, ◌++◌, flat_map}
 use Rattle.std.proofs.Math.Option.{Option, none, some}
 use Rattle.format.specs.declared.Decimal.{Decimal}
 use Rattle.format.specs.declared.Refusal.{Refusal}
 use Rattle.format.specs.declared.VectorAnswer.{VectorAnswer}
 use Rattle.format.specs.declared.CountAnswer.{CountAnswer}
-use Rattle.format.specs.Bytes.{if◌then◌else◌, or_default, over}
+use Rattle.format.specs.Bytes.{or_default, over}
 use Rattle.format.specs.Refusals.{lent_too_short, bad_coordinates, refusal, fine}
 use Rattle.format.specs.Fields.{Given, descriptor_of, is_given, space_origin, space_directions, measurement_frame}
 use Rattle.format.specs.Decimals.{marked, no_direction, nought}
@@ -60,7 +60,7 @@ direction_given (along ds) = vector_given ds
 abbrev pub direction_in : ℕ → Outcome → VectorAnswer
 direction_in axis (refused r) = no_vector r
 direction_in axis (accepted es gs ls) =
-    if ltb axis (dimension_of gs) then (if is_given space_directions gs then direction_given (get_or (directions_of gs) axis without) else no_vector fine)
+    if nat_lt axis (dimension_of gs) then (if is_given space_directions gs then direction_given (slice_index_or (directions_of gs) axis without) else no_vector fine)
     else no_vector (refusal bad_coordinates)
 
 abbrev pub direction_call : List ℕ → ℕ → VectorAnswer
@@ -79,7 +79,7 @@ frame_call file = frame_in (header file)
 
 abbrev pub listed : List Decimal → List ℕ → CountAnswer × List ℕ
 listed ds list =
-    if ltb (length list / decimal_width) (length ds) then (no_samples (refusal lent_too_short), list)
+    if nat_lt (length list / decimal_width) (length ds) then (no_samples (refusal lent_too_short), list)
     else (record { refusal = fine; count = length ds }, over (decimals_bytes ds) list)
 
 abbrev pub origin_listed : List ℕ → Outcome → CountAnswer × List ℕ

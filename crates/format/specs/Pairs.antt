@@ -1,11 +1,11 @@
 -- What a line is by its text, and the escapes of key pairs (document 01, "Lines and headers", points 3 and 6).
-use Rattle.std.specs.Prelude.{ℕ, Bool, true, false, not, ◌||◌, List, [], ◌∷◌, ◌++◌, eqb}
+use Rattle.std.specs.Prelude.{ℕ, Bool, true, false, not, ◌||◌, List, [], ◌∷◌, ◌++◌, ◌==◌, if◌then◌else◌}
 use Rattle.std.proofs.Math.Option.{Option, none, some}
-use Rattle.format.specs.Bytes.{if◌then◌else◌, bytes, between, TAB, LF, SPACE, HASH, COLON, EQUALS, BACKSLASH, onto}
+use Rattle.format.specs.Bytes.{bytes, between, TAB, LF, SPACE, HASH, COLON, EQUALS, BACKSLASH, onto}
 
 -- the bytes that a line other than an empty one or a comment may hold: tab, and 32 to 126 (refusal 5)
 abbrev pub plain : ℕ → Bool
-plain b = eqb b TAB || between 32 126 b
+plain b = b == TAB || between 32 126 b
 
 -- ---- the mark: the first place of `: ` or `:=` decides
 
@@ -18,7 +18,7 @@ pub data Marked : Type 0 where
 -- the mark that a colon makes with what follows it, if it makes one
 abbrev pub after_colon : List ℕ → Marked
 after_colon [] = unmarked
-after_colon (b ∷ s) = if eqb b SPACE then field_mark [] s else if eqb b EQUALS then pair_mark [] s else unmarked
+after_colon (b ∷ s) = if b == SPACE then field_mark [] s else if b == EQUALS then pair_mark [] s else unmarked
 
 -- a byte more before the mark
 abbrev pub more_before : ℕ → Marked → Marked
@@ -34,14 +34,14 @@ first_mark (pair_mark k v) m = pair_mark k v
 -- the first mark of a text
 unfoldable pub mark : List ℕ → Marked
 mark [] = unmarked
-mark (b ∷ s) = first_mark (if eqb b COLON then after_colon s else unmarked) (more_before b (mark s))
+mark (b ∷ s) = first_mark (if b == COLON then after_colon s else unmarked) (more_before b (mark s))
 
 abbrev pub has_mark : Marked → Bool
 has_mark unmarked = false
 has_mark (field_mark n d) = true
 has_mark (pair_mark k v) = true
 
--- ---- what a line is by its text alone: that counts where no names follow the fields before it (`Descriptors.namesFollow`)
+-- ---- what a line is by its text alone: that counts where no names follow the fields before it (`Descriptors.names_follow`)
 
 -- empty; a comment, whose first byte is `#`; or any other line, by its mark
 pub data LineKind : Type 0 where
@@ -50,7 +50,7 @@ pub data LineKind : Type 0 where
 
 abbrev pub kind_of : List ℕ → LineKind
 kind_of [] = empty_line
-kind_of (b ∷ s) = if eqb b HASH then comment_line else other_line (mark (b ∷ s))
+kind_of (b ∷ s) = if b == HASH then comment_line else other_line (mark (b ∷ s))
 
 -- neither empty nor a comment
 abbrev pub is_other : LineKind → Bool
@@ -86,18 +86,18 @@ field_texts (other_line (pair_mark k v)) = none
 unfoldable pub escape : List ℕ → List ℕ
 escape [] = []
 escape (b ∷ s) =
-    if eqb b LF then bytes "\\n" ++ escape s
-    else if eqb b BACKSLASH then bytes "\\\\" ++ escape s
+    if b == LF then bytes "\\n" ++ escape s
+    else if b == BACKSLASH then bytes "\\\\" ++ escape s
     else b ∷ escape s
 
 -- what the text means, or nothing where it has another backslash; the flag: a backslash stands right before the text
 unfoldable pub unescape_from : Bool → List ℕ → Option (List ℕ)
 unescape_from false [] = some []
 unescape_from true [] = none
-unescape_from false (b ∷ s) = if eqb b BACKSLASH then unescape_from true s else onto b (unescape_from false s)
+unescape_from false (b ∷ s) = if b == BACKSLASH then unescape_from true s else onto b (unescape_from false s)
 unescape_from true (b ∷ s) =
-    if eqb b 110 then onto LF (unescape_from false s)
-    else if eqb b BACKSLASH then onto BACKSLASH (unescape_from false s)
+    if b == 110 then onto LF (unescape_from false s)
+    else if b == BACKSLASH then onto BACKSLASH (unescape_from false s)
     else none
 
 abbrev pub unescape : List ℕ → Option (List ℕ)

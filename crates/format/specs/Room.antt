@@ -1,6 +1,6 @@
 -- How much room is always enough for what a call stores: the manual promises it (include/craneholt.h), and document 01 asks for refusal 22 only where
 -- what is lent is too short ("Numbers of refusal"). That it is enough is the theorem of `theorem_room`; each call's contract says its own part, but for those of the
--- orientation and that of `read_records::list::axes`. The room of a listing is `Limits.maxListing`.
+-- orientation and that of `read_records::list::axes`. The room of a listing is `Limits.max_listing`.
 use Rattle.std.specs.Prelude.{ℕ, ◌+◌, ◌*◌, ◌≤◌, ◌≡◌, List, length, take}
 use Rattle.format.specs.declared.Refusal.{Refusal}
 use Rattle.format.specs.declared.Reading.{Reading}

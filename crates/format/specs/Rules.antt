@@ -2,7 +2,7 @@
 -- It is said of all lines at once, each with the lines before it, and not by a walk over them.
 -- Headers are accepted exactly when they keep the rules: the laws `accepted_keeps` and `keeps_accepted` (specs/Laws.antt).
 -- At each rule stand its heading, where that is not "Lines and headers", and the number of the refusal where it is broken.
-use Rattle.std.specs.Prelude.{ℕ, ◌-◌, ◌%◌, ◌≤◌, ◌<◌, ◌≡◌, Bool, true, false, ◌||◌, List, [], ◌∷◌, ◌++◌, eqb, length, drop, get_or}
+use Rattle.std.specs.Prelude.{ℕ, ◌-◌, ◌%◌, ◌≤◌, ◌<◌, ◌≡◌, Bool, true, false, ◌||◌, List, [], ◌∷◌, ◌++◌, ◌==◌, length, drop, slice_index}
 use Rattle.std.proofs.Math.Option.{Option, some}
 use Rattle.format.specs.Bytes.{bytes, every, is_empty, or_default, HASH}
 use Rattle.format.specs.Limits.{max_file, max_header, max_lines, max_extent}
@@ -17,7 +17,7 @@ use Rattle.format.specs.Header.{Item, magic, comment, field, pair, file_name, cl
 -- the first byte is `#`
 abbrev pub is_comment : List ℕ → Bool
 is_comment [] = false
-is_comment (b ∷ t) = eqb b HASH
+is_comment (b ∷ t) = b == HASH
 
 -- a line that is neither empty nor a comment: each of its bytes is a tab or from 32 to 126 ("Numbers of refusal"; 5).
 -- It stands after no LIST: there it would be a name (document 02, W5).
@@ -42,14 +42,14 @@ pub record FieldLine (version : ℕ) (gs : List Given) (t : List ℕ) (f : ℕ) 
   pub marked : FirstMark t name (bytes ": ") rest
   pub named : field_named name ≡ some f
   -- this version has the field ("Versions"), and a data file by a pattern or LIST (document 02, W5; 8)
-  pub in_version_lem : since f d ≤ version
+  pub in_version : since f d ≤ version
   -- no line before gives it, in either spelling ("Numbers of refusal"; 9)
   pub new : is_given f gs ≡ false
   -- of space and space dimension no line before gives the other (document 02, W2; 9)
   pub other_new : is_given (other_field f) gs ≡ false
   -- a per-axis field comes after dimension, and a field that lies in a space after space or space dimension ("Order"; 10)
-  pub after_dimension_lem : needs_dimension f ≡ true → is_given dimension gs ≡ true
-  pub after_space_lem : needs_space f ≡ true → (is_given space gs || is_given space_dimension gs) ≡ true
+  pub after_dimension : needs_dimension f ≡ true → is_given dimension gs ≡ true
+  pub after_space : needs_space f ≡ true → (is_given space gs || is_given space_dimension gs) ≡ true
   -- its descriptor is the text after the mark, trimmed, and it is one that the field may have ("Understood fields", "Carried fields"; 11)
   pub descriptor_is : d ≡ descriptor f rest
   pub described : may_describe (dimension_of gs) (space_size_of gs) f d ≡ true
@@ -119,7 +119,7 @@ pub record Covers (n : ℕ) (ns : List ℕ) (k c : ℕ) : Type 0 where
   -- fewer than all axes: a file for each place on the others
   pub slices : c < n → k ≡ product (drop c ns)
   -- all axes: slabs along the slowest one
-  pub slabs : c ≡ n → get_or ns (n - 1) 0 % k ≡ 0
+  pub slabs : c ≡ n → slice_index ns (n - 1) % k ≡ 0
   -- the samples are parted equally
   pub shares : product ns % k ≡ 0
 
@@ -146,11 +146,11 @@ pub record KeepsRules (file : List ℕ) (es : List Entry) (gs : List Given) (r :
   pub needed : Needed gs
   pub list_filled : names_follow gs ≡ true → 1 ≤ length (file_names gs)
   -- a byte skip of -1 stands with raw alone (document 02, W1; 11)
-  pub end_is_raw_lem : byte_skip_of gs ≡ from_end → encoding_of gs ≡ raw
+  pub end_is_raw : byte_skip_of gs ≡ from_end → encoding_of gs ≡ raw
   -- the limits of the file, the header's bytes and lines, and the extent ("Numbers of refusal"; 1, 3, 4, 15)
-  pub file_bytes_lem : length file ≤ max_file
-  pub header_bytes_lem : header_length es ≤ max_header
-  pub header_lines_lem : length es ≤ max_lines
+  pub file_bytes : length file ≤ max_file
+  pub header_bytes : header_length es ≤ max_header
+  pub header_lines : length es ≤ max_lines
   pub extent_bytes : extent_of gs ≤ max_extent
   -- where a pattern or LIST names the files: their number, and that of the axes that one covers, one less than the dimension where it is left open (document 02, W5; 11)
   pub files_cover : (axes : Option ℕ) → cover_of gs ≡ some axes → Covers (dimension_of gs) (sizes_of gs) (file_count_of gs) (or_default (dimension_of gs - 1) axes)

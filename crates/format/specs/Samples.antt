@@ -1,8 +1,8 @@
 -- Integer samples in raw, hex and text (document 01, "Data and samples", the second paragraph).
 -- Of 20 and 21 the one that comes first in the data is told: samples are judged one after the other, each when it is whole.
-use Rattle.std.specs.Prelude.{ℕ, zero, suc, ◌+◌, ◌*◌, ◌-◌, ◌^◌, ◌/◌, ◌%◌, min, Bool, ◌||◌, List, [], ◌∷◌, reverse, eqb, leb, ltb, ℤ, pos, negsuc, neg_ℤ, length, take, drop}
+use Rattle.std.specs.Prelude.{ℕ, zero, suc, ◌+◌, ◌*◌, ◌-◌, ◌^◌, ◌/◌, ◌%◌, min, Bool, ◌||◌, List, [], ◌∷◌, reverse, ◌==◌, nat_le, nat_lt, ℤ, pos, negsuc, neg_ℤ, length, take, drop, if◌then◌else◌}
 use Rattle.std.proofs.Math.Option.{Option, none, some}
-use Rattle.format.specs.Bytes.{if◌then◌else◌, between, is_digit, SPACE, PLUS, MINUS}
+use Rattle.format.specs.Bytes.{between, is_digit, SPACE, PLUS, MINUS}
 use Rattle.format.specs.Limits.{max_sample}
 use Rattle.format.specs.Refusals.{bad_sample, data_ends_early}
 use Rattle.format.specs.Words.{number}
@@ -24,8 +24,8 @@ highest floating w = 0
 
 -- the type has the value (refusal 20)
 unfoldable pub in_type : NumberKind → ℕ → ℤ → Bool
-in_type k w (pos n) = leb n (highest k w)
-in_type k w (negsuc n) = ltb n (lowest k w)
+in_type k w (pos n) = nat_le n (highest k w)
+in_type k w (negsuc n) = nat_lt n (lowest k w)
 
 -- ---- what samples come to: the number of the refusal, or 0 for none, and the samples before it
 
@@ -57,11 +57,11 @@ to_bytes (suc w) n = n % 256 ∷ to_bytes w (n / 256)
 
 -- bytes least first to bytes in the order of the endian, and back: big turns them round
 abbrev pub ordered : ℕ → List ℕ → List ℕ
-ordered endian s = if eqb endian big then reverse s else s
+ordered endian s = if endian == big then reverse s else s
 
 -- two's complement: from half the range up a signed value is negative
 abbrev pub to_signed : ℕ → ℕ → ℤ
-to_signed w n = if ltb n (256 ^ w / 2) then pos n else negsuc (256 ^ w - 1 - n)
+to_signed w n = if nat_lt n (256 ^ w / 2) then pos n else negsuc (256 ^ w - 1 - n)
 
 abbrev pub from_signed : ℕ → ℤ → ℕ
 from_signed w (pos n) = n
@@ -88,7 +88,7 @@ raw_samples k w endian (suc n) s = then_samples k w (sample_value k endian (take
 -- ---- blanks: bytes 9 to 13 and 32
 
 abbrev pub blank : ℕ → Bool
-blank b = between 9 13 b || eqb b SPACE
+blank b = between 9 13 b || b == SPACE
 
 -- ---- hex: two digits a byte, either case; blanks are ignored anywhere
 
@@ -164,8 +164,8 @@ signed_by f (some n) = some (f n)
 unfoldable pub token_value : List ℕ → Option ℤ
 token_value [] = none
 token_value (b ∷ s) =
-    if eqb b PLUS then signed_by pos (number s)
-    else if eqb b MINUS then signed_by (λ n. neg_ℤ (pos n)) (number s)
+    if b == PLUS then signed_by pos (number s)
+    else if b == MINUS then signed_by (λ n. neg_ℤ (pos n)) (number s)
     else signed_by pos (number (b ∷ s))
 
 abbrev pub text_sample : NumberKind → ℕ → Option ℤ → Decoded → Decoded
@@ -185,6 +185,6 @@ text_samples k w n s = tokens k w n (skip_blanks s)
 
 unfoldable pub samples_of : ℕ → NumberKind → ℕ → ℕ → ℕ → List ℕ → Decoded
 samples_of encoding k w endian n s =
-    if eqb encoding raw then raw_samples k w endian n s
-    else if eqb encoding as_text then text_samples k w n s
+    if encoding == raw then raw_samples k w endian n s
+    else if encoding == as_text then text_samples k w n s
     else hex_samples k w endian n (without_blanks s)

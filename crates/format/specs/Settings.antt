@@ -1,8 +1,8 @@
 -- Setting a key (document 01, "Setting a key"); lists of settings are in Calls.antt.
 -- A setting's refusals in order: 22 (the used length), the reading's, 8, 24, 25, 26, and of the new file 3, 4, 1, 22.
-use Rattle.std.specs.Prelude.{ℕ, ◌-◌, max, Bool, not, ◌&&◌, ◌||◌, List, [], ◌∷◌, ◌++◌, eqb, ltb, leb, length, take, drop, replicate}
+use Rattle.std.specs.Prelude.{ℕ, ◌-◌, max, Bool, not, ◌&&◌, ◌||◌, List, [], ◌∷◌, ◌++◌, ◌==◌, nat_lt, nat_le, length, take, drop, replicate, if◌then◌else◌}
 use Rattle.format.specs.declared.Refusal.{Refusal}
-use Rattle.format.specs.Bytes.{if◌then◌else◌, bytes, between, every, same, is_some, over, TAB, LF}
+use Rattle.format.specs.Bytes.{bytes, between, every, same, is_some, over, TAB, LF}
 use Rattle.format.specs.Limits.{max_file, max_header, max_lines}
 use Rattle.format.specs.Refusals.{file_too_long, header_too_long, too_many_lines, not_in_version, lent_too_short, bad_key, bad_value, wrong_table, refusal}
 use Rattle.format.specs.Lines.{Line, line, ending, unlines, starts}
@@ -14,7 +14,7 @@ use Rattle.format.specs.Header.{Entry, entry, lines_of, Outcome, refused, accept
 
 -- bytes 9, 10 and 32 to 126
 abbrev pub settable : ℕ → Bool
-settable b = eqb b TAB || (eqb b LF || between 32 126 b)
+settable b = b == TAB || (b == LF || between 32 126 b)
 
 -- a key that a line can hold: its bytes are settable, and its escaped text is not empty, does not begin with `#`, and has no mark
 unfoldable pub key_fine : List ℕ → Bool
@@ -62,7 +62,7 @@ refilled buf used file = file ++ (replicate (used - length file) 0 ++ drop (max 
 
 -- the lent table and count are those of the file (26): as many entries as lines, all of them lent, each where it should be
 unfoldable pub table_fine : List ℕ → ℕ → List ℕ → Bool
-table_fine table count expected = eqb count (length expected) && (leb count (length table) && same (take count table) expected)
+table_fine table count expected = count == length expected && (nat_le count (length table) && same (take count table) expected)
 
 -- ---- one setting
 
@@ -77,17 +77,17 @@ pub data SetOutcome : Type 0 where
 -- the new header's lines ls, before the rest of the file
 unfoldable pub store : List ℕ → ℕ → List ℕ → List Line → List ℕ → SetOutcome
 store buf used table ls rest =
-    if ltb max_header (length (unlines ls)) then kept (refusal header_too_long)
-    else if ltb max_lines (length ls) then kept (refusal too_many_lines)
-    else if ltb max_file (length (unlines ls ++ rest)) then kept (refusal file_too_long)
-    else if ltb (length buf) (length (unlines ls ++ rest)) || ltb (length table) (length ls) then kept (refusal lent_too_short)
+    if nat_lt max_header (length (unlines ls)) then kept (refusal header_too_long)
+    else if nat_lt max_lines (length ls) then kept (refusal too_many_lines)
+    else if nat_lt max_file (length (unlines ls ++ rest)) then kept (refusal file_too_long)
+    else if nat_lt (length buf) (length (unlines ls ++ rest)) || nat_lt (length table) (length ls) then kept (refusal lent_too_short)
     else changed (lent (refilled buf used (unlines ls ++ rest)) (length (unlines ls ++ rest)) (over (starts 0 ls) table) (length ls))
 
 -- a setting by the reading of the file in the buffer
 unfoldable pub set_read : List ℕ → ℕ → List ℕ → ℕ → List ℕ → List ℕ → Outcome → SetOutcome
 set_read buf used table count k v (refused r) = kept r
 set_read buf used table count k v (accepted es gs ls) =
-    if ltb (version_of es) pairs_since then kept (refusal not_in_version)
+    if nat_lt (version_of es) pairs_since then kept (refusal not_in_version)
     else if not (key_fine k) then kept (refusal bad_key)
     else if not (value_fine v) then kept (refusal bad_value)
     else if not (table_fine table count (table_of es)) then kept (refusal wrong_table)
@@ -96,5 +96,5 @@ set_read buf used table count k v (accepted es gs ls) =
 -- a setting of what is lent
 unfoldable pub set_key : Lent → Setting → SetOutcome
 set_key (lent buf used table count) (setting k v) =
-    if ltb (length buf) used then kept (refusal lent_too_short)
+    if nat_lt (length buf) used then kept (refusal lent_too_short)
     else set_read buf used table count k v (header (take used buf))

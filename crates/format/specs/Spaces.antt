@@ -1,6 +1,6 @@
 -- The spaces that a header may name, and their dimensions (source 000, section 4; document 02, W2).
 -- A space is a number from 0: its row in the table. Names and abbreviations ignore case (document 01, "Understood fields").
-use Rattle.std.specs.Prelude.{ℕ, List, [], ◌∷◌, map, length, get_or}
+use Rattle.std.specs.Prelude.{ℕ, List, [], ◌∷◌, map, length, slice_index_or}
 use Prim.Native.String.{String}
 use Rattle.std.proofs.Math.Option.{Option}
 use Rattle.format.specs.Bytes.{row_of}
@@ -38,7 +38,7 @@ space_axes (space_row ns n) = n
 
 -- the space of a number, and a stand-in past the list
 unfoldable pub space_at : ℕ → Space
-space_at i = get_or spaces i (space_row [] 0)
+space_at i = slice_index_or spaces i (space_row [] 0)
 
 -- its dimension
 abbrev pub space_size : ℕ → ℕ

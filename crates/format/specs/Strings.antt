@@ -1,9 +1,9 @@
 -- Strings in double quotes, as labels and units have them (source 000, section 6; document 02, W6): one for each axis, parted by spaces and tabs.
 -- A quote right after a backslash is inside of its string, also where that backslash follows another. The text is what stands between the quotes, backslashes kept.
 -- No other blank than these is in such a line: one with another is refused before (5).
-use Rattle.std.specs.Prelude.{ℕ, ◌+◌, Bool, false, not, ◌&&◌, List, [], ◌∷◌, eqb, length}
+use Rattle.std.specs.Prelude.{ℕ, ◌+◌, Bool, false, not, ◌&&◌, List, [], ◌∷◌, ◌==◌, length, if◌then◌else◌}
 use Rattle.std.proofs.Math.Option.{Option, none, some}
-use Rattle.format.specs.Bytes.{if◌then◌else◌, space_or_tab, QUOTE, BACKSLASH}
+use Rattle.format.specs.Bytes.{space_or_tab, QUOTE, BACKSLASH}
 
 -- a string: how many bytes of the descriptor stand before its text, and its text
 pub data Quoted : Type 0 where
@@ -45,18 +45,18 @@ unfoldable pub strings_from : Stands → ℕ → List ℕ → Option (List Quote
 strings_from apart at [] = some []
 strings_from apart at (c ∷ s) =
     if space_or_tab c then strings_from apart (at + 1) s
-    else if eqb c QUOTE then strings_from (inside false) (at + 1) s
+    else if c == QUOTE then strings_from (inside false) (at + 1) s
     else none
 strings_from closed at [] = some []
 strings_from closed at (c ∷ s) = if space_or_tab c then strings_from apart (at + 1) s else none
 strings_from (inside b) at [] = none
 strings_from (inside b) at (c ∷ s) =
-    if eqb c QUOTE && not b then closes at (strings_from closed (at + 1) s)
-    else joins at c (strings_from (inside (eqb c BACKSLASH)) (at + 1) s)
+    if c == QUOTE && not b then closes at (strings_from closed (at + 1) s)
+    else joins at c (strings_from (inside (c == BACKSLASH)) (at + 1) s)
 
 abbrev pub as_many : ℕ → Option (List Quoted) → Option (List Quoted)
 as_many n none = none
-as_many n (some qs) = if eqb (length qs) n then some qs else none
+as_many n (some qs) = if length qs == n then some qs else none
 
 -- the strings of a descriptor, where they are n
 unfoldable pub strings_said : ℕ → List ℕ → Option (List Quoted)

@@ -1,9 +1,9 @@
 -- Vectors (source 000, section 4; document 02, W2): round brackets with commas, and `none` for an axis without a direction.
 -- Blanks part them outside of brackets; between brackets they may stand beside a component. They are spaces and tabs: a line with another blank is refused before (5).
-use Rattle.std.specs.Prelude.{ℕ, Bool, true, false, not, ◌&&◌, List, [], ◌∷◌, eqb, length}
+use Rattle.std.specs.Prelude.{ℕ, Bool, true, false, not, ◌&&◌, List, [], ◌∷◌, ◌==◌, length, if◌then◌else◌}
 use Rattle.std.proofs.Math.Option.{Option, none, some}
 use Rattle.format.specs.declared.Decimal.{Decimal}
-use Rattle.format.specs.Bytes.{if◌then◌else◌, bytes, space_or_tab, alike, onto, OPEN, CLOSE, COMMA}
+use Rattle.format.specs.Bytes.{bytes, space_or_tab, alike, onto, OPEN, CLOSE, COMMA}
 use Rattle.format.specs.Words.{trim_front, trim_end, join_first, not_empty}
 use Rattle.format.specs.Decimals.{component}
 
@@ -16,7 +16,7 @@ part_or_join false b ws = join_first b ws
 
 -- whether what follows the byte b is inside of brackets
 abbrev pub inside_after : Bool → ℕ → Bool
-inside_after inside b = if eqb b OPEN then true else if eqb b CLOSE then false else inside
+inside_after inside b = if b == OPEN then true else if b == CLOSE then false else inside
 
 -- the parts, empty ones included
 unfoldable pub parts_outside : Bool → List ℕ → List (List ℕ)
@@ -31,18 +31,18 @@ vector_words t = not_empty (parts_outside false t)
 -- without the closing bracket at its end
 unfoldable pub closed : List ℕ → Option (List ℕ)
 closed [] = none
-closed (b ∷ []) = if eqb b CLOSE then some [] else none
+closed (b ∷ []) = if b == CLOSE then some [] else none
 closed (b ∷ c ∷ s) = onto b (closed (c ∷ s))
 
 -- what stands between an opening bracket at the front and a closing one at the end
 abbrev pub enclosed : List ℕ → Option (List ℕ)
 enclosed [] = none
-enclosed (b ∷ s) = if eqb b OPEN then closed s else none
+enclosed (b ∷ s) = if b == OPEN then closed s else none
 
 -- what commas part, empty parts included
 unfoldable pub comma_parts : List ℕ → List (List ℕ)
 comma_parts [] = [] ∷ []
-comma_parts (b ∷ s) = part_or_join (eqb b COMMA) b (comma_parts s)
+comma_parts (b ∷ s) = part_or_join (b == COMMA) b (comma_parts s)
 
 module _ {A : Type 0} where
   abbrev pub cons_said : Option A → Option (List A) → Option (List A)
@@ -57,7 +57,7 @@ module _ {A : Type 0} where
 
   -- the same where there are n texts, and none where there are not
   unfoldable pub said_by : ℕ → (List ℕ → Option A) → List (List ℕ) → Option (List A)
-  said_by n f ws = if eqb (length ws) n then all_said f ws else none
+  said_by n f ws = if length ws == n then all_said f ws else none
 
 -- a component with the blanks beside it
 abbrev pub component_in : List ℕ → Option Decimal

@@ -1,7 +1,7 @@
 -- The bytes of a written file, and the writer's refusals in order (document 01, "Writer"; order 11, 15, 19, 27, 20, 1, 22).
-use Rattle.std.specs.Prelude.{ℕ, zero, suc, ◌+◌, ◌-◌, ◌/◌, ◌%◌, Bool, true, false, not, ◌&&◌, List, [], ◌∷◌, ◌++◌, eqb, ltb, ℤ, pos, negsuc, length, get_or}
+use Rattle.std.specs.Prelude.{ℕ, zero, suc, ◌+◌, ◌-◌, ◌/◌, ◌%◌, Bool, true, false, not, ◌&&◌, List, [], ◌∷◌, ◌++◌, ◌==◌, nat_lt, ℤ, pos, negsuc, length, slice_index_or, if◌then◌else◌}
 use Prim.Native.String.{String}
-use Rattle.format.specs.Bytes.{if◌then◌else◌, bytes, between, is_in, LF, SPACE, MINUS}
+use Rattle.format.specs.Bytes.{bytes, between, is_in, LF, SPACE, MINUS}
 use Rattle.format.specs.Limits.{max_file, max_axes, max_extent, max_version}
 use Rattle.format.specs.Refusals.{file_too_long, bad_descriptor, extent_too_large, float_samples, bad_sample, lent_too_short, wrong_count}
 use Rattle.format.specs.Lines.{Line, line, lf, unlines}
@@ -21,7 +21,7 @@ by_digits false n front = front (n / 10) ++ (digit (n % 10) ∷ [])
 -- the digits of n; the first argument only bounds the recursion, and n itself is enough
 unfoldable pub decimal_from : ℕ → ℕ → List ℕ
 decimal_from zero n = digit n ∷ []
-decimal_from (suc m) n = by_digits (ltb n 10) n (λ k. decimal_from m k)
+decimal_from (suc m) n = by_digits (nat_lt n 10) n (λ k. decimal_from m k)
 
 abbrev pub decimal : ℕ → List ℕ
 decimal n = decimal_from n n
@@ -32,7 +32,7 @@ signed_decimal (negsuc n) = MINUS ∷ decimal (suc n)
 
 -- two hex digits, lower case
 abbrev pub hex_letter : ℕ → ℕ
-hex_letter n = if ltb n 10 then 48 + n else 97 + (n - 10)
+hex_letter n = if nat_lt n 10 then 48 + n else 97 + (n - 10)
 
 abbrev pub hex_of_byte : ℕ → List ℕ
 hex_of_byte b = hex_letter (b / 16) ∷ hex_letter (b % 16) ∷ []
@@ -56,8 +56,8 @@ text_data (z ∷ zs) = signed_decimal z ++ LF ∷ text_data zs
 -- hex is closed by LF
 unfoldable pub data_bytes : ℕ → ℕ → ℕ → List ℤ → List ℕ
 data_bytes encoding w endian zs =
-    if eqb encoding raw then raw_data w endian zs
-    else if eqb encoding as_text then text_data zs
+    if encoding == raw then raw_data w endian zs
+    else if encoding == as_text then text_data zs
     else hex_text (raw_data w endian zs) ++ LF ∷ []
 
 -- ---- the header
@@ -74,7 +74,7 @@ first_name [] = []
 first_name (n ∷ ns) = bytes n
 
 abbrev pub name_at : List (List String) → ℕ → List ℕ
-name_at names i = first_name (get_or names i [])
+name_at names i = first_name (slice_index_or names i [])
 
 abbrev pub field_line : String → List ℕ → Line
 field_line name t = line (bytes name ++ (bytes ": " ++ t)) lf
@@ -113,9 +113,9 @@ all_in_type k w (z ∷ zs) = in_type k w z && all_in_type k w zs
 unfoldable pub writable : ℕ → List ℕ → ℕ → ℕ → ℕ → Bool
 writable version sizes t e endian =
     between 1 max_version version
-    && (ltb t (length types)
-    && (ltb e (length encodings)
-    && (ltb endian (length endians)
+    && (nat_lt t (length types)
+    && (nat_lt e (length encodings)
+    && (nat_lt endian (length endians)
     && (between 1 max_axes (length sizes)
     && not (is_in 0 sizes)))))
 
@@ -123,10 +123,10 @@ writable version sizes t e endian =
 unfoldable pub write_refusal : ℕ → List ℕ → ℕ → ℕ → ℕ → List ℤ → ℕ → ℕ
 write_refusal version sizes t e endian zs room =
     if not (writable version sizes t e endian) then bad_descriptor
-    else if ltb max_extent (extent sizes t) then extent_too_large
+    else if nat_lt max_extent (extent sizes t) then extent_too_large
     else if is_floating (number_kind t) then float_samples
-    else if not (eqb (length zs) (product sizes)) then wrong_count
+    else if not (length zs == product sizes) then wrong_count
     else if not (all_in_type (number_kind t) (sample_bytes t) zs) then bad_sample
-    else if ltb max_file (length (file_bytes version sizes t e endian zs)) then file_too_long
-    else if ltb room (length (file_bytes version sizes t e endian zs)) then lent_too_short
+    else if nat_lt max_file (length (file_bytes version sizes t e endian zs)) then file_too_long
+    else if nat_lt room (length (file_bytes version sizes t e endian zs)) then lent_too_short
     else 0

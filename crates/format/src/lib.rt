@@ -1,5 +1,7 @@
 // The NRRD format: its limits and numbers by name, and the values that answers are made of.
 // What is right is said in specs/; the laws that make it believable are in proofs/.
+#![tactic(auto)]
+
 ghost use Rattle.std.specs.Prelude.{◌≡◌};
 ghost use Rattle.format.specs.FurtherTrials.{FurtherTrials};
 ghost use Rattle.format.specs.HexDigits.{HexDigits};
@@ -148,7 +150,7 @@ pub const HEADER_ROOM: usize = 512;
 pub const SAMPLE_ROOM: usize = 22;
 
 // The limits together.
-#[derive(Drop)]
+#[derive(Clone, Copy)]
 pub struct Limits {
     pub file: usize,
     pub header: usize,
@@ -167,7 +169,7 @@ pub struct Limits {
 }
 
 // The numbers of refusal together, each by its name.
-#[derive(Drop)]
+#[derive(Clone, Copy)]
 pub struct RefusalNumbers {
     pub filetoolong: u32,
     pub nomagic: u32,
@@ -203,7 +205,7 @@ pub struct RefusalNumbers {
 
 // A refusal: its number, and the line at which the reader met it (numbers 2 to 12); 0 where no line is meant, as for the 11 of a byte skip of -1 with text or hex, and of data files that do not fit the sizes. Number 0: nothing is refused.
 #[repr(C)]
-#[derive(Drop)]
+#[derive(Clone, Copy)]
 pub struct Refusal {
     pub number: u32,
     pub line: u32,
@@ -211,7 +213,7 @@ pub struct Refusal {
 
 // A decimal, kept exactly: number times ten to the power. All three as callers in C have them: 16 bytes.
 #[repr(C)]
-#[derive(Drop)]
+#[derive(Clone, Copy)]
 pub struct Decimal {
     pub number: i64,
     pub power: i32,
@@ -220,7 +222,7 @@ pub struct Decimal {
 }
 
 // What is given of an orientation to the header writer, in numbers: 16 directions of 8 components each, and a matrix, come beside it.
-#[derive(Drop)]
+#[derive(Clone, Copy)]
 pub struct Shape {
     // a sum of 1 for a space, 2 for a space's dimension, 4 for an origin, 8 for directions, 16 for a frame
     pub given: u32,
@@ -236,7 +238,7 @@ pub struct Shape {
 
 // The answer of the calls for an origin and for a direction: whether it is given, how many components it has, and these, zeros after them. The direction of an axis that has none
 // is given, has no components, and a first one of the kind none. All zero where the call is refused.
-#[derive(Drop)]
+#[derive(Clone, Copy)]
 pub struct VectorAnswer {
     pub refusal: Refusal,
     pub given: bool,
@@ -246,7 +248,7 @@ pub struct VectorAnswer {
 
 // What a header says of an axis. All as callers in C have them: 32 bytes.
 #[repr(C)]
-#[derive(Drop)]
+#[derive(Clone, Copy)]
 pub struct Axis {
     pub size: u64,
     // 0 unknown, 1 cell, 2 node
@@ -262,7 +264,7 @@ pub struct Axis {
 }
 
 // The answer of the call for axis records, and the records by value: one for each axis, zeros past them and where the call is refused.
-#[derive(Drop)]
+#[derive(Clone, Copy)]
 pub struct Axes {
     pub answer: CountAnswer,
     pub records: [Axis; AXES],
@@ -270,7 +272,7 @@ pub struct Axes {
 
 // What a reading says in numbers. All zero where the call is refused.
 #[repr(C)]
-#[derive(Drop)]
+#[derive(Clone, Copy)]
 pub struct Reading {
     // 1 to `MAX_VERSION`
     pub version: u32,
@@ -311,7 +313,7 @@ pub struct Reading {
 
 // The answer of the reading calls.
 #[repr(C)]
-#[derive(Drop)]
+#[derive(Clone, Copy)]
 pub struct ReadAnswer {
     pub refusal: Refusal,
     pub reading: Reading,
@@ -319,7 +321,7 @@ pub struct ReadAnswer {
 
 // The answer of the look-ups: where the bytes lie in the file. All zero where they are absent.
 #[repr(C)]
-#[derive(Drop)]
+#[derive(Clone, Copy)]
 pub struct FindAnswer {
     pub refusal: Refusal,
     pub found: bool,
@@ -329,7 +331,7 @@ pub struct FindAnswer {
 
 // The answer of the copy of a key's value: its length with escapes resolved.
 #[repr(C)]
-#[derive(Drop)]
+#[derive(Clone, Copy)]
 pub struct ValueAnswer {
     pub refusal: Refusal,
     pub found: bool,
@@ -338,7 +340,7 @@ pub struct ValueAnswer {
 
 // The answer of the data call: which file holds the data, where it starts there, and its length.
 #[repr(C)]
-#[derive(Drop)]
+#[derive(Clone, Copy)]
 pub struct DataAnswer {
     pub refusal: Refusal,
     pub second: bool,
@@ -348,7 +350,7 @@ pub struct DataAnswer {
 
 // The answer of the sample calls, of the call for the number of files and of that for axis records: how many there are.
 #[repr(C)]
-#[derive(Drop)]
+#[derive(Clone, Copy)]
 pub struct CountAnswer {
     pub refusal: Refusal,
     pub count: u64,
@@ -356,7 +358,7 @@ pub struct CountAnswer {
 
 // The answer of the coordinates call: the number of the sample.
 #[repr(C)]
-#[derive(Drop)]
+#[derive(Clone, Copy)]
 pub struct NumberAnswer {
     pub refusal: Refusal,
     pub number: u64,
@@ -364,7 +366,7 @@ pub struct NumberAnswer {
 
 // The answer of the writers and of the call for a file's name: how many bytes they wrote.
 #[repr(C)]
-#[derive(Drop)]
+#[derive(Clone, Copy)]
 pub struct WriteAnswer {
     pub refusal: Refusal,
     pub length: u64,
@@ -372,7 +374,7 @@ pub struct WriteAnswer {
 
 // The answer of the call for a sample's place: the number of its file, and the raw byte of that file's share where it starts.
 #[repr(C)]
-#[derive(Drop)]
+#[derive(Clone, Copy)]
 pub struct ShareAnswer {
     pub refusal: Refusal,
     pub file: u64,
@@ -381,7 +383,7 @@ pub struct ShareAnswer {
 
 // The answer of a setting: the new length and the new number of lines, or those lent where it is refused.
 #[repr(C)]
-#[derive(Drop)]
+#[derive(Clone, Copy)]
 pub struct SetAnswer {
     pub refusal: Refusal,
     pub length: u64,
