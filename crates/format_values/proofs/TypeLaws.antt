@@ -1,5 +1,6 @@
 -- Laws of the types by their numbers, and of the widths and bounds of samples.
 -- Assumes nothing.
+use Rattle.std.specs.Prelude.{if◌then◌else◌}
 use Prim.Native.Nat.{ℕ, zero, suc, ◌-◌, ◌*◌, ◌^◌, ◌/◌, ◌%◌, ◌≤◌, ◌<◌}
 use native.Mathlib.Omega.{arith}
 use mathlib.Core.Path.{◌≡◌, refl, sym, ap, ◌∙◌}
@@ -9,7 +10,6 @@ use mathlib.Core.List.{[]}
 use lib.Dec.{eqb, ltb, leb, lit≤, lit<}
 use lib.ListN.{get_or-eq_default}
 use borrow.Author.Tests.{ltb-true, ltb-false, le-leb, le-ltb}
-use Rattle.format.specs.Bytes.{if◌then◌else◌}
 use Rattle.format.specs.Descriptors.{SampleType, sample_type, types, NumberKind, signed, unsigned, floating, type_at, sample_bytes, bytes_of_type, number_kind, is_floating, is_signed}
 use Rattle.format.specs.Samples.{lowest, highest}
 use Rattle.format.specs.Widths.{Width, width_by, kind_by}

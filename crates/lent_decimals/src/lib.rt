@@ -1,4 +1,6 @@
 // Decimals in lent bytes, 16 bytes each: number, power and kind, the low byte first.
+#![tactic(auto)]
+
 ghost use Rattle.std.specs.Prelude.{◌≡◌, ◌+◌, ◌*◌, ◌≤◌, ◌<◌, length, take, drop};
 ghost use Rattle.std.proofs.lemmas.List.Edits.{sets};
 ghost use Rattle.format.specs.Samples.{to_signed, from_signed};

@@ -1,5 +1,6 @@
 -- Laws of the widths.
 -- Assumes nothing.
+use Rattle.std.specs.Prelude.{if◌then◌else◌}
 use Prim.Native.Nat.{ℕ, ◌*◌, ◌≤◌, ◌<◌}
 use native.Mathlib.Omega.{arith}
 use mathlib.Core.Path.{◌≡◌, refl, sym, ◌∙◌}
@@ -7,7 +8,6 @@ use mathlib.Core.Bool.{Bool, true, false, ◌&&◌, ◌||◌, false≢true}
 use mathlib.Core.Logic.{inl, inr, ⊎_elim}
 use lib.Dec.{eqb, leb}
 use borrow.Author.Tests.{eqb-true, ne_eqb, le-leb, leb-true}
-use Rattle.format.specs.Bytes.{if◌then◌else◌}
 use Rattle.format.proofs.Bytes.{and_left, and_right}
 use Rattle.lent_numbers.specs.Widths.{Width, is_width, enough}
 

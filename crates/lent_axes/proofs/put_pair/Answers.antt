@@ -1,0 +1,7 @@
+-- `put_pair` meets its contract: a number, and the number after it.
+use Rattle.lent_axes.proofs.AxisLaws.{pair_stored}
+use Rattle.lent_axes.proofs.put_pair.Goals as goal
+
+pub returns : goal.returns
+returns c =
+    pair_stored c.args.d.now c.args.at c.args.x c.args.y c.store4.ensures c.store4-2.ensures
