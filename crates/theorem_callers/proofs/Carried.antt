@@ -1,6 +1,7 @@
 -- A list of craneholt_set_key calls does to the bytes of a table what the calls on numbers do to the numbers that they hold: demand 3 of
 -- specs/Callers.antt.
 -- Assumes nothing.
+use Rattle.std.specs.Prelude.{if◌then◌else◌}
 use mathlib.Core.Path.{◌≡◌, refl, sym, ap, subst, ◌∙◌}
 use Prim.Native.Nat.{ℕ, ◌+◌, ◌*◌, ◌^◌, ◌/◌, ◌≤◌, ◌<◌}
 use native.Mathlib.Omega.{arith}
@@ -16,7 +17,7 @@ use Rattle.format.specs.declared.ReadAnswer.{ReadAnswer}
 use Rattle.format.specs.declared.CountAnswer.{CountAnswer}
 use Rattle.format.specs.declared.Axis.{Axis}
 use Rattle.format.specs.declared.SetAnswer.{SetAnswer}
-use Rattle.format.specs.Bytes.{if◌then◌else◌, over}
+use Rattle.format.specs.Bytes.{over}
 use Rattle.format.specs.Limits.{max_header}
 use Rattle.format.specs.Refusals.{refusal, lent_too_short, fine}
 use Rattle.format.specs.Lines.{Line, size, unlines, starts}
@@ -203,7 +204,7 @@ carried_at first table es gs ls b u (lent buf used t n) done e f s =
     let few : length (take n ns) ≡ n = length-take-le n ns (omega (arith, length_numbers entry_bytes t)) in
     record {
       first_entries = es;
-      first_fields_lem = gs;
+      first_fields = gs;
       first_rest = ls;
       reading = e;
       settled = s;

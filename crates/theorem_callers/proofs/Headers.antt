@@ -1,5 +1,6 @@
 -- A header that craneholt_write_header wrote is read back with its orientation: `HeadersAreRead` of specs/Callers.antt.
 -- Assumes nothing.
+use Rattle.std.specs.Prelude.{if◌then◌else◌}
 use mathlib.Core.Path.{◌≡◌, sym, ap, subst, ◌∙◌}
 use Prim.Native.Nat.{ℕ}
 use native.Mathlib.Omega.{arith}
@@ -12,7 +13,7 @@ use lib.Seq.{take-append_seam, drop-append_seam}
 use Rattle.format.specs.declared.Decimal.{Decimal}
 use Rattle.format.specs.declared.ReadAnswer.{ReadAnswer}
 use Rattle.format.specs.declared.WriteAnswer.{WriteAnswer}
-use Rattle.format.specs.Bytes.{if◌then◌else◌, is_empty, over}
+use Rattle.format.specs.Bytes.{is_empty, over}
 use Rattle.format.specs.Refusals.{bad_descriptor, refusal}
 use Rattle.format.specs.Lines.{lines}
 use Rattle.format.specs.Vectors.{Direction}
@@ -55,8 +56,8 @@ module _ (version : ℕ) (sizes : List ℕ) (t e endian : ℕ) (out : List ℕ) 
     unfolding reading_of
     size_is = ap (λ (x : ReadAnswer). x.reading.spacedimension) (sym (ap read_answer rb.header_is) ∙ rb.reading)
 
-    header_back_lem : HeaderReadBack version sizes t e endian o out (length text) (over text out)
-    header_back_lem =
+    header_back : HeaderReadBack version sizes t e endian o out (length text) (over text out)
+    header_back =
         record {
           fits = a.acceptable.enough;
           past = drop-append_seam text (drop (length text) out);
@@ -64,12 +65,12 @@ module _ (version : ℕ) (sizes : List ℕ) (t e endian : ℕ) (out : List ℕ) 
           origin = ap origin_call front ∙ rb.origin;
           direction = λ axis l. ap (λ (f : List ℕ). direction_call f axis) front ∙ rb.direction axis l;
           frame = ap frame_call front ∙ rb.frame;
-          origin_listed_lem = λ list. ap (origin_listed list) is ∙ ap (λ (ds : List Decimal). listed ds list) rb.origin_is;
-          directions_listed_lem = λ list.
+          origin_listed = λ list. ap (origin_listed list) is ∙ ap (λ (ds : List Decimal). listed ds list) rb.origin_is;
+          directions_listed = λ list.
               ap (directions_listed list) is
               ∙ ap (λ (n : ℕ). listed (flat_map (direction_decimals n) (directions_of rb.fields)) list) size_is
               ∙ ap (λ (ds : List Direction). listed (flat_map (direction_decimals (size_given o)) ds) list) rb.directions_are;
-          frame_listed_lem = λ list. ap (frame_listed list) is ∙ ap (λ (cs : List (List Decimal)). listed (flat_map (λ c. c) cs) list) rb.frame_is;
+          frame_listed = λ list. ap (frame_listed list) is ∙ ap (λ (cs : List (List Decimal)). listed (flat_map (λ c. c) cs) list) rb.frame_is;
         }
 
   -- ---- the call on numbers, then the entry point by how many bytes are lent
@@ -77,7 +78,7 @@ module _ (version : ℕ) (sizes : List ℕ) (t e endian : ℕ) (out : List ℕ) 
   call_back : (shaped : Bool) (o : Orientation) → Back o (write_header version ns t e endian shaped o out)
   call_back shaped o h =
       let a = headers_back.holds version ns t e endian shaped o out h in
-      subst (λ (w : WriteAnswer × List ℕ). HeaderReadBack version sizes t e endian o out w.0.length w.1) (sym a.written) (header_back_lem shaped o a)
+      subst (λ (w : WriteAnswer × List ℕ). HeaderReadBack version sizes t e endian o out w.0.length w.1) (sym a.written) (header_back shaped o a)
 
   entry_back : (given : List ℕ) → Back (orientation_lent given) (write_header_entry version sizes t e endian given out)
   unfolding write_header_entry

@@ -1,5 +1,6 @@
 -- A refused call leaves every lent byte as it was: demand 1 of specs/Callers.antt.
 -- Assumes nothing.
+use Rattle.std.specs.Prelude.{if◌then◌else◌}
 use mathlib.Core.Path.{◌≡◌, refl, ap, ◌∙◌}
 use Prim.Native.Nat.{ℕ, ◌/◌}
 use mathlib.Core.Bool.{Bool, true, false, not, ◌&&◌}
@@ -16,7 +17,7 @@ use Rattle.format.specs.declared.ValueAnswer.{ValueAnswer}
 use Rattle.format.specs.declared.WriteAnswer.{WriteAnswer}
 use Rattle.format.specs.declared.CountAnswer.{CountAnswer}
 use Rattle.format.specs.declared.Axis.{Axis}
-use Rattle.format.specs.Bytes.{if◌then◌else◌, is_empty}
+use Rattle.format.specs.Bytes.{is_empty}
 use Rattle.format.specs.Refusals.{lent_too_short}
 use Rattle.format.specs.Header.{Outcome, refused, accepted, header, value_of}
 use Rattle.format.specs.Descriptors.{dimension_of, space_size_of, file_count_of}

@@ -1,5 +1,6 @@
 -- What craneholt_write wrote is read back: demand 2 of specs/Callers.antt.
 -- Assumes nothing.
+use Rattle.std.specs.Prelude.{if◌then◌else◌}
 use mathlib.Core.Path.{◌≡◌, refl, sym, ap, subst, ◌∙◌}
 use Prim.Native.Nat.{ℕ, ◌*◌, ◌/◌, ◌≤◌}
 use native.Mathlib.Omega.{arith}
@@ -14,7 +15,7 @@ use borrow.Author.Tests.{eqb-true}
 use Rattle.format.specs.declared.DataAnswer.{DataAnswer}
 use Rattle.format.specs.declared.CountAnswer.{CountAnswer}
 use Rattle.format.specs.declared.WriteAnswer.{WriteAnswer}
-use Rattle.format.specs.Bytes.{if◌then◌else◌, over}
+use Rattle.format.specs.Bytes.{over}
 use Rattle.format.specs.Refusals.{fine, refusal}
 use Rattle.format.specs.Descriptors.{sample_bytes}
 use Rattle.format.specs.Writer.{data_bytes, file_bytes, write_refusal, header_bytes}
@@ -25,7 +26,7 @@ use Rattle.format.proofs.Samples.{AllBytes}
 use Rattle.format.proofs.Boundary.{length_samples, samples_over_lem, words_of_lent}
 use Rattle.theorem_roundtrip.specs.RoundTrip.{data_back, ReadsBack}
 use Rattle.theorem_roundtrip.proofs.Accepted.{accepted_is}
-use Rattle.theorem_roundtrip.proofs.ReadBack.{round_trips_lem}
+use Rattle.theorem_roundtrip.proofs.ReadBack.{round_trips}
 use Rattle.theorem_callers.specs.Callers.{whole_samples, count_of_samples, FileReadBack, WritesAreRead}
 
 -- the answer of a write by its refusal's number, and where that is 0
@@ -72,7 +73,7 @@ module _ (version : ℕ) (sizes : List ℕ) (t e endian : ℕ) (samples out : Li
 
   read_back : write_refusal version ns t e endian zs (length out) ≡ 0 → FileReadBack version sizes t e endian samples out (length file) (over file out)
   read_back h =
-      let rb = round_trips_lem version ns t e endian zs (length out) h in
+      let rb = round_trips version ns t e endian zs (length out) h in
       let place : (second : List ℕ) → data_place_call (take (length file) (over file out)) second ≡ data_back version ns t e endian zs =
       λ second. ap (λ (f : List ℕ). data_place_call f second) written ∙ rb.place second in
       record {

@@ -2,13 +2,13 @@
 -- A refused call leaves them (demand 1), what is written is read back (demand 2; headers with their orientation: document 02, W2), lists of settings (demand 3).
 -- It speaks of what the entry points answer, which their contracts cite (EntryPoints.antt, Calls.antt, Files.antt, Orientation.antt, AxisRecords.antt, Listing.antt), over the
 -- bytes that callers lend, however many. Numbers in lent bytes have their low byte first: 4 bytes an entry of a table, 8 a size or a sample (Boundary.antt), 32 an axis record.
-use Rattle.std.specs.Prelude.{ℕ, ◌*◌, ◌/◌, ◌≤◌, ◌<◌, ◌≡◌, not, eqb, length, take, drop}
+use Rattle.std.specs.Prelude.{ℕ, ◌*◌, ◌/◌, ◌≤◌, ◌<◌, ◌≡◌, not, ◌==◌, length, take, drop, if◌then◌else◌}
 use mathlib.Core.List.{List, [], map, flat_map}
 use Rattle.std.proofs.Math.Option.{none}
 use Rattle.format.specs.declared.Refusal.{Refusal}
 use Rattle.format.specs.declared.CountAnswer.{CountAnswer}
 use Rattle.format.specs.declared.Axis.{Axis}
-use Rattle.format.specs.Bytes.{if◌then◌else◌, is_empty, over, is_some, or_else, or_default}
+use Rattle.format.specs.Bytes.{is_empty, over, is_some, or_else, or_default}
 use Rattle.format.specs.Refusals.{fine}
 use Rattle.format.specs.Lines.{Line}
 use Rattle.format.specs.Fields.{Given}
@@ -129,10 +129,10 @@ pub record HeaderReadBack (version : ℕ) (sizes : List ℕ) (t e endian : ℕ) 
   pub direction : (axis : ℕ) → axis < length (numbers_of word_bytes sizes) → direction_call (take written after) axis ≡ direction_back axis (meant_orientation o)
   pub frame : frame_call (take written after) ≡ frame_back (meant_orientation o)
   -- craneholt_origin, craneholt_directions and craneholt_frame: the decimals that went in, or 22 where the list has no room for them; none where nothing was given
-  pub origin_listed_lem : (list : List ℕ) → origin_entry (take written after) list ≡ listed (or_default [] (origin_given (meant_orientation o))) list
-  pub directions_listed_lem : (list : List ℕ)
+  pub origin_listed : (list : List ℕ) → origin_entry (take written after) list ≡ listed (or_default [] (origin_given (meant_orientation o))) list
+  pub directions_listed : (list : List ℕ)
       → directions_entry (take written after) list ≡ listed (flat_map (direction_decimals (size_given o)) (or_default [] (directions_given (meant_orientation o)))) list
-  pub frame_listed_lem : (list : List ℕ) → frame_entry (take written after) list ≡ listed (flat_map (λ c. c) (or_default [] (frame_given (meant_orientation o)))) list
+  pub frame_listed : (list : List ℕ) → frame_entry (take written after) list ≡ listed (flat_map (λ c. c) (or_default [] (frame_given (meant_orientation o)))) list
 
 -- of everything that craneholt_write_header accepts
 abbrev pub HeadersAreRead : Type 0
@@ -160,10 +160,10 @@ records_over a records list = (a, over (axes_bytes (take a.count records)) list)
 pub record Carried (first table : List ℕ) (after : Lent) (done : List Setting) : Type 0 where
   -- the first reading, and what lists of settings do (Lists.antt): header lines, data and its place, used length
   pub first_entries : List Entry
-  pub first_fields_lem : List Given
+  pub first_fields : List Given
   pub first_rest : List Line
-  pub reading : header first ≡ accepted first_entries first_fields_lem first_rest
-  pub settled : Settled first first_entries first_fields_lem first_rest (in_numbers after) done
+  pub reading : header first ≡ accepted first_entries first_fields first_rest
+  pub settled : Settled first first_entries first_fields first_rest (in_numbers after) done
   -- the table has room for the entries of the count; past them its bytes are as lent to craneholt_read, a rest too short for one too
   pub room : bytes_counted after ≤ length (table_in after)
   pub long : length (table_in after) ≡ length table
@@ -190,7 +190,7 @@ pub record Carried (first table : List ℕ) (after : Lent) (done : List Setting)
   -- are the same (Lists.antt: `label`, `unit`). Bytes past the records are as lent (document 02, W6)
   pub axes : (list : List ℕ)
       → axes_entry (file_in after) list
-      ≡ records_over (axes_entry first list).0 (map (moved_axis first_fields_lem first_entries settled.entries) (axes_of first_entries first_fields_lem)) list
+      ≡ records_over (axes_entry first list).0 (map (moved_axis first_fields first_entries settled.entries) (axes_of first_entries first_fields)) list
   -- craneholt_samples answers and leaves what it did before, with any second file and list
   pub samples : (second list : List ℕ) → samples_entry (file_in after) second list ≡ samples_entry first second list
 
@@ -209,7 +209,7 @@ pub record SettingsAreCarried : Type 0 where
       → let after = (set_keys_by set_key_entry ss l []).0 in drop (bytes_counted after) (table_in after) ≡ drop (bytes_counted after) (table_in l)
   -- a call is refused by the first case that holds, and accepted, which the number 0 says, exactly when none does
   pub cases : (l : Lent) (s : Setting) → (call_on set_key_entry l s).0.refusal ≡ or_default fine (first_case (set_cases (in_numbers l) s))
-  pub taken : (l : Lent) (s : Setting) → eqb (call_on set_key_entry l s).0.refusal.number 0 ≡ not (is_some (first_case (set_cases (in_numbers l) s)))
+  pub taken : (l : Lent) (s : Setting) → ((call_on set_key_entry l s).0.refusal.number == 0) ≡ not (is_some (first_case (set_cases (in_numbers l) s)))
 
 -- ---- the statement
 

@@ -1,7 +1,6 @@
 -- The files of an accepted header: its samples are parted equally, so the shares are all of them, and the calls answer by them.
 -- Assumes nothing.
-use Prim.Native.Nat.{ℕ, ◌≤◌, ◌<◌}
-use native.Mathlib.Omega.{arith}
+use Prim.Native.Nat.{ℕ, ◌<◌}
 use mathlib.Core.Path.{◌≡◌, refl, sym, ap, ◌∙◌}
 use mathlib.Core.List.{List}
 use mathlib.Core.Option.{Option, none, some, none-ne-some}
@@ -18,7 +17,7 @@ use Rattle.format.specs.Header.{Entry, accepted, header}
 use Rattle.format.specs.Calls.{count_of}
 use Rattle.format.specs.Files.{file_name_of, sample_file_call}
 use Rattle.format.proofs.Named.{files_some, shares_fit, product_some, sample_some}
-use Rattle.theorem_files.specs.Files.{SharesTile, Placed, FilesByPattern, HeaderFiles}
+use Rattle.theorem_files.specs.Files.{SharesTile, FilesByPattern, HeaderFiles}
 use Rattle.theorem_files.proofs.Shares.{shares_tile}
 use Rattle.theorem_files.proofs.Names.{pattern_files}
 

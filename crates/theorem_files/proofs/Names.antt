@@ -1,6 +1,7 @@
 -- A number in a name reads as it is, so names of different numbers differ; and the files of a descriptor with a pattern.
 -- Assumes nothing.
-use Prim.Native.Nat.{ℕ, zero, suc, ◌+◌, ◌-◌, ◌≤◌, max}
+use Rattle.std.specs.Prelude.{if◌then◌else◌}
+use Prim.Native.Nat.{ℕ, zero, suc, ◌-◌, ◌≤◌, max}
 use native.Mathlib.Nat.{sub-add-eq-max}
 use native.Mathlib.Omega.{arith}
 use mathlib.Core.Path.{◌≡◌, refl, sym, ap, ◌∙◌}
@@ -10,12 +11,12 @@ use mathlib.Core.Option.{Option, none, some, none-ne-some, some-injective}
 use lib.Dec.{leb}
 use lib.ListN.{length, drop, replicate, length-append, length-replicate}
 use borrow.Author.Tests.{leb-true, ne_eqb}
-use Rattle.format.specs.Bytes.{if◌then◌else◌, is_digit, every, space_or_tab, is_empty, SPACE}
+use Rattle.format.specs.Bytes.{is_digit, every, space_or_tab, is_empty, SPACE}
 use Rattle.format.specs.Words.{trim_front, digits_from, number, words}
 use Rattle.format.specs.Writer.{decimal}
 use Rattle.format.specs.DataFiles.{is_list, has_percent, Pattern, pattern, pattern_of, Numbering, step_said, numbering_said, one_file, numbered_files, axes_said, listed, numbered, pattern_said, data_file_said, count_numbered, files_said}
 use Rattle.format.specs.FileNames.{number_text, pattern_name, number_at, name_said}
-use Rattle.format.proofs.Writer.{decimal_digits, decimal_not_empty, number_from_lem, number_of_decimal}
+use Rattle.format.proofs.Writer.{decimal_digits, decimal_not_empty, number_from, number_of_decimal}
 use Rattle.theorem_files.specs.Files.{PatternFiles}
 use Rattle.theorem_files.proofs.Numbers.{numbers_run}
 
@@ -54,9 +55,9 @@ module _ (width n : ℕ) where
 
   zeros_read : number (replicate pad 48 ++ decimal n) ≡ some n
   zeros_read =
-      number_from_lem (replicate pad 48 ++ decimal n) (simp length-append (omega (arith, decimal_not_empty n)))
+      number_from (replicate pad 48 ++ decimal n) (simp length-append (omega (arith, decimal_not_empty n)))
       ∙ zeros_nothing pad (decimal n)
-      ∙ sym (number_from_lem (decimal n) (decimal_not_empty n))
+      ∙ sym (number_from (decimal n) (decimal_not_empty n))
       ∙ number_of_decimal n
 
   pub number_read : (zeros : Bool) → number (trim_front (number_text zeros width n)) ≡ some n

@@ -1,5 +1,6 @@
 -- The numbers of a pattern are those from the first to the last, by its step.
 -- Assumes nothing.
+use Rattle.std.specs.Prelude.{if◌then◌else◌}
 use Prim.Native.Nat.{ℕ, ◌+◌, ◌*◌, ◌-◌, ◌/◌, ◌≤◌, ◌<◌}
 use native.Mathlib.Nat.{eq_of_mul-eq-mul_right, le-div_iff_mul-le}
 use native.Mathlib.Omega.{arith}
@@ -9,7 +10,7 @@ use mathlib.Core.List.{List, [], ◌∷◌}
 use mathlib.Core.Option.{Option, none, some, none-ne-some, some-injective}
 use lib.Dec.{eqb, ltb, leb}
 use borrow.Author.Tests.{ltb-true, ltb-false, leb-true, le-leb, eqb-false, ne_eqb}
-use Rattle.format.specs.Bytes.{if◌then◌else◌, or_default, MINUS}
+use Rattle.format.specs.Bytes.{or_default, MINUS}
 use Rattle.format.specs.Limits.{max_file_number}
 use Rattle.format.specs.Words.{number, within, number_in, value_of_number}
 use Rattle.format.specs.Decimals.{is_minus}

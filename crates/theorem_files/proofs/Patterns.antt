@@ -1,5 +1,6 @@
 -- A word is taken as a pattern exactly where it writes it.
 -- Assumes nothing.
+use Rattle.std.specs.Prelude.{if◌then◌else◌}
 use Prim.Native.Nat.{ℕ, ◌+◌, ◌*◌, ◌-◌, ◌≤◌, ◌<◌}
 use native.Mathlib.Omega.{arith}
 use mathlib.Core.Path.{◌≡◌, refl, sym, ap, subst, ◌∙◌}
@@ -8,7 +9,7 @@ use mathlib.Core.List.{List, [], ◌∷◌, ◌++◌, append_assoc}
 use mathlib.Core.Option.{Option, none, some, none-ne-some, some-injective}
 use lib.Dec.{eqb, leb}
 use borrow.Author.Tests.{leb-true, eqb-true, eqb-false, ne_eqb}
-use Rattle.format.specs.Bytes.{if◌then◌else◌, is_digit, is_in, every, every_below, same, PERCENT}
+use Rattle.format.specs.Bytes.{is_digit, is_in, every, every_below, same, PERCENT}
 use Rattle.format.specs.Limits.{max_width}
 use Rattle.format.specs.Words.{digits_from, number, number_in, value_of_number}
 use Rattle.format.specs.Decimals.{digits_of, after_digits}

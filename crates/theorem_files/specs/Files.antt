@@ -1,12 +1,12 @@
 -- Data in several files (document 02, W5; source 000, section 3), as one statement about the definitions alone: `FilesHold`. The shares of the files are all samples,
 -- each sample in one place, for every accepted header; a word is taken as a pattern exactly where it writes one; the numbers of a pattern are those that section 3 says, no more and no fewer; and the files of a pattern have different names.
-use Rattle.std.specs.Prelude.{ℕ, ◌+◌, ◌*◌, ◌%◌, ◌≤◌, ◌<◌, max, ◌≡◌, Bool, true, false, List, [], ◌∷◌, ◌++◌, eqb, length, get_or}
+use Rattle.std.specs.Prelude.{ℕ, ◌+◌, ◌*◌, ◌%◌, ◌≤◌, ◌<◌, max, ◌≡◌, Bool, true, false, List, [], ◌∷◌, ◌++◌, ◌==◌, length, slice_index_or, if◌then◌else◌}
 use Rattle.std.proofs.Math.Option.{Option, some}
 use Rattle.format.specs.declared.ShareAnswer.{ShareAnswer}
 use Rattle.format.specs.Limits.{max_file_number, max_width}
 use Rattle.format.specs.Refusals.{fine}
 use Rattle.format.specs.Lines.{Line}
-use Rattle.format.specs.Bytes.{if◌then◌else◌, over, PERCENT}
+use Rattle.format.specs.Bytes.{over, PERCENT}
 use Rattle.format.specs.Fields.{Given, descriptor_of, file_names, data_file}
 use Rattle.format.specs.Descriptors.{type_of, sample_bytes, data_file_of, file_count_of}
 use Rattle.format.specs.Header.{Entry, accepted, header}
@@ -36,7 +36,7 @@ pub record SharesTile (samples files w : ℕ) : Type 0 where
 
 -- the digits of a width, none for 0
 abbrev pub width_text : ℕ → List ℕ
-width_text width = if eqb width 0 then [] else decimal width
+width_text width = if width == 0 then [] else decimal width
 
 -- `%`, then `0` (48) where numbers are padded by zeros, the digits of the width, and `d` (100)
 abbrev pub conversion_text : Bool → ℕ → List ℕ
@@ -140,7 +140,7 @@ pub record HeaderFiles (f : List ℕ) (gs : List Given) : Type 0 where
   pub by_pattern : (p : Pattern) (k : Numbering) (axes : Option ℕ) → data_file_of gs ≡ some (numbered_files p k axes) → FilesByPattern gs p k
   -- names under LIST are the files, in their order
   pub by_names : (axes : Option ℕ) → data_file_of gs ≡ some (listed_files axes)
-      → (file_count_of gs ≡ length (file_names gs)) × ((n : ℕ) → file_name_of gs n ≡ get_or (file_names gs) n [])
+      → (file_count_of gs ≡ length (file_names gs)) × ((n : ℕ) → file_name_of gs n ≡ slice_index_or (file_names gs) n [])
 
 -- THE STATEMENT
 pub record FilesHold : Type 0 where

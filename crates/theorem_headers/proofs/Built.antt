@@ -18,14 +18,14 @@ use Rattle.format.specs.Header.{magic, entry, line_of, lines_of, accepted, heade
 use Rattle.format.specs.Writer.{decimal, name_at}
 use Rattle.format.specs.HeaderWriter.{space_text, origin_text, directions_text, frame_text, if_given}
 use Rattle.format.proofs.Header.{Complete, header_fine}
-use Rattle.theorem_roundtrip.proofs.Names.{type_named_lem, encoding_named_lem, endian_named_lem, version_of_magic}
+use Rattle.theorem_roundtrip.proofs.Names.{type_named, encoding_named, endian_named, version_of_magic}
 use Rattle.theorem_roundtrip.proofs.Numbers.{decimal_text, spaced_text}
 use Rattle.theorem_roundtrip.proofs.Written.{first_line, first_fields, dimension_may, sizes_may}
 use Rattle.theorem_headers.specs.HeadersBack.{mapped}
 use Rattle.theorem_headers.proofs.Lined.{Rest, Allowed, rest_field, rest_closing, rest_option}
 use Rattle.theorem_headers.proofs.Texts.{field_names}
 use Rattle.theorem_headers.proofs.Short.{option_count}
-use Rattle.theorem_headers.proofs.Told.{Inputs, Listed, Numbers, Parts, given_directions, given_frame, given_origin, if_asked, listed_text, option_lines, order, order_text, rest_lines, size_text_lem, text, text_lines, with_directions, with_frame, with_order, with_origin, with_size, with_space}
+use Rattle.theorem_headers.proofs.Told.{Inputs, Listed, Numbers, Parts, given_directions, given_frame, given_origin, if_asked, listed_text, option_lines, order, order_text, rest_lines, size_text, text, text_lines, with_directions, with_frame, with_order, with_origin, with_size, with_space}
 use Rattle.theorem_headers.proofs.Meant.{look, look_directions, look_order, look_origin, look_size, look_space, means}
 use Rattle.theorem_headers.proofs.Taken.{lines_short, sizes_are, text_short}
 
@@ -60,31 +60,31 @@ module _ (put : Inputs) (w : Numbers put) (listed : Listed put) (p : Parts put) 
       rest_option "endian" endian (name_at endians) field_names.of_endian put.version (first_fields put.ns put.t put.e) (order put)
       (order_text put w listed) refl
       (if_asked (λ k. Allowed put.version (first_fields put.ns put.t put.e) endian (name_at endians k)) (endian_needed put.t put.e) put.n
-      (record { since = le-ltb put.version 1 w.version_from; new = refl; order = refl; fits = rw (endian_named_lem put.n w.endian_in).row }))
+      (record { since = le-ltb put.version 1 w.version_from; new = refl; order = refl; fits = rw (endian_named put.n w.endian_in).row }))
       (rest_option "space" space space_text field_names.of_space put.version (with_order put) put.i (listed_text put w listed)
       (no_names_in (with_order put) (look_order put data_file)) p.space_fits
-      (rest_option "space dimension" space_dimension decimal field_names.of_size put.version (with_space put) put.size (size_text_lem put w listed)
+      (rest_option "space dimension" space_dimension decimal field_names.of_size put.version (with_space put) put.size (size_text put w listed)
       (no_names_in (with_space put) (look_space put data_file)) p.size_fits
       (rest_option "space origin" space_origin origin_text field_names.of_origin put.version (with_size put) put.origin (given_origin put w listed)
-      (no_names_in (with_size put) (look_size put data_file)) p.origin_fits_lem
+      (no_names_in (with_size put) (look_size put data_file)) p.origin_fits
       (rest_option "space directions" space_directions directions_text field_names.of_directions put.version (with_origin put) put.directions (given_directions put w listed)
-      (no_names_in (with_origin put) (look_origin put data_file)) p.directions_fit_lem
+      (no_names_in (with_origin put) (look_origin put data_file)) p.directions_fit
       (rest_option "measurement frame" measurement_frame frame_text field_names.of_frame put.version (with_directions put) put.frame (given_frame put w listed)
-      (no_names_in (with_directions put) (look_directions put data_file)) p.frame_fits_lem
+      (no_names_in (with_directions put) (look_directions put data_file)) p.frame_fits
       (rest_closing put.version (with_frame put) (no_names_in (with_frame put) (look put data_file)) complete_fields))))))
 
   pub rest : Rest put.version [] (rest_lines put) (with_frame put) []
   unfolding descriptor_of is_repeated in_order field_at may_describe names_follow
   rest =
       let a = le-ltb put.version 1 w.version_from in
-      rest_field put.version [] "type" type _ field_names.of_type (type_named_lem put.t w.type_in).text refl
-      (record { since = a; new = refl; order = refl; fits = rw (type_named_lem put.t w.type_in).row })
+      rest_field put.version [] "type" type _ field_names.of_type (type_named put.t w.type_in).text refl
+      (record { since = a; new = refl; order = refl; fits = rw (type_named put.t w.type_in).row })
       (rest_field put.version _ "dimension" dimension _ field_names.of_dimension (decimal_text (length put.ns)) refl
       (record { since = a; new = refl; order = refl; fits = dimension_may put.ns w.axes_from w.axes_to })
       (rest_field put.version _ "sizes" sizes _ field_names.of_sizes (spaced_text put.ns) refl
       (record { since = a; new = refl; order = refl; fits = sizes_may put.ns (sizes_are put w listed p small) })
-      (rest_field put.version _ "encoding" encoding _ field_names.of_encoding (encoding_named_lem put.e w.encoding_in).text refl
-      (record { since = a; new = refl; order = refl; fits = rw (encoding_named_lem put.e w.encoding_in).row }) options)))
+      (rest_field put.version _ "encoding" encoding _ field_names.of_encoding (encoding_named put.e w.encoding_in).text refl
+      (record { since = a; new = refl; order = refl; fits = rw (encoding_named put.e w.encoding_in).row }) options)))
 
   -- ---- and the header is within its limits
 

@@ -1,5 +1,6 @@
 -- What is looked up among the fields that a written header gives: `looked`, and the dimensions that descriptors are read by.
 -- Assumes nothing.
+use Rattle.std.specs.Prelude.{if◌then◌else◌}
 use Prim.Native.Nat.{ℕ}
 use mathlib.Core.Path.{◌≡◌, refl, ap, ◌∙◌}
 use mathlib.Core.Bool.{Bool, true, false, not, ◌&&◌, ◌||◌}
@@ -7,7 +8,7 @@ use mathlib.Core.List.{List}
 use mathlib.Core.Option.{Option, none, some}
 use lib.Dec.{eqb}
 use borrow.Author.Tests.{eqb-true}
-use Rattle.format.specs.Bytes.{if◌then◌else◌, is_some, or_default}
+use Rattle.format.specs.Bytes.{is_some, or_default}
 use Rattle.format.specs.Fields.{Given, descriptor_of, is_given, needs_dimension, needs_space, in_order, dimension, space, space_dimension}
 use Rattle.format.specs.Descriptors.{meaning, number_said, dimension_of, no_space, space_of, space_size_of}
 use Rattle.format.specs.Spaces.{space_size, space_named}

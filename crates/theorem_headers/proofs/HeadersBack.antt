@@ -1,5 +1,6 @@
 -- A header that is written with its orientation is read back: the statement of specs/HeadersBack.antt.
 -- Assumes nothing.
+use Rattle.std.specs.Prelude.{if◌then◌else◌}
 use Prim.Native.Nat.{ℕ, ◌≤◌, ◌<◌}
 use native.Mathlib.Omega.{arith}
 use mathlib.Core.Path.{◌≡◌, refl, sym, ap, ◌∙◌}
@@ -10,7 +11,7 @@ use lib.Dec.{ltb}
 use lib.ListN.{length, get_or, length-map}
 use borrow.Author.Tests.{ltb-true, lt-ltb, le-ltb, ltb-false}
 use Rattle.format.specs.declared.Decimal.{Decimal}
-use Rattle.format.specs.Bytes.{if◌then◌else◌, is_some, or_default}
+use Rattle.format.specs.Bytes.{is_some, or_default}
 use Rattle.format.specs.Limits.{max_file, max_extent}
 use Rattle.format.specs.Refusals.{fine, refusal, bad_descriptor, not_in_version}
 use Rattle.format.specs.Lines.{Line, lines, unlines}
@@ -38,7 +39,7 @@ use Rattle.theorem_headers.proofs.Lined.{If}
 use Rattle.theorem_headers.proofs.Told.{Inputs, inputs, Listed, Numbers, Told, lines_are, text, told, whole}
 use Rattle.theorem_headers.proofs.Meant.{Means, means}
 use Rattle.theorem_headers.proofs.NoNames.{all_before, none_named}
-use Rattle.theorem_headers.proofs.Taken.{fitting_of, parts_of_lem, text_short}
+use Rattle.theorem_headers.proofs.Taken.{fitting_of, parts_of, text_short}
 use Rattle.theorem_headers.proofs.Built.{header_built}
 
 -- ---- what the header writer has accepted
@@ -117,7 +118,7 @@ module _ (put : Inputs) (shaped : Bool) (out : List ℕ)
 
   -- the lines of the text are those of the header
   lines_of_lem : lines_of a.es ≡ header_with put.version put.ns put.t put.e put.n (orientation_lines o)
-  lines_of_lem = says.lines_of_lem ∙ sym (lines_are put)
+  lines_of_lem = says.lines_of ∙ sym (lines_are put)
 
   text_of : unlines (lines_of a.es) ≡ text put
   unfolding oriented_bytes
@@ -160,9 +161,9 @@ module _ (put : Inputs) (shaped : Bool) (out : List ℕ)
         directions_are = m.directions_are;
         frame_is = m.frame_is;
         one_each = m.one_each;
-        reading = rw (is, m.attached, m.dimension_is, m.type_is, m.encoding_is, m.endian_is, m.sizes_are, m.no_line_skip, m.no_byte_skip, m.origin_given_lem, m.directions_given_lem, m.frame_given_lem, m.space_size_lem, space_read, m.one_file_lem, says.version_is, ap length text_of, before, count);
-        origin = rw (is, m.origin_given_lem, m.origin_is) (origin_by_lem put.origin);
-        direction = λ axis l. rw (is, m.dimension_is, lt-ltb axis (length put.ns) l, m.directions_given_lem, m.directions_are) (direction_by_lem axis put.directions);
+        reading = rw (is, m.attached, m.dimension_is, m.type_is, m.encoding_is, m.endian_is, m.sizes_are, m.no_line_skip, m.no_byte_skip, m.origin_given, m.directions_given, m.frame_given, m.space_size, space_read, m.one_file, says.version_is, ap length text_of, before, count);
+        origin = rw (is, m.origin_given, m.origin_is) (origin_by_lem put.origin);
+        direction = λ axis l. rw (is, m.dimension_is, lt-ltb axis (length put.ns) l, m.directions_given, m.directions_are) (direction_by_lem axis put.directions);
         frame = rw (is, m.frame_is);
       }
     where
@@ -216,7 +217,7 @@ accepts version ns t e n shaped (orientation i size origin directions frame) out
     let put = inputs version ns t e n i size origin directions frame in
     let w = writable_is version ns t e n h.numbers in
     let l = listed_is i size origin directions frame h.listed in
-    let p = parts_of_lem put w l h.known h.fits in
+    let p = parts_of put w l h.known h.fits in
     rw (h.numbers, h.shape, h.listed, h.known, header_built put w l p h.small, le-ltb (length out) (length (text put)) h.enough)
 
 -- ---- what is kept means itself

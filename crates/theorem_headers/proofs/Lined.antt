@@ -1,5 +1,6 @@
 -- A header line by line: the line of a field is read where it is allowed, and only there, and which fields are given after it.
 -- Assumes nothing.
+use Rattle.std.specs.Prelude.{if◌then◌else◌}
 use Prim.Native.Nat.{ℕ}
 use Prim.Native.String.{String}
 use mathlib.Core.Path.{◌≡◌, refl, sym, ap, ◌∙◌, subst}
@@ -8,7 +9,7 @@ use mathlib.Core.List.{List, [], ◌∷◌, ◌++◌, cons≢nil}
 use mathlib.Core.Option.{Option, none, some}
 use lib.Dec.{eqb, ltb}
 use borrow.Author.Tests.{eq-eqb, ne_eqb}
-use Rattle.format.specs.Bytes.{if◌then◌else◌, bytes, every}
+use Rattle.format.specs.Bytes.{bytes, every}
 use Rattle.format.specs.Refusals.{not_in_version, repeated_field, out_of_order, bad_descriptor}
 use Rattle.format.specs.Lines.{Line, line, lf, text}
 use Rattle.format.specs.Pairs.{plain}
@@ -41,7 +42,7 @@ Described gs f d = may_describe (dimension_of gs) (space_size_of gs) f d ≡ tru
 pub record Understood (name : String) (f : ℕ) : Type 0 where
   pub named : NameOf name f
   pub meant : is_understood f ≡ true
-  pub no_file_lem : eqb f data_file ≡ false
+  pub no_file : eqb f data_file ≡ false
   pub name_plain : every plain (bytes name) ≡ true
 
 -- after another field names follow where they did before it
@@ -62,7 +63,7 @@ module _ (version : ℕ) (gs : List Given) (name : String) (f : ℕ) (d : List �
   unfolding on_field descriptor since
   judged n i j =
       go (ltb version (field_since f)) refl (is_repeated f gs) refl (in_order f gs) refl (may_describe (dimension_of gs) (space_size_of gs) f d) refl
-      (rw (u.no_file_lem, u.meant, t.front, t.back) at (sym (u.named version gs d n t.bytes_plain) ∙ j))
+      (rw (u.no_file, u.meant, t.front, t.back) at (sym (u.named version gs d n t.bytes_plain) ∙ j))
     where
       no : {w : ℕ} → wrong w ≡ right i → ⊥
       no h = let q : false ≡ true = cc in false≢true q
@@ -80,7 +81,7 @@ module _ (version : ℕ) (gs : List Given) (name : String) (f : ℕ) (d : List �
 
   judged_on : names_follow gs ≡ false → Allowed version gs f d → judge version gs (bytes name ++ (bytes ": " ++ d)) ≡ right (field f d)
   unfolding on_field descriptor since
-  judged_on n a = u.named version gs d n t.bytes_plain ∙ rw (u.no_file_lem, a.since, a.new, a.order, u.meant, t.front, t.back, a.fits)
+  judged_on n a = u.named version gs d n t.bytes_plain ∙ rw (u.no_file, a.since, a.new, a.order, u.meant, t.front, t.back, a.fits)
 
   pub field_rest : {ls : List Line} {gs' : List Given} {r : List Line} → Rest version gs (field_line name d ∷ ls) gs' r
       → Allowed version gs f d × Rest version (given f d ∷ gs) ls gs' r
@@ -99,7 +100,7 @@ module _ (version : ℕ) (gs : List Given) (name : String) (f : ℕ) (d : List �
               entries = es;
               split = b;
               fine = subst (λ (i : Item). FineBy (closes i) gs es gs' (Fine version (after_item i gs) es gs' r)) k.0 q.1;
-              no_names = still_no_names f d gs u.no_file_lem x.no_names;
+              no_names = still_no_names f d gs u.no_file x.no_names;
             },
           )
 

@@ -1,6 +1,7 @@
 -- What the fields of a written header mean, where each may have its descriptor: what went in (`Means`).
 -- The names are those of Told.antt.
 -- Assumes nothing.
+use Rattle.std.specs.Prelude.{if◌then◌else◌}
 use Prim.Native.Nat.{ℕ, ◌<◌}
 use mathlib.Core.Path.{◌≡◌, refl, sym, ap, ◌∙◌}
 use mathlib.Core.Bool.{Bool, true, false, false≢true}
@@ -8,7 +9,7 @@ use mathlib.Core.List.{List, [], ◌∷◌, map}
 use mathlib.Core.Option.{Option, none, some}
 use lib.ListN.{length}
 use Rattle.format.specs.declared.Decimal.{Decimal}
-use Rattle.format.specs.Bytes.{if◌then◌else◌, is_some, or_default}
+use Rattle.format.specs.Bytes.{is_some, or_default}
 use Rattle.format.specs.Fields.{Given, descriptor_of, is_given, dimension, type, encoding, endian, sizes, line_skip, byte_skip, data_file, space, space_dimension, space_origin, space_directions, measurement_frame}
 use Rattle.format.specs.Spaces.{space_count, space_named}
 use Rattle.format.specs.Vectors.{Direction, vectors_said, directions_said}
@@ -16,7 +17,7 @@ use Rattle.format.specs.Descriptors.{meaning, number_said, forward, may_describe
 use Rattle.format.specs.Orientation.{first_vector, origin_of, directions_of, frame_of}
 use Rattle.format.specs.Writer.{decimal, name_at}
 use Rattle.format.specs.HeaderWriter.{space_text, origin_text, directions_text, frame_text, if_given}
-use Rattle.theorem_roundtrip.proofs.Names.{type_named_lem, encoding_named_lem, endian_named_lem}
+use Rattle.theorem_roundtrip.proofs.Names.{type_named, encoding_named, endian_named}
 use Rattle.theorem_roundtrip.proofs.Numbers.{words_of_spaced, values_of_decimals}
 use Rattle.theorem_roundtrip.proofs.Written.{first_fields}
 use Rattle.theorem_orientation.specs.ReadBack.{each_of, kept_vector, kept_direction, meant, meant_direction}
@@ -41,12 +42,12 @@ pub record Means (gs : List Given) (put : Inputs) : Type 0 where
   pub no_line_skip : line_skip_of gs ≡ 0
   pub no_byte_skip : byte_skip_of gs ≡ forward 0
   pub attached : is_detached gs ≡ false
-  pub one_file_lem : file_count_of gs ≡ 1
+  pub one_file : file_count_of gs ≡ 1
   pub space_number : space_of gs ≡ or_default no_space put.i
-  pub space_size_lem : space_size_of gs ≡ size_by put.i put.size
-  pub origin_given_lem : is_given space_origin gs ≡ is_some put.origin
-  pub directions_given_lem : is_given space_directions gs ≡ is_some put.directions
-  pub frame_given_lem : is_given measurement_frame gs ≡ is_some put.frame
+  pub space_size : space_size_of gs ≡ size_by put.i put.size
+  pub origin_given : is_given space_origin gs ≡ is_some put.origin
+  pub directions_given : is_given space_directions gs ≡ is_some put.directions
+  pub frame_given : is_given measurement_frame gs ≡ is_some put.frame
   pub origin_is : origin_of gs ≡ or_default [] (mapped (map meant) put.origin)
   pub directions_are : directions_of gs ≡ or_default [] (mapped (map meant_direction) put.directions)
   pub frame_is : frame_of gs ≡ or_default [] (mapped (map (map meant)) put.frame)
@@ -115,8 +116,8 @@ module _ (put : Inputs) where
   pub at_frame : Dimensions (length put.ns) put.i put.size (with_directions put)
   at_frame = dimensions_of (with_directions put) (look_directions dimension) (look_directions space) (look_directions space_dimension)
 
-  at_end_lem : Dimensions (length put.ns) put.i put.size (with_frame put)
-  at_end_lem = dimensions_of (with_frame put) (look dimension) (look space) (look space_dimension)
+  at_end : Dimensions (length put.ns) put.i put.size (with_frame put)
+  at_end = dimensions_of (with_frame put) (look dimension) (look space) (look space_dimension)
 
   -- ---- what they mean
 
@@ -152,28 +153,28 @@ module _ (put : Inputs) where
     pub means : Parts put → Means (with_frame put) put
     unfolding descriptor_of origin_of directions_of frame_of file_count_of
     means p = record {
-      dimension_is = axes_are at_end_lem;
-      type_is = rw (look type, (type_named_lem put.t w.type_in).row);
-      encoding_is = rw (look encoding, (encoding_named_lem put.e w.encoding_in).row);
+      dimension_is = axes_are at_end;
+      type_is = rw (look type, (type_named put.t w.type_in).row);
+      encoding_is = rw (look encoding, (encoding_named put.e w.encoding_in).row);
       endian_is = rw (look endian) (order_is (endian_needed put.t put.e));
       sizes_are = rw (look sizes, words_of_spaced put.ns) (values_of_decimals put.ns);
       no_line_skip = rw (look line_skip);
       no_byte_skip = rw (look byte_skip);
       attached = rw (look data_file);
-      one_file_lem = rw (look data_file);
-      space_number = space_is at_end_lem names_back;
-      space_size_lem = size_is at_end_lem names_back;
-      origin_given_lem = ap is_some (look space_origin) ∙ mapped_some origin_text put.origin;
-      directions_given_lem = ap is_some (look space_directions) ∙ mapped_some directions_text put.directions;
-      frame_given_lem = ap is_some (look measurement_frame) ∙ mapped_some frame_text put.frame;
-      origin_is = rw (size_is at_end_lem names_back, look space_origin) (origin_of_lem put.origin p.origin_fits_lem);
-      directions_are = rw (axes_are at_end_lem, size_is at_end_lem names_back, look space_directions) (directions_of_lem put.directions p.directions_fit_lem);
-      frame_is = rw (size_is at_end_lem names_back, look measurement_frame) (frame_of_lem put.frame p.frame_fits_lem);
-      one_each = each_axis put.directions p.directions_fit_lem;
+      one_file = rw (look data_file);
+      space_number = space_is at_end names_back;
+      space_size = size_is at_end names_back;
+      origin_given = ap is_some (look space_origin) ∙ mapped_some origin_text put.origin;
+      directions_given = ap is_some (look space_directions) ∙ mapped_some directions_text put.directions;
+      frame_given = ap is_some (look measurement_frame) ∙ mapped_some frame_text put.frame;
+      origin_is = rw (size_is at_end names_back, look space_origin) (origin_of_lem put.origin p.origin_fits);
+      directions_are = rw (axes_are at_end, size_is at_end names_back, look space_directions) (directions_of_lem put.directions p.directions_fit);
+      frame_is = rw (size_is at_end names_back, look measurement_frame) (frame_of_lem put.frame p.frame_fits);
+      one_each = each_axis put.directions p.directions_fit;
     }
       where
         order_is : (x : Bool) → meaning no_endian (number_said endian) (mapped (name_at endians) (if_given x put.n)) ≡ (if x then put.n else no_endian)
-        order_is true = rw (endian_named_lem put.n w.endian_in).row
+        order_is true = rw (endian_named put.n w.endian_in).row
         order_is false = refl
 
         origin_of_lem : (o : Option (List Decimal)) → If o (λ a. Allowed put.version (with_size put) space_origin (origin_text a))

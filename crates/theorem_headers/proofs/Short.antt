@@ -1,5 +1,6 @@
 -- Bounds on the texts of a written header, where the decimals that are meant are kept; `text_short` (Taken.antt) adds them up.
 -- Assumes nothing.
+use Rattle.std.specs.Prelude.{if◌then◌else◌}
 use Prim.Native.Nat.{ℕ, suc, ◌+◌, ◌*◌, ◌^◌, ◌≤◌, ◌<◌}
 use Prim.Native.String.{String}
 use native.Mathlib.Omega.{arith}
@@ -13,7 +14,7 @@ use lib.IntN.{ℤ, pos, negsuc, nat_abs}
 use lib.ListN.{length, length-append}
 use borrow.Author.Tests.{ltb-true, leb-true}
 use Rattle.format.specs.declared.Decimal.{Decimal}
-use Rattle.format.specs.Bytes.{if◌then◌else◌, bytes, every_below, SPACE, COMMA}
+use Rattle.format.specs.Bytes.{bytes, every_below, SPACE, COMMA}
 use Rattle.format.specs.Lines.{Line, unlines}
 use Rattle.format.specs.Decimals.{numeric, nan, inf, minus_inf, past_number, max_power}
 use Rattle.format.specs.Spaces.{space_at, space_count, space_size}

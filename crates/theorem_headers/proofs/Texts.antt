@@ -138,14 +138,14 @@ pub record FieldNames : Type 0 where
 pub field_names : FieldNames
 unfolding every alike is_any row_from mark field_at
 field_names = record {
-  of_type = record { named = names.of_type; meant = refl; no_file_lem = refl; name_plain = refl };
-  of_dimension = record { named = names.of_dimension; meant = refl; no_file_lem = refl; name_plain = refl };
-  of_sizes = record { named = names.of_sizes; meant = refl; no_file_lem = refl; name_plain = refl };
-  of_encoding = record { named = names.of_encoding; meant = refl; no_file_lem = refl; name_plain = refl };
-  of_endian = record { named = names.of_endian; meant = refl; no_file_lem = refl; name_plain = refl };
-  of_space = record { named = λ version gs d n h. judge_by_text version gs _ n ∙ rw h; meant = refl; no_file_lem = refl; name_plain = refl };
-  of_size = record { named = λ version gs d n h. judge_by_text version gs _ n ∙ rw h; meant = refl; no_file_lem = refl; name_plain = refl };
-  of_origin = record { named = λ version gs d n h. judge_by_text version gs _ n ∙ rw h; meant = refl; no_file_lem = refl; name_plain = refl };
-  of_directions = record { named = λ version gs d n h. judge_by_text version gs _ n ∙ rw h; meant = refl; no_file_lem = refl; name_plain = refl };
-  of_frame = record { named = λ version gs d n h. judge_by_text version gs _ n ∙ rw h; meant = refl; no_file_lem = refl; name_plain = refl };
+  of_type = record { named = names.of_type; meant = refl; no_file = refl; name_plain = refl };
+  of_dimension = record { named = names.of_dimension; meant = refl; no_file = refl; name_plain = refl };
+  of_sizes = record { named = names.of_sizes; meant = refl; no_file = refl; name_plain = refl };
+  of_encoding = record { named = names.of_encoding; meant = refl; no_file = refl; name_plain = refl };
+  of_endian = record { named = names.of_endian; meant = refl; no_file = refl; name_plain = refl };
+  of_space = record { named = λ version gs d n h. judge_by_text version gs _ n ∙ rw h; meant = refl; no_file = refl; name_plain = refl };
+  of_size = record { named = λ version gs d n h. judge_by_text version gs _ n ∙ rw h; meant = refl; no_file = refl; name_plain = refl };
+  of_origin = record { named = λ version gs d n h. judge_by_text version gs _ n ∙ rw h; meant = refl; no_file = refl; name_plain = refl };
+  of_directions = record { named = λ version gs d n h. judge_by_text version gs _ n ∙ rw h; meant = refl; no_file = refl; name_plain = refl };
+  of_frame = record { named = λ version gs d n h. judge_by_text version gs _ n ∙ rw h; meant = refl; no_file = refl; name_plain = refl };
 }

@@ -1,5 +1,6 @@
 -- What an accepted reading of a written header tells: its fields, and that each of them may have its descriptor (`told`).
 -- Assumes nothing.
+use Rattle.std.specs.Prelude.{if◌then◌else◌}
 use Prim.Native.Nat.{ℕ, ◌<◌}
 use mathlib.Core.Path.{◌≡◌, refl, sym, ap, ◌∙◌, subst}
 use mathlib.Core.Bool.{Bool, true, false}
@@ -7,7 +8,7 @@ use mathlib.Core.List.{List, [], ◌∷◌, ◌++◌, append_assoc, append-nil}
 use mathlib.Core.Option.{Option, none, some}
 use lib.ListN.{length}
 use Rattle.format.specs.declared.Decimal.{Decimal}
-use Rattle.format.specs.Bytes.{if◌then◌else◌, bytes, every}
+use Rattle.format.specs.Bytes.{bytes, every}
 use Rattle.format.specs.Lines.{Line, line, lf, lines, unlines}
 use Rattle.format.specs.Fields.{Given, dimension, type, encoding, endian, sizes, space, space_dimension, space_origin, space_directions, measurement_frame}
 use Rattle.format.specs.Spaces.{space_count}
@@ -19,7 +20,7 @@ use Rattle.format.specs.HeaderWriter.{Orientation, orientation, space_text, orig
 use Rattle.format.proofs.Lines.{Shape, no_lines, lines_unique}
 use Rattle.format.proofs.Judged.{no_names}
 use Rattle.format.proofs.Header.{Complete, IsHeader, Fine, header_sound}
-use Rattle.theorem_roundtrip.proofs.Names.{Text, type_named_lem, encoding_named_lem, endian_named_lem, version_of_magic}
+use Rattle.theorem_roundtrip.proofs.Names.{Text, type_named, encoding_named, endian_named, version_of_magic}
 use Rattle.theorem_roundtrip.proofs.Numbers.{decimal_plain, decimal_text, spaced_text}
 use Rattle.theorem_roundtrip.proofs.Accepted.{Writable}
 use Rattle.theorem_roundtrip.proofs.Written.{first_line, first_fields, plain_line}
@@ -129,33 +130,33 @@ module _ (put : Inputs) where
   pub record Parts : Type 0 where
     pub space_fits : If put.i (λ a. Allowed put.version with_order space (space_text a))
     pub size_fits : If put.size (λ a. Allowed put.version with_space space_dimension (decimal a))
-    pub origin_fits_lem : If put.origin (λ a. Allowed put.version with_size space_origin (origin_text a))
-    pub directions_fit_lem : If put.directions (λ a. Allowed put.version with_origin space_directions (directions_text a))
-    pub frame_fits_lem : If put.frame (λ a. Allowed put.version with_directions measurement_frame (frame_text a))
+    pub origin_fits : If put.origin (λ a. Allowed put.version with_size space_origin (origin_text a))
+    pub directions_fit : If put.directions (λ a. Allowed put.version with_origin space_directions (directions_text a))
+    pub frame_fits : If put.frame (λ a. Allowed put.version with_directions measurement_frame (frame_text a))
 
   pub record Told (es : List Entry) (gs : List Given) (r : List Line) : Type 0 where
     pub fields : gs ≡ with_frame
     pub nothing_after : r ≡ []
     pub version_is : version_of es ≡ put.version
-    pub lines_of_lem : lines_of es ≡ first_line put.version ∷ rest_lines
+    pub lines_of : lines_of es ≡ first_line put.version ∷ rest_lines
     pub whole_is : Complete with_frame
     pub parts : Parts
 
   module _ (w : Numbers) (listed : Listed) where
-    abbrev pub type_text_lem : Text (bytes (type_name (type_at put.t)))
-    type_text_lem = (type_named_lem put.t w.type_in).text
+    abbrev pub type_text : Text (bytes (type_name (type_at put.t)))
+    type_text = (type_named put.t w.type_in).text
 
     abbrev pub encoding_text : Text (name_at encodings put.e)
-    encoding_text = (encoding_named_lem put.e w.encoding_in).text
+    encoding_text = (encoding_named put.e w.encoding_in).text
 
     pub order_text : If order (λ k. Text (name_at endians k))
-    order_text = if_asked (λ k. Text (name_at endians k)) (endian_needed put.t put.e) put.n (endian_named_lem put.n w.endian_in).text
+    order_text = if_asked (λ k. Text (name_at endians k)) (endian_needed put.t put.e) put.n (endian_named put.n w.endian_in).text
 
     pub listed_text : If put.i (λ k. Text (space_text k))
     listed_text = if_on (λ k. k < space_count) (λ k. Text (space_text k)) put.i listed space_text_lem
 
-    pub size_text_lem : If put.size (λ k. Text (decimal k))
-    size_text_lem = if_each (λ k. Text (decimal k)) put.size decimal_text
+    pub size_text : If put.size (λ k. Text (decimal k))
+    size_text = if_each (λ k. Text (decimal k)) put.size decimal_text
 
     pub given_origin : If put.origin (λ a. Text (origin_text a))
     given_origin = if_each (λ a. Text (origin_text a)) put.origin origin_text_lem
@@ -171,13 +172,13 @@ module _ (put : Inputs) where
     unfolding every
     shape =
         plain_line _ (decimal_plain put.version)
-        (plain_line _ type_text_lem.bytes_plain
+        (plain_line _ type_text.bytes_plain
         (plain_line _ (decimal_plain (length put.ns))
         (plain_line _ (spaced_text put.ns).bytes_plain
         (plain_line _ encoding_text.bytes_plain
         (option_shape "endian" endian (name_at endians) field_names.of_endian order order_text
         (option_shape "space" space space_text field_names.of_space put.i listed_text
-        (option_shape "space dimension" space_dimension decimal field_names.of_size put.size size_text_lem
+        (option_shape "space dimension" space_dimension decimal field_names.of_size put.size size_text
         (option_shape "space origin" space_origin origin_text field_names.of_origin put.origin given_origin
         (option_shape "space directions" space_directions directions_text field_names.of_directions put.directions given_directions
         (option_shape "measurement frame" measurement_frame frame_text field_names.of_frame put.frame given_frame
@@ -204,13 +205,13 @@ module _ (put : Inputs) where
     told {es} {gs} {r} h =
         let x = header_sound text h in
         let a₀ = first_told x in
-        let a₁ = field_rest put.version [] "type" type _ field_names.of_type type_text_lem a₀.1 in
+        let a₁ = field_rest put.version [] "type" type _ field_names.of_type type_text a₀.1 in
         let a₂ = field_rest put.version _ "dimension" dimension _ field_names.of_dimension (decimal_text (length put.ns)) a₁.1 in
         let a₃ = field_rest put.version _ "sizes" sizes _ field_names.of_sizes (spaced_text put.ns) a₂.1 in
         let a₄ = field_rest put.version _ "encoding" encoding _ field_names.of_encoding encoding_text a₃.1 in
         let a₅ = option_rest "endian" endian (name_at endians) field_names.of_endian put.version (first_fields put.ns put.t put.e) order order_text a₄.1 in
         let a₆ = option_rest "space" space space_text field_names.of_space put.version with_order put.i listed_text a₅.1 in
-        let a₇ = option_rest "space dimension" space_dimension decimal field_names.of_size put.version with_space put.size size_text_lem a₆.1 in
+        let a₇ = option_rest "space dimension" space_dimension decimal field_names.of_size put.version with_space put.size size_text a₆.1 in
         let a₈ = option_rest "space origin" space_origin origin_text field_names.of_origin put.version with_size put.origin given_origin a₇.1 in
         let a₉ = option_rest "space directions" space_directions directions_text field_names.of_directions put.version with_origin put.directions given_directions a₈.1 in
         let b = option_rest "measurement frame" measurement_frame frame_text field_names.of_frame put.version with_directions put.frame given_frame a₉.1 in
@@ -220,7 +221,7 @@ module _ (put : Inputs) where
           fields = c.0;
           nothing_after = d;
           version_is = ap version_of x.entries ∙ a₀.0;
-          lines_of_lem = sym (append-nil (lines_of es)) ∙ ap (λ (r : List Line). lines_of es ++ r) (sym d) ∙ sym x.split ∙ text_lines;
+          lines_of = sym (append-nil (lines_of es)) ∙ ap (λ (r : List Line). lines_of es ++ r) (sym d) ∙ sym x.split ∙ text_lines;
           whole_is = c.2;
-          parts = record { space_fits = a₆.0; size_fits = a₇.0; origin_fits_lem = a₈.0; directions_fit_lem = a₉.0; frame_fits_lem = b.0 };
+          parts = record { space_fits = a₆.0; size_fits = a₇.0; origin_fits = a₈.0; directions_fit = a₉.0; frame_fits = b.0 };
         }

@@ -1,12 +1,12 @@
 -- A header that is written with its orientation is read back (document 02, W2), as one statement: `HeadersReadBack`.
 -- It speaks of `write_header`, the definition that the header writer's contract cites, and of the answers of the reading calls.
-use Rattle.std.specs.Prelude.{ℕ, ◌≤◌, ◌<◌, ◌-◌, ◌≡◌, Bool, true, false, not, ◌&&◌, ◌||◌, List, [], ◌++◌, map, length, get_or, replicate}
+use Rattle.std.specs.Prelude.{ℕ, ◌≤◌, ◌<◌, ◌-◌, ◌≡◌, Bool, true, false, not, ◌&&◌, ◌||◌, List, [], ◌++◌, map, length, slice_index_or, replicate, if◌then◌else◌}
 use Rattle.std.proofs.Math.Option.{Option, none, some}
 use Rattle.format.specs.declared.Decimal.{Decimal}
 use Rattle.format.specs.declared.ReadAnswer.{ReadAnswer}
 use Rattle.format.specs.declared.VectorAnswer.{VectorAnswer}
 use Rattle.format.specs.declared.WriteAnswer.{WriteAnswer}
-use Rattle.format.specs.Bytes.{if◌then◌else◌, between, is_some, or_default, over}
+use Rattle.format.specs.Bytes.{between, is_some, or_default, over}
 use Rattle.format.specs.Limits.{max_file, max_axes, max_extent}
 use Rattle.format.specs.Refusals.{fine}
 use Rattle.format.specs.Lines.{lines}
@@ -139,7 +139,7 @@ origin_back o = origin_by (origin_given o)
 
 abbrev pub direction_by : ℕ → Option (List Direction) → VectorAnswer
 direction_by axis none = no_vector fine
-direction_by axis (some ds) = direction_given (get_or ds axis without)
+direction_by axis (some ds) = direction_given (slice_index_or ds axis without)
 
 abbrev pub direction_back : ℕ → Orientation → VectorAnswer
 direction_back axis o = direction_by axis (directions_given o)

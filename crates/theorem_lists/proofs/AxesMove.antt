@@ -1,6 +1,7 @@
 -- Axis records after any list of settings: the line that gives a field stays the same line (`line_stays`), so that a label or a unit is as far past its start as before, and
 -- its text, which is in the field's descriptor, is the same.
 -- Assumes nothing.
+use Rattle.std.specs.Prelude.{if◌then◌else◌}
 use Prim.Native.Nat.{ℕ, zero, suc, ◌+◌, ◌≤◌, ◌<◌}
 use native.Mathlib.Omega.{arith}
 use mathlib.Core.Path.{◌≡◌, refl, sym, ap, ◌∙◌}
@@ -14,7 +15,7 @@ use Rattle.format.specs.declared.Refusal.{Refusal}
 use Rattle.format.specs.declared.FindAnswer.{FindAnswer}
 use Rattle.format.specs.declared.CountAnswer.{CountAnswer}
 use Rattle.format.specs.declared.Axis.{Axis}
-use Rattle.format.specs.Bytes.{if◌then◌else◌, is_some, or_default, each, over}
+use Rattle.format.specs.Bytes.{is_some, or_default, each, over}
 use Rattle.format.specs.Refusals.{refusal, lent_too_short, fine}
 use Rattle.format.specs.Lines.{Line, text, ending, size}
 use Rattle.format.specs.Fields.{Given, given, named, descriptor_of, is_given, labels, units}
@@ -26,7 +27,7 @@ use Rattle.format.specs.Calls.{no_place, found_at, before_descriptor, given_plac
 use Rattle.format.specs.Found.{HasAt, Finds}
 use Rattle.format.specs.AxisRecords.{strings_of, string_place, string_place_of, axis_of, axes_of, axes_in, axes_call}
 use Rattle.format.proofs.Bytes.{length_each}
-use Rattle.format.proofs.Strings.{strings_counted, place_there, field_there_lem, string_text, Said, labels_said, units_said}
+use Rattle.format.proofs.Strings.{strings_counted, place_there, field_there, string_text, Said, labels_said, units_said}
 use Rattle.theorem_lists.specs.Lists.{last_accepted, is_field, line_start, moved_in, moved_axis, moved_axes, label_in, unit_in}
 use Rattle.theorem_lists.proofs.Entries.{pair_entry}
 use Rattle.theorem_lists.proofs.Settled.{held_entry, settled_entry, settled_entries, grown, after_list}
@@ -126,7 +127,7 @@ module _ (file : List ℕ) {es : List Entry} {gs : List Given} {ls : List Line} 
 
     string_placed : is_given f gs ≡ true → string_place_of f es gs i ≡ (line_start f es + before f (line_giving f es) + start_of string, length (text_of string))
     unfolding strings_of
-    string_placed g = go (descriptor_of f gs) refl (field_there_lem file e f) g
+    string_placed g = go (descriptor_of f gs) refl (field_there file e f) g
       where
         start : ℕ
         start = (field_place f 0 es).start

@@ -1,5 +1,6 @@
 -- What a list leaves past the file and past the count: zeros up to the longest file, then the first bytes; the first entries.
 -- Assumes nothing.
+use Rattle.std.specs.Prelude.{if◌then◌else◌}
 use Prim.Native.Nat.{ℕ, zero, suc, ◌+◌, ◌-◌, ◌≤◌, max}
 use native.Mathlib.Omega.{arith}
 use mathlib.Core.Path.{◌≡◌, refl, sym, ap, ◌∙◌}
@@ -10,7 +11,7 @@ use lib.ListN.{length, take, drop, replicate, length-map, take-append-drop, repl
 use lib.Seq.{drop-drop, drop_at, take-append_seam, length-take-le}
 use borrow.Author.Tests.{ltb-false, eqb-true, not-false}
 use Rattle.format.specs.declared.Refusal.{Refusal}
-use Rattle.format.specs.Bytes.{if◌then◌else◌, same, is_some, over}
+use Rattle.format.specs.Bytes.{same, is_some, over}
 use Rattle.format.specs.Limits.{max_file, max_header, max_lines}
 use Rattle.format.specs.Lines.{Line, line, ending, unlines, starts}
 use Rattle.format.specs.Fields.{pairs_since}

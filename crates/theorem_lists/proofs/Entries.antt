@@ -1,6 +1,7 @@
 -- The entries of a header once a key is set: their lines are `new_lines`, and the new file's header is accepted as these entries, with the
 -- fields of the old one.
 -- Assumes nothing.
+use Rattle.std.specs.Prelude.{if◌then◌else◌}
 use mathlib.Core.Path.{◌≡◌, refl, sym, ap, ◌∙◌, subst}
 use Prim.Native.Nat.{ℕ, ◌≤◌}
 use native.Mathlib.Omega.{arith}
@@ -8,7 +9,7 @@ use mathlib.Core.Bool.{Bool, true, false, false≢true}
 use mathlib.Core.List.{List, [], ◌∷◌, ◌++◌, cons≢nil}
 use mathlib.Core.Option.{Option, none, some, none-ne-some}
 use lib.ListN.{length}
-use Rattle.format.specs.Bytes.{if◌then◌else◌, is_some, or_else}
+use Rattle.format.specs.Bytes.{is_some, or_else}
 use Rattle.format.specs.Limits.{max_file, max_header, max_lines}
 use Rattle.format.specs.Lines.{Ending, Line, line, text, ending, lines, unlines}
 use Rattle.format.specs.Pairs.{plain}

@@ -1,5 +1,6 @@
 -- One setting, a list of settings, and the cases of refusal: the statement of specs/Lists.antt.
 -- Assumes nothing.
+use Rattle.std.specs.Prelude.{if◌then◌else◌}
 use mathlib.Core.Path.{◌≡◌, refl, sym, ap, ◌∙◌}
 use Prim.Native.Nat.{ℕ, ◌≤◌}
 use native.Mathlib.Omega.{arith}
@@ -11,7 +12,7 @@ use lib.ListN.{length, take, length-append, length-map}
 use lib.Seq.{take_at}
 use borrow.Author.Tests.{ltb-false, le-ltb, not-false, ne_eqb}
 use Rattle.format.specs.declared.Refusal.{Refusal}
-use Rattle.format.specs.Bytes.{if◌then◌else◌, is_some, or_else, or_default, over}
+use Rattle.format.specs.Bytes.{is_some, or_else, or_default, over}
 use Rattle.format.specs.Limits.{max_file, max_header, max_lines}
 use Rattle.format.specs.Refusals.{fine}
 use Rattle.format.specs.Lines.{Line, ending, unlines, starts}
@@ -169,16 +170,16 @@ module _ (l : Line) (n : ℕ) (gs : List Given) (ls : List Line) where
   step (changed (lent buf' used' table' count')) buf used table count done es k v h g f = rw (put_after_list done k v (ending l) es) at f
 
   -- every list
-  list_after_lem : (ss : List Setting) (x : Lent) (done : List Setting) (es : List Entry)
+  list_after : (ss : List Setting) (x : Lent) (done : List Setting) (es : List Entry)
       → Reads x (entry l (magic n) ∷ after_list done (ending l) es) gs ls
       → let after = set_keys ss x done in Reads after.0 (entry l (magic n) ∷ after_list after.1 (ending l) es) gs ls
   unfolding set_keys_by
-  list_after_lem [] x done es g = g
-  list_after_lem (setting k v ∷ ss) (lent buf used table count) done es g =
+  list_after [] x done es g = g
+  list_after (setting k v ∷ ss) (lent buf used table count) done es g =
       let x : Lent = lent buf used table count in
       let o : SetOutcome = set_key x (setting k v) in
       let a = set_answer buf used table count o in
-      list_after_lem ss (left a) (recorded a.0 (setting k v) done) es
+      list_after ss (left a) (recorded a.0 (setting k v) done) es
       (step o buf used table count done es k v (set_numbered x (setting k v)) g (set_after x (after_list done (ending l) es) k v g))
 
   -- what is lent after the accepted settings `done` is as stated
@@ -230,7 +231,7 @@ module _ (l : Line) (n : ℕ) (gs : List Given) (ls : List Line) where
   lists_from buf used table es h e t ss =
       let x : Lent = lent buf used table (length (entry l (magic n) ∷ es)) in
       settled_is (take used buf) (set_keys ss x []).0 (set_keys ss x []).1 es e
-      (list_after_lem ss x [] es (rw (after_list_nil (ending l) es) (record { reading = e; count = refl; table = t; fits = h })))
+      (list_after ss x [] es (rw (after_list_nil (ending l) es) (record { reading = e; count = refl; table = t; fits = h })))
 
 -- ---- the call
 

@@ -1,12 +1,12 @@
 -- The names under LIST stay: after any list of settings the lines from the first name on are those of the first file (`names_after_list`).
 -- Assumes nothing.
+use Rattle.std.specs.Prelude.{if◌then◌else◌}
 use mathlib.Core.Path.{◌≡◌, refl, sym, ap, subst, ◌∙◌}
 use Prim.Native.Nat.{ℕ}
 use mathlib.Core.Bool.{Bool, true, false, false≢true}
 use mathlib.Core.List.{List, [], ◌∷◌}
 use mathlib.Core.Option.{Option, none, some}
 use lib.ListN.{drop}
-use Rattle.format.specs.Bytes.{if◌then◌else◌}
 use Rattle.format.specs.Lines.{Ending, Line, line, text, ending}
 use Rattle.format.specs.Fields.{Given, given, named}
 use Rattle.format.specs.Descriptors.{names_follow}

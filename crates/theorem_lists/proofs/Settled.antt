@@ -1,12 +1,13 @@
 -- The header's entries after a list of settings, in closed form: one more setting gives the form of the longer list, their lines are
 -- `settled`, and each key has the value accepted for it last. `done` has the accepted settings, the last one first.
 -- Assumes nothing.
+use Rattle.std.specs.Prelude.{if◌then◌else◌}
 use mathlib.Core.Path.{◌≡◌, refl, sym, ap, ◌∙◌}
 use Prim.Native.Nat.{ℕ}
 use mathlib.Core.Bool.{Bool, true, false, ◌||◌, false≢true}
 use mathlib.Core.List.{List, [], ◌∷◌, ◌++◌}
 use mathlib.Core.Option.{Option, none, some}
-use Rattle.format.specs.Bytes.{if◌then◌else◌, same, is_some, or_else}
+use Rattle.format.specs.Bytes.{same, is_some, or_else}
 use Rattle.format.specs.Lines.{Ending, Line, line, ending}
 use Rattle.format.specs.Header.{Item, pair, pair_of, Entry, entry, line_of, item_of, lines_of, value_for, value_in, value_of}
 use Rattle.format.specs.Settings.{pair_text, has_key, Setting, setting}

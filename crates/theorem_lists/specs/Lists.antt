@@ -1,13 +1,13 @@
 -- What every list of settings does (demand 3; document 01, "Lists of settings"), as one statement: `SettingsHold`.
 -- It speaks of `set_key_call`, the definition that the setter's contract cites, and of `set_keys`, which is that call again and again.
-use Rattle.std.specs.Prelude.{ℕ, ◌+◌, ◌-◌, ◌≤◌, ◌<◌, max, ◌≡◌, Bool, true, false, not, ◌&&◌, ◌||◌, List, [], ◌∷◌, ◌++◌, map, eqb, ltb, ℤ, length, take, drop, replicate}
+use Rattle.std.specs.Prelude.{ℕ, ◌+◌, ◌-◌, ◌≤◌, ◌<◌, max, ◌≡◌, Bool, true, false, not, ◌&&◌, ◌||◌, List, [], ◌∷◌, ◌++◌, map, ◌==◌, nat_lt, ℤ, length, take, drop, replicate, if◌then◌else◌}
 use Rattle.std.proofs.Math.Option.{Option, none, some}
 use Rattle.format.specs.declared.Refusal.{Refusal}
 use Rattle.format.specs.declared.Reading.{Reading}
 use Rattle.format.specs.declared.DataAnswer.{DataAnswer}
 use Rattle.format.specs.declared.CountAnswer.{CountAnswer}
 use Rattle.format.specs.declared.Axis.{Axis}
-use Rattle.format.specs.Bytes.{if◌then◌else◌, same, is_some, or_else, or_default, over}
+use Rattle.format.specs.Bytes.{same, is_some, or_else, or_default, over}
 use Rattle.format.specs.Limits.{max_file, max_header, max_lines}
 use Rattle.format.specs.Refusals.{file_too_long, header_too_long, too_many_lines, not_in_version, lent_too_short, bad_key, bad_value, wrong_table, refusal, fine}
 use Rattle.format.specs.Lines.{Line, line, Ending, ending, size, unlines}
@@ -108,7 +108,7 @@ resized n k before r =
 
 -- the data was found, in the header's file
 abbrev pub in_first : DataAnswer → Bool
-in_first d = eqb d.refusal.number 0 && not d.second
+in_first d = d.refusal.number == 0 && not d.second
 
 -- the place of the data once a header of h bytes has n: data in the header's file starts as far past the header as before,
 -- and a place in the second file stays, as does a refusal
@@ -121,7 +121,7 @@ moved_place h n d =
 -- what a line gives is the field f
 abbrev pub is_field : ℕ → Option Given → Bool
 is_field f none = false
-is_field f (some (given g d)) = eqb f g
+is_field f (some (given g d)) = f == g
 is_field f (some (named t)) = false
 
 -- where the line that gives the field f starts in the header: after as many bytes as the lines before it have
@@ -229,17 +229,17 @@ first_case (c ∷ cs) = if c.0 then some c.1 else first_case cs
 -- of the new file: 3, 4, 1, 22
 abbrev pub new_file_cases : List ℕ → List ℕ → List Line → List Line → List Case
 new_file_cases buf table new rest =
-    (ltb max_header (length (unlines new)), refusal header_too_long)
-    ∷ (ltb max_lines (length new), refusal too_many_lines)
-    ∷ (ltb max_file (length (unlines new ++ unlines rest)), refusal file_too_long)
-    ∷ (ltb (length buf) (length (unlines new ++ unlines rest)) || ltb (length table) (length new), refusal lent_too_short)
+    (nat_lt max_header (length (unlines new)), refusal header_too_long)
+    ∷ (nat_lt max_lines (length new), refusal too_many_lines)
+    ∷ (nat_lt max_file (length (unlines new ++ unlines rest)), refusal file_too_long)
+    ∷ (nat_lt (length buf) (length (unlines new ++ unlines rest)) || nat_lt (length table) (length new), refusal lent_too_short)
     ∷ []
 
 -- after the reading: its own refusal, or 8, 24, 25, 26 and those of the new file
 abbrev pub read_cases : List ℕ → List ℕ → ℕ → List ℕ → List ℕ → Outcome → List Case
 read_cases buf table count k v (refused r) = (true, r) ∷ []
 read_cases buf table count k v (accepted es gs ls) =
-    (ltb (version_of es) pairs_since, refusal not_in_version)
+    (nat_lt (version_of es) pairs_since, refusal not_in_version)
     ∷ (not (key_fine k), refusal bad_key)
     ∷ (not (value_fine v), refusal bad_value)
     ∷ (not (table_fine table count (table_of es)), refusal wrong_table)
@@ -248,7 +248,7 @@ read_cases buf table count k v (accepted es gs ls) =
 -- 22 where the used length passes the buffer, then the rest
 abbrev pub set_cases : Lent → Setting → List Case
 set_cases (lent buf used table count) (setting k v) =
-    (ltb (length buf) used, refusal lent_too_short) ∷ read_cases buf table count k v (header (take used buf))
+    (nat_lt (length buf) used, refusal lent_too_short) ∷ read_cases buf table count k v (header (take used buf))
 
 -- ---- the statement
 
@@ -267,6 +267,6 @@ pub record SettingsHold : Type 0 where
   -- of any single setting: the refusal is the first case that holds, none if no case does
   pub cases : (l : Lent) (s : Setting) → (call_on set_key_call l s).0.refusal ≡ or_default fine (first_case (set_cases l s))
   -- it is accepted, which the number 0 says, exactly when no case holds
-  pub taken : (l : Lent) (s : Setting) → eqb (call_on set_key_call l s).0.refusal.number 0 ≡ not (is_some (first_case (set_cases l s)))
+  pub taken : (l : Lent) (s : Setting) → ((call_on set_key_call l s).0.refusal.number == 0) ≡ not (is_some (first_case (set_cases l s)))
   -- a refused one leaves all that it was lent as it was
-  pub kept : (l : Lent) (s : Setting) → eqb (call_on set_key_call l s).0.refusal.number 0 ≡ false → left (call_on set_key_call l s) ≡ l
+  pub kept : (l : Lent) (s : Setting) → ((call_on set_key_call l s).0.refusal.number == 0) ≡ false → left (call_on set_key_call l s) ≡ l

@@ -1,5 +1,6 @@
 -- Components that are written: what is read from their text, exactly.
 -- Assumes nothing.
+use Rattle.std.specs.Prelude.{if◌then◌else◌}
 use Prim.Native.Nat.{ℕ, zero, suc, ◌≤◌, ◌<◌}
 use native.Mathlib.Omega.{arith}
 use mathlib.Core.Path.{◌≡◌, refl, sym, ap, ◌∙◌}
@@ -11,8 +12,7 @@ use lib.IntN.{ℤ, pos, negsuc, nat_abs, +ℤ_idr}
 use lib.ListN.{length}
 use borrow.Author.Tests.{leb-true, lt-leb, lt-ltb, eqb-true, ne_eqb}
 use Rattle.format.specs.declared.Decimal.{Decimal}
-use Rattle.format.specs.Bytes.{if◌then◌else◌, bytes, between, is_digit, is_empty, every, alike, COMMA}
-use Rattle.format.specs.Words.{number}
+use Rattle.format.specs.Bytes.{bytes, between, is_digit, is_empty, every, alike, COMMA}
 use Rattle.format.specs.Decimals.{num, marked, numeric, nan, inf, minus_inf, digits_of, after_digits, numeral_value, component}
 use Rattle.format.specs.Writer.{decimal, signed_decimal}
 use Rattle.format.specs.HeaderWriter.{number_text, component_text}
@@ -100,8 +100,8 @@ parts_power z p = rw (decimal_value (nat_abs p), sign_back p) (+ℤ_idr p)
 kept_number : (z p : ℤ) → kept (num z p) ≡ in_range (nat_abs z) p
 kept_number z p = refl
 
-number_said_lem : (z p : ℤ) → component (number_text z p) ≡ (if kept (num z p) then some (num z p) else none)
-number_said_lem z p =
+number_said : (z p : ℤ) → component (number_text z p) ≡ (if kept (num z p) then some (num z p) else none)
+number_said z p =
     let x = parts_of z p in
     let m = number_meant x (rw (append-nil, some_digits_lem (nat_abs z)) (some_digits_lem (nat_abs p))) in
     ap component (sym (parts_text_lem z p)) ∙ m.said ∙ rw (parts_number z p, parts_power z p, sign_back z, kept_number z p)
@@ -128,7 +128,7 @@ past_said d h = ap component (past_text d h)
 said_of : (z p : ℤ) (k : ℕ)
     → let d : Decimal = record { number = z; power = p; kind = k } in component (component_text d) ≡ (if kept (meant d) then some (meant d) else none)
 unfolding component component_text alike
-said_of z p zero = number_said_lem z p
+said_of z p zero = number_said z p
 said_of z p (suc zero) = refl
 said_of z p (suc (suc zero)) = refl
 said_of z p (suc (suc (suc zero))) = refl

@@ -1,5 +1,6 @@
 -- What `component` says of a text that is put together from parts.
 -- Assumes nothing.
+use Rattle.std.specs.Prelude.{if◌then◌else◌}
 use Prim.Native.Nat.{ℕ, ◌≤◌, ◌<◌}
 use native.Mathlib.Omega.{arith}
 use mathlib.Core.Path.{◌≡◌, refl, sym, ap, ◌∙◌}
@@ -10,7 +11,7 @@ use lib.Dec.{leb}
 use lib.IntN.{ℤ, pos, nat_abs, ◌-ℤ◌}
 use lib.ListN.{length}
 use borrow.Author.Tests.{leb-true, lt-leb, ne_eqb}
-use Rattle.format.specs.Bytes.{if◌then◌else◌, is_digit, is_empty, every, alike, small, or_default, POINT}
+use Rattle.format.specs.Bytes.{is_digit, is_empty, every, alike, small, or_default, POINT}
 use Rattle.format.specs.Decimals.{num, is_minus, after_sign, signed_of, digits_of, after_digits, numeral, pointed, numeral_of, exponent_of, point_folded, valued, numeral_value, component}
 use Rattle.format.proofs.Bytes.{and_left, and_right, every_left, every_right}
 use Rattle.theorem_orientation.specs.Meaning.{Sign, bare, plus, minus, sign_text, Exponent, exponent, exponent_text, Parts, point_text, fraction, some_digits, exponent_formed, well_formed, signed, whole_number, exponent_value, number_of, power_of, in_range, NumberMeant}

@@ -1,5 +1,6 @@
 -- Whatever `component` takes is put together from parts, or is a word.
 -- Assumes nothing.
+use Rattle.std.specs.Prelude.{if◌then◌else◌}
 use Prim.Native.Nat.{ℕ, ◌+◌, ◌-◌, ◌*◌}
 use native.Mathlib.Omega.{arith}
 use mathlib.Core.Path.{◌≡◌, refl, ap, ◌∙◌}
@@ -10,7 +11,7 @@ use lib.Dec.{eqb}
 use lib.ListN.{length}
 use borrow.Author.Tests.{eqb-true}
 use Rattle.format.specs.declared.Decimal.{Decimal}
-use Rattle.format.specs.Bytes.{if◌then◌else◌, is_digit, is_empty, every, or_default, PLUS, MINUS, POINT}
+use Rattle.format.specs.Bytes.{is_digit, is_empty, every, or_default, PLUS, MINUS, POINT}
 use Rattle.format.specs.Words.{digits_from, number}
 use Rattle.format.specs.Decimals.{is_minus, after_sign, digits_of, after_digits, numeral, numeral_of, is_e, signed_size, exponent_of, with_exponent, numeral_value, unsigned_value, component}
 use Rattle.format.proofs.Bytes.{and_both, every_append}
@@ -180,5 +181,5 @@ module _ (t : List ℕ) (d : Decimal) where
   unfolding component
   form h = let s = sign_of t in unsigned_form s (rw s.negates at h)
 
-pub decimals_mean_lem : DecimalsMean
-decimals_mean_lem = record { numbers = number_meant; nans = nan_said; infinities = inf_said; only = form }
+pub decimals_mean : DecimalsMean
+decimals_mean = record { numbers = number_meant; nans = nan_said; infinities = inf_said; only = form }

@@ -1,5 +1,6 @@
 -- Vectors, frames and directions that are written: what is read from their text, exactly.
 -- Assumes nothing.
+use Rattle.std.specs.Prelude.{if◌then◌else◌}
 use Prim.Native.Nat.{ℕ, zero, suc, ◌≤◌}
 use native.Mathlib.Omega.{arith}
 use mathlib.Core.Path.{◌≡◌, refl, ap, ◌∙◌}
@@ -10,7 +11,7 @@ use lib.Dec.{eqb, ltb}
 use lib.ListN.{length, length-map}
 use borrow.Author.Tests.{lt-ltb, eqb-true, ne_eqb}
 use Rattle.format.specs.declared.Decimal.{Decimal}
-use Rattle.format.specs.Bytes.{if◌then◌else◌, bytes, alike, CLOSE, COMMA}
+use Rattle.format.specs.Bytes.{bytes, alike, CLOSE, COMMA}
 use Rattle.format.specs.Words.{trim_front, trim_end}
 use Rattle.format.specs.Decimals.{digits_of, after_digits, numeral_value, component}
 use Rattle.format.specs.Vectors.{without, along, part_or_join, vector_words, closed, enclosed, comma_parts, cons_said, all_said, said_by, component_in, vector_said, along_said, direction_said, vectors_said, directions_said}

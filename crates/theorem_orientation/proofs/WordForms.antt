@@ -1,5 +1,6 @@
 -- The words nan, inf, infinity after a sign: what `component` says of them.
 -- Assumes nothing.
+use Rattle.std.specs.Prelude.{if◌then◌else◌}
 use Prim.Native.Nat.{ℕ, ◌+◌, ◌≤◌}
 use native.Mathlib.Omega.{arith}
 use mathlib.Core.Path.{◌≡◌, refl}
@@ -8,7 +9,7 @@ use mathlib.Core.List.{List, [], ◌∷◌, ◌++◌}
 use mathlib.Core.Option.{some}
 use lib.Dec.{eqb}
 use borrow.Author.Tests.{eqb-true, ne_eqb}
-use Rattle.format.specs.Bytes.{if◌then◌else◌, bytes, between, small, alike}
+use Rattle.format.specs.Bytes.{bytes, between, small, alike}
 use Rattle.format.specs.Decimals.{marked, nan, inf, minus_inf, component}
 use Rattle.format.proofs.Bytes.{and_left}
 use Rattle.theorem_orientation.specs.Meaning.{Sign, bare, plus, minus, sign_text, infinite, is_nan, is_inf}

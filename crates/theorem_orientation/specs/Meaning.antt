@@ -1,9 +1,9 @@
 -- What the text of a decimal means, stated apart from the definition `component` (document 02, W2), as one statement: `DecimalsMean`.
 -- A text is put together from the parts that strtod of C takes; its value is the sum of its digits, each times ten to the power of its place.
-use Rattle.std.specs.Prelude.{ℕ, ◌+◌, ◌-◌, ◌*◌, ◌^◌, ◌≡◌, Bool, true, not, ◌&&◌, ◌||◌, List, [], ◌∷◌, ◌++◌, ltb, leb, ℤ, pos, negsuc, neg_ℤ, nat_abs, ◌+ℤ◌, ◌-ℤ◌, length}
+use Rattle.std.specs.Prelude.{ℕ, ◌+◌, ◌-◌, ◌*◌, ◌^◌, ◌≡◌, Bool, true, not, ◌&&◌, ◌||◌, List, [], ◌∷◌, ◌++◌, nat_lt, nat_le, ℤ, pos, negsuc, neg_ℤ, nat_abs, ◌+ℤ◌, ◌-ℤ◌, length, if◌then◌else◌}
 use Rattle.std.proofs.Math.Option.{Option, none, some}
 use Rattle.format.specs.declared.Decimal.{Decimal}
-use Rattle.format.specs.Bytes.{if◌then◌else◌, bytes, is_digit, is_empty, alike, every, or_default, PLUS, MINUS, POINT}
+use Rattle.format.specs.Bytes.{bytes, is_digit, is_empty, alike, every, or_default, PLUS, MINUS, POINT}
 use Rattle.format.specs.Decimals.{num, marked, nan, inf, minus_inf, component}
 
 -- ---- the text
@@ -118,7 +118,7 @@ abbrev pub most_power : ℕ
 most_power = 400
 
 abbrev pub in_range : ℕ → ℤ → Bool
-in_range n p = ltb n (10 ^ most_digits) && leb (nat_abs p) most_power
+in_range n p = nat_lt n (10 ^ most_digits) && nat_le (nat_abs p) most_power
 
 pub record NumberMeant (x : Parts) : Type 0 where
   -- the number times ten to the power is the value; k is large enough if k plus the power, the place of the last digit, is not negative

@@ -1,8 +1,8 @@
 -- What is written of an orientation is read back (document 02, W2), as one statement: `OrientationReadsBack`.
-use Rattle.std.specs.Prelude.{ℕ, ◌<◌, ◌≡◌, Bool, true, ◌&&◌, List, [], ◌∷◌, map, eqb, ltb, leb, nat_abs, length}
+use Rattle.std.specs.Prelude.{ℕ, ◌<◌, ◌≡◌, Bool, true, ◌&&◌, List, [], ◌∷◌, map, ◌==◌, nat_lt, nat_le, nat_abs, length, if◌then◌else◌}
 use Rattle.std.proofs.Math.Option.{Option, none, some}
 use Rattle.format.specs.declared.Decimal.{Decimal}
-use Rattle.format.specs.Bytes.{if◌then◌else◌, between}
+use Rattle.format.specs.Bytes.{between}
 use Rattle.format.specs.Decimals.{numeric, nan, minus_inf, marked, past_number, max_power, component}
 use Rattle.format.specs.Spaces.{space_count, space_named}
 use Rattle.format.specs.Vectors.{Direction, without, along, vector_words, vector_said, vectors_said, directions_said}
@@ -13,8 +13,8 @@ use Rattle.format.specs.HeaderWriter.{component_text, vector_text, origin_text, 
 -- a number of at most eighteen digits and a power from -400 to 400; or a mark, number and power 0
 abbrev pub kept : Decimal → Bool
 kept d =
-    if eqb d.kind numeric then ltb (nat_abs d.number) past_number && leb (nat_abs d.power) max_power
-    else between nan minus_inf d.kind && (eqb (nat_abs d.number) 0 && eqb (nat_abs d.power) 0)
+    if d.kind == numeric then nat_lt (nat_abs d.number) past_number && nat_le (nat_abs d.power) max_power
+    else between nan minus_inf d.kind && (nat_abs d.number == 0 && nat_abs d.power == 0)
 
 module _ {A : Type 0} where
   -- the test holds for each
@@ -24,11 +24,11 @@ module _ {A : Type 0} where
 
   -- the same, and there are n
   abbrev pub each_of : ℕ → (A → Bool) → List A → Bool
-  each_of n p as' = eqb (length as') n && each p as'
+  each_of n p as' = length as' == n && each p as'
 
 -- a vector of n components, at least one
 abbrev pub kept_vector : ℕ → List Decimal → Bool
-kept_vector n ds = ltb 0 n && each_of n kept ds
+kept_vector n ds = nat_lt 0 n && each_of n kept ds
 
 abbrev pub kept_direction : ℕ → Direction → Bool
 kept_direction n without = true
@@ -38,7 +38,7 @@ kept_direction n (along ds) = kept_vector n ds
 
 -- number and power of a mark are not written
 abbrev pub meant : Decimal → Decimal
-meant d = if eqb d.kind numeric then d else marked d.kind
+meant d = if d.kind == numeric then d else marked d.kind
 
 abbrev pub meant_direction : Direction → Direction
 meant_direction without = without

@@ -1,4 +1,6 @@
 // That the definitions of decimals and vectors are to be believed, and that what is written of an orientation is read back.
+#![tactic(auto)]
+
 ghost use Rattle.theorem_orientation.specs.Meaning.{DecimalsMean};
 ghost use Rattle.theorem_orientation.specs.ReadBack.{OrientationReadsBack};
 

@@ -1,5 +1,6 @@
 -- Where the list is long enough, no refusal of samples is 22.
 -- Assumes nothing.
+use Rattle.std.specs.Prelude.{if◌then◌else◌}
 use mathlib.Core.Bool.{Bool, true, false}
 use mathlib.Core.List.{List, [], ◌∷◌}
 use mathlib.Core.Option.{Option, none, some}
@@ -9,7 +10,6 @@ use lib.Dec.{eqb}
 use lib.IntN.{ℤ}
 use lib.ListN.{take, drop}
 use borrow.Author.Tests.{le-ltb}
-use Rattle.format.specs.Bytes.{if◌then◌else◌}
 use Rattle.format.specs.Refusals.{bad_sample, data_ends_early, refusal, fine}
 use Rattle.format.specs.Fields.{Given}
 use Rattle.format.specs.Descriptors.{NumberKind, encoding_of, endian_of, type_of, number_kind, sample_bytes, raw, as_text}

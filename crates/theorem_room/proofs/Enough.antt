@@ -1,5 +1,6 @@
 -- The room is enough: each part of the statement.
 -- Assumes nothing.
+use Rattle.std.specs.Prelude.{if◌then◌else◌}
 use mathlib.Core.Path.{◌≡◌, refl, sym, ap, ◌∙◌, subst}
 use mathlib.Core.Bool.{Bool, true, false, not, ◌||◌}
 use mathlib.Core.List.{List, [], ◌∷◌, ◌++◌}
@@ -17,7 +18,7 @@ use Rattle.format.specs.declared.ValueAnswer.{ValueAnswer}
 use Rattle.format.specs.declared.CountAnswer.{CountAnswer}
 use Rattle.format.specs.declared.WriteAnswer.{WriteAnswer}
 use Rattle.format.specs.declared.SetAnswer.{SetAnswer}
-use Rattle.format.specs.Bytes.{if◌then◌else◌, is_some, or_else, same, over}
+use Rattle.format.specs.Bytes.{is_some, or_else, same, over}
 use Rattle.format.specs.Limits.{max_file, max_header, max_lines}
 use Rattle.format.specs.declared.Refusal.{Refusal}
 use Rattle.format.specs.Refusals.{extent_too_large, lent_too_short, refusal, fine, header_too_long, too_many_lines, file_too_long, not_in_version, bad_key, bad_value, wrong_table}

@@ -1,6 +1,7 @@
 -- No name of a data file is longer than `name_room`: a name under LIST and a single name stand in the header, and a pattern's name is the pattern around a number
 -- that takes at most as many bytes as the largest width.
 -- Assumes nothing.
+use Rattle.std.specs.Prelude.{if◌then◌else◌}
 use mathlib.Core.Path.{◌≡◌, refl, ap}
 use mathlib.Core.Bool.{Bool, true, false, not, ◌&&◌, false≢true}
 use mathlib.Core.List.{List, [], ◌∷◌, ◌++◌}
@@ -11,7 +12,7 @@ use native.Mathlib.Nat.{le_trans, mul-le-mul_right, div-mul-le_self}
 use lib.Dec.{eqb, ltb, leb}
 use lib.ListN.{length, drop, get_or, replicate, length-append, length-replicate}
 use borrow.Author.Tests.{leb-true, leb-false, le-ltb, ltb-false}
-use Rattle.format.specs.Bytes.{if◌then◌else◌, space_or_tab, is_digit, is_empty, or_default, PERCENT, SPACE}
+use Rattle.format.specs.Bytes.{space_or_tab, is_digit, is_empty, or_default, PERCENT, SPACE}
 use Rattle.format.specs.Limits.{max_header, max_file_number, max_width}
 use Rattle.format.specs.Lines.{Line, line, text, size}
 use Rattle.format.specs.Words.{number, within, number_in, value_of_number, join_first, parts, not_empty, words}
@@ -25,7 +26,7 @@ use Rattle.format.specs.Writer.{decimal}
 use Rattle.format.specs.Files.{file_name_of, file_name_in, file_name_call}
 use Rattle.format.specs.Room.{Enough, name_room}
 use Rattle.format.proofs.Bytes.{and_right}
-use Rattle.format.proofs.Lines.{length_unlines_cons, size_line_lem}
+use Rattle.format.proofs.Lines.{length_unlines_cons, size_line}
 use Rattle.format.proofs.Judged.{after_cases}
 use Rattle.format.proofs.Header.{Fine, fine_cases, header_sound}
 use Rattle.format.proofs.Numbered.{NumberedOutcome, header_numbered}
@@ -220,7 +221,7 @@ within_last n [] t h l = (l, tt)
 within_last n (u ∷ ts) t h l = (h.0, within_last n ts t h.1 l)
 
 text_within : (l : Line) → length (text l) ≤ size l
-text_within (line t e) = omega (arith, size_line_lem t e)
+text_within (line t e) = omega (arith, size_line t e)
 
 names_within : (version : ℕ) (es : List Entry) (gs gs' : List Given) (r : List Line) → Fine version gs es gs' r → header_length es ≤ max_header
     → AllWithin max_header (file_names gs) → AllWithin max_header (file_names gs')

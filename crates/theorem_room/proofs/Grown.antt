@@ -1,12 +1,13 @@
 -- How long a file is at most once a key is set.
 -- Assumes nothing.
+use Rattle.std.specs.Prelude.{if◌then◌else◌}
 use mathlib.Core.Bool.{Bool, true, false}
 use mathlib.Core.List.{List, [], ◌∷◌, ◌++◌}
 use Prim.Native.Nat.{ℕ, ◌+◌, ◌*◌, ◌≤◌}
 use native.Mathlib.Omega.{arith}
 use lib.Dec.{eqb}
 use lib.ListN.{length, length-append}
-use Rattle.format.specs.Bytes.{if◌then◌else◌, bytes, is_some, LF, BACKSLASH}
+use Rattle.format.specs.Bytes.{bytes, is_some, LF, BACKSLASH}
 use Rattle.format.specs.Lines.{Ending, lf, crlf, eof, line, ending_bytes, unlines}
 use Rattle.format.specs.Pairs.{escape}
 use Rattle.format.specs.Header.{Entry, entry, lines_of, value_in}

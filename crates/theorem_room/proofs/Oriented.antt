@@ -1,5 +1,6 @@
 -- Where the list has room for the most decimals that an orientation may have, no refusal of its calls is 22.
 -- Assumes nothing.
+use Rattle.std.specs.Prelude.{if◌then◌else◌}
 use Prim.Native.Nat.{ℕ, ◌+◌, ◌*◌, ◌-◌, ◌/◌, ◌≤◌}
 use native.Mathlib.Nat.{mul-suc}
 use native.Mathlib.Omega.{arith}
@@ -11,7 +12,7 @@ use lib.Dec.{eqb}
 use lib.ListN.{length, length-append, length-replicate}
 use borrow.Author.Tests.{eqb-true, le-ltb}
 use Rattle.format.specs.declared.Decimal.{Decimal}
-use Rattle.format.specs.Bytes.{if◌then◌else◌, bytes, alike, or_default}
+use Rattle.format.specs.Bytes.{bytes, alike, or_default}
 use Rattle.format.specs.Limits.{max_axes, max_space}
 use Rattle.format.specs.Lines.{Line}
 use Rattle.format.specs.Fields.{Given, descriptor_of, space_origin, space_directions, measurement_frame}

@@ -1,5 +1,6 @@
 -- How long a written file is at most.
 -- Assumes nothing.
+use Rattle.std.specs.Prelude.{if◌then◌else◌}
 use mathlib.Core.Path.{◌≡◌, refl, sym}
 use mathlib.Core.Bool.{Bool, true, false, not}
 use mathlib.Core.List.{List, [], ◌∷◌, ◌++◌}
@@ -10,7 +11,7 @@ use lib.Dec.{eqb, ltb, lit<}
 use lib.IntN.{ℤ, pos, negsuc}
 use lib.ListN.{length, length-append}
 use borrow.Author.Tests.{ltb-true, leb-true, le-ltb}
-use Rattle.format.specs.Bytes.{if◌then◌else◌, LF}
+use Rattle.format.specs.Bytes.{LF}
 use Rattle.format.specs.Limits.{max_file, max_extent}
 use Rattle.format.specs.Refusals.{file_too_long, bad_descriptor, extent_too_large, float_samples, bad_sample, lent_too_short, wrong_count}
 use Rattle.format.specs.Lines.{unlines}
@@ -79,7 +80,7 @@ module _ (version : ℕ) (ns : List ℕ) (t e n : ℕ) (zs : List ℤ) where
   file_bound a =
       let h = short_entries version ns t e n zs a (endian_needed t e) in
       let s : length (unlines (header_lines version ns t e n)) ≤ 511 = rw (sym (lines_of_entries (endian_needed t e) version ns t e n refl)) h in
-      simp length-append (omega (arith, data_bound (sample_bytes t) (sample_bytes_to t a.numbers.type_in) e (number_kind t) n zs a.in_type_lem))
+      simp length-append (omega (arith, data_bound (sample_bytes t) (sample_bytes_to t a.numbers.type_in) e (number_kind t) n zs a.in_type))
 
   -- a file that is refused for its room alone is written to as much room as it takes
   short_of : (room : ℕ) → write_refusal version ns t e n zs room ≡ lent_too_short

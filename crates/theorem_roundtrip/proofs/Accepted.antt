@@ -1,5 +1,6 @@
 -- What the writer accepts, from its refusals: `accepted_is`.
 -- Assumes nothing.
+use Rattle.std.specs.Prelude.{if◌then◌else◌}
 use mathlib.Core.Path.{◌≡◌, refl}
 use Prim.Native.Nat.{ℕ, ◌≤◌, ◌<◌}
 use native.Mathlib.Omega.{arith}
@@ -10,13 +11,13 @@ use lib.Dec.{eqb, ltb, leb}
 use lib.IntN.{ℤ}
 use lib.ListN.{length}
 use borrow.Author.Tests.{ltb-true, ltb-false, leb-true, eqb-true, not-true, not-false}
-use Rattle.format.specs.Bytes.{if◌then◌else◌, between, is_in}
+use Rattle.format.specs.Bytes.{between, is_in}
 use Rattle.format.specs.Limits.{max_file, max_axes, max_extent, max_version}
 use Rattle.format.specs.Descriptors.{types, encodings, endians, sample_bytes, number_kind, is_floating, product, extent}
 use Rattle.format.specs.Writer.{file_bytes, all_in_type, writable, write_refusal}
 use Rattle.format.proofs.Bytes.{and_left, and_right}
 use Rattle.theorem_roundtrip.proofs.Names.{sample_bytes_lem}
-use Rattle.theorem_roundtrip.proofs.Numbers.{Sizes, sizes_fine_lem}
+use Rattle.theorem_roundtrip.proofs.Numbers.{Sizes, sizes_fine}
 
 -- the version is known, each number is in its list, there is a size for each of 1 to 16 axes, and none is 0
 pub record Writable (version : ℕ) (sizes : List ℕ) (t e endian : ℕ) : Type 0 where
@@ -36,7 +37,7 @@ pub record Accepted (version : ℕ) (sizes : List ℕ) (t e endian : ℕ) (zs : 
   pub extent_small : extent sizes t ≤ max_extent
   pub integers : is_floating (number_kind t) ≡ false
   pub count : length zs ≡ product sizes
-  pub in_type_lem : all_in_type (number_kind t) (sample_bytes t) zs ≡ true
+  pub in_type : all_in_type (number_kind t) (sample_bytes t) zs ≡ true
   pub file_small : length (file_bytes version sizes t e endian zs) ≤ max_file
 
 -- nothing is refused where no test is met
@@ -87,11 +88,11 @@ module _ (version : ℕ) (sizes : List ℕ) (t e endian : ℕ) where
       let below : product sizes ≤ extent sizes t = le-mul_of_pos_right (product sizes) (sample_bytes_lem t w.type_in) in (
         record {
           numbers = w;
-          sizes_in = sizes_fine_lem sizes w.no_zero (omega arith);
+          sizes_in = sizes_fine sizes w.no_zero (omega arith);
           extent_small = small;
           integers = r₃.0;
           count = eqb-true (length zs) (product sizes) (not-false (eqb (length zs) (product sizes)) r₄.0);
-          in_type_lem = not-false fine r₅.0;
+          in_type = not-false fine r₅.0;
           file_small = ltb-false max_file (length file) r₆.0;
         },
         ltb-false room (length file) r₇.0,

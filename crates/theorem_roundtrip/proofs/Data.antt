@@ -1,5 +1,6 @@
 -- The written data: raw data has the bytes of the extent, and where no endian is written the order of bytes does not matter.
 -- Assumes nothing.
+use Rattle.std.specs.Prelude.{if◌then◌else◌}
 use mathlib.Core.Path.{◌≡◌, refl, sym, ◌∙◌}
 use Prim.Native.Nat.{ℕ, ◌*◌, ◌%◌, ◌≤◌, ◌<◌}
 use native.Mathlib.Omega.{arith}
@@ -10,7 +11,6 @@ use lib.Dec.{eqb, ltb}
 use lib.IntN.{ℤ}
 use lib.ListN.{length, length-append}
 use borrow.Author.Tests.{ltb-false, eqb-false}
-use Rattle.format.specs.Bytes.{if◌then◌else◌}
 use Rattle.format.specs.Descriptors.{encodings, raw, as_text, hex, big}
 use Rattle.format.specs.Samples.{to_bytes, ordered, from_signed, value_bytes}
 use Rattle.format.specs.Writer.{raw_data, data_bytes}
@@ -23,9 +23,9 @@ unfolding raw_data
 raw_length w endian [] = omega arith
 raw_length w endian (z ∷ zs) = rw (length-append, length_value_bytes w endian z, raw_length w endian zs) (omega (arith, suc-mul (length zs) w))
 
-pub data_length_lem : (encoding w endian : ℕ) (zs : List ℤ) → eqb encoding raw ≡ true → length (data_bytes encoding w endian zs) ≡ length zs * w
+pub data_length : (encoding w endian : ℕ) (zs : List ℤ) → eqb encoding raw ≡ true → length (data_bytes encoding w endian zs) ≡ length zs * w
 unfolding data_bytes
-data_length_lem encoding w endian zs h = rw h (raw_length w endian zs)
+data_length encoding w endian zs h = rw h (raw_length w endian zs)
 
 -- ---- the order of bytes
 

@@ -73,17 +73,17 @@ named rows name n h i l =
     }
 
 -- the names that are written for types, encodings and endians
-pub type_named_lem : (t : ℕ) → t < length types → Named (map type_names types) (bytes (type_name (type_at t))) t
+pub type_named : (t : ℕ) → t < length types → Named (map type_names types) (bytes (type_name (type_at t))) t
 unfolding every_below every same alike is_any row_from trim_front trim_end type_at
-type_named_lem = named (map type_names types) (λ t. bytes (type_name (type_at t))) (length types) refl
+type_named = named (map type_names types) (λ t. bytes (type_name (type_at t))) (length types) refl
 
-pub encoding_named_lem : (e : ℕ) → e < length encodings → Named encodings (name_at encodings e) e
+pub encoding_named : (e : ℕ) → e < length encodings → Named encodings (name_at encodings e) e
 unfolding every_below every same alike is_any row_from trim_front trim_end
-encoding_named_lem = named encodings (name_at encodings) (length encodings) refl
+encoding_named = named encodings (name_at encodings) (length encodings) refl
 
-pub endian_named_lem : (endian : ℕ) → endian < length endians → Named endians (name_at endians endian) endian
+pub endian_named : (endian : ℕ) → endian < length endians → Named endians (name_at endians endian) endian
 unfolding every_below every same alike is_any row_from trim_front trim_end
-endian_named_lem = named endians (name_at endians) (length endians) refl
+endian_named = named endians (name_at endians) (length endians) refl
 
 -- ---- versions, and the bytes of a sample
 

@@ -157,14 +157,14 @@ unfolding product
 product_full [] h = omega arith
 product_full (n ∷ ns) h = let z = no_zero n ns h in one-le-mul z.0 (product_full ns z.1)
 
-pub sizes_fine_lem : (ns : List ℕ) → is_in 0 ns ≡ false → product ns ≤ max_size → Sizes ns
+pub sizes_fine : (ns : List ℕ) → is_in 0 ns ≡ false → product ns ≤ max_size → Sizes ns
 unfolding product
-sizes_fine_lem [] h l = tt
-sizes_fine_lem (n ∷ ns) h l =
+sizes_fine [] h l = tt
+sizes_fine (n ∷ ns) h l =
     let z = no_zero n ns h in
     let a : n ≤ n * product ns = le-mul_of_pos_right n (product_full ns z.1) in
     let b : product ns ≤ product ns * n = le-mul_of_pos_right (product ns) z.0 in
-    (z.0, omega arith, sizes_fine_lem ns z.1 (omega (arith, mul_comm n (product ns))))
+    (z.0, omega arith, sizes_fine ns z.1 (omega (arith, mul_comm n (product ns))))
 
 pub sizes_in : (ns : List ℕ) → Sizes ns → numbers_in 1 max_size (map decimal ns) ≡ true
 unfolding numbers_in

@@ -1,5 +1,6 @@
 -- What is written is read back: the statement of specs/RoundTrip.antt.
 -- Assumes nothing.
+use Rattle.std.specs.Prelude.{if◌then◌else◌}
 use mathlib.Core.Path.{◌≡◌, refl, sym, ap, ◌∙◌}
 use Prim.Native.Nat.{ℕ, ◌+◌, ◌-◌, ◌^◌, ◌≤◌}
 use native.Mathlib.Omega.{arith}
@@ -10,7 +11,6 @@ use lib.IntN.{ℤ}
 use lib.ListN.{length, length-append, length-map}
 use lib.Seq.{drop-append_seam, take-length}
 use borrow.Author.Tests.{le-ltb, lt-leb}
-use Rattle.format.specs.Bytes.{if◌then◌else◌}
 use Rattle.format.specs.Limits.{max_file, max_extent}
 use Rattle.format.specs.Refusals.{data_too_short}
 use Rattle.format.specs.Lines.{Line, lines, unlines}
@@ -25,7 +25,7 @@ use Rattle.format.proofs.Writer.{data_read_back}
 use Rattle.theorem_roundtrip.specs.RoundTrip.{count_back, ReadsBack, RoundTrips}
 use Rattle.theorem_roundtrip.proofs.Names.{sample_bytes_lem}
 use Rattle.theorem_roundtrip.proofs.Accepted.{Accepted, accepted_is}
-use Rattle.theorem_roundtrip.proofs.Data.{data_length_lem, data_any_order}
+use Rattle.theorem_roundtrip.proofs.Data.{data_length, data_any_order}
 use Rattle.theorem_roundtrip.proofs.Written.{entries_of, fields_of, lines_of_entries, Means, means, header_written}
 
 -- ---- the place of the data s after the header's bytes b, by fields that mean what was given
@@ -38,7 +38,7 @@ place_after gs x ns t e n m b s small fits integers full wanted second =
     let start : length (b ++ s) - length s ≡ length b = rw length-append (omega arith) in
     let below : length b ≤ max_file = omega (arith, length-append b s) in
     let whole : extent_of gs ≡ extent ns t = rw (m.sizes_are, m.type_is) in
-    rw (m.one_file_lem, m.attached, m.type_is, integers, and-false wanted, drop-append_seam b s, m.no_line_skip, m.no_byte_skip, le-ltb (length s) 0 (omega arith), start, whole, lt-leb (2 ^ 64) (length b + extent ns t) (omega arith), m.encoding_is)
+    rw (m.one_file, m.attached, m.type_is, integers, and-false wanted, drop-append_seam b s, m.no_line_skip, m.no_byte_skip, le-ltb (length s) 0 (omega arith), start, whole, lt-leb (2 ^ 64) (length b + extent ns t) (omega arith), m.encoding_is)
     (go (eqb e raw) full)
   where
     go : (y : Bool) → (y ≡ true → length s ≡ extent ns t)
@@ -91,7 +91,7 @@ module _ (version : ℕ) (ns : List ℕ) (t e n : ℕ) (zs : List ℤ) (a : Acce
   place_is : (wanted : Bool) (second : List ℕ) → place_of wanted gs (header_length es) file second ≡ part false (length head) (length body)
   unfolding file_bytes
   place_is wanted second =
-      let full : eqb e raw ≡ true → length body ≡ extent ns t = λ q. data_length_lem e (sample_bytes t) n zs q ∙ rw a.count in
+      let full : eqb e raw ≡ true → length body ≡ extent ns t = λ q. data_length e (sample_bytes t) n zs q ∙ rw a.count in
       rw head_length
       (place_after gs x ns t e n fields_mean head body a.file_small a.extent_small a.integers full wanted second)
 
@@ -110,7 +110,7 @@ module _ (version : ℕ) (ns : List ℕ) (t e n : ℕ) (zs : List ℤ) (a : Acce
       w = sample_bytes_lem t a.numbers.type_in
 
       back : (m : ℕ) → samples_of e (number_kind t) (sample_bytes t) m (length zs) (data_bytes e (sample_bytes t) m zs) ≡ record { number = 0; seen = zs }
-      back m = data_read_back e (number_kind t) (sample_bytes t) m zs w a.in_type_lem
+      back m = data_read_back e (number_kind t) (sample_bytes t) m zs w a.in_type
 
       go : (y : Bool) → endian_needed t e ≡ y
           → samples_of e (number_kind t) (sample_bytes t) (if y then n else no_endian) (length zs) body ≡ record { number = 0; seen = zs }
@@ -134,13 +134,13 @@ module _ (version : ℕ) (ns : List ℕ) (t e n : ℕ) (zs : List ℤ) (a : Acce
   reads_back =
       let m = fields_mean in
       record {
-        reading = rw (header_is, m.attached, m.dimension_is, m.type_is, m.encoding_is, m.endian_is, m.sizes_are, m.no_line_skip, m.no_byte_skip, m.no_origin, m.no_directions, m.no_frame, m.no_size, m.no_space_lem, m.one_file_lem, head_length, head_before, head_lines, h);
+        reading = rw (header_is, m.attached, m.dimension_is, m.type_is, m.encoding_is, m.endian_is, m.sizes_are, m.no_line_skip, m.no_byte_skip, m.no_origin, m.no_directions, m.no_frame, m.no_size, m.no_space, m.one_file, head_length, head_before, head_lines, h);
         place = λ second. rw (header_is, place_is false second);
         part = λ second. rw (header_is, place_is false second) (part_is second);
         samples = λ second list l. rw (check_is second (length list) l, seen_is second);
       }
 
 -- whatever the writer accepts is read back
-pub round_trips_lem : RoundTrips
-round_trips_lem version sizes t e endian zs room h =
+pub round_trips : RoundTrips
+round_trips version sizes t e endian zs room h =
     reads_back version sizes t e endian zs (accepted_is version sizes t e endian zs room h).0 (endian_needed t e) refl

@@ -1,6 +1,7 @@
 -- The written header is accepted, and its fields mean what was given: `header_written`, `means`.
 -- Here ns are the sizes, t, e and n the numbers of type, encoding and endian; x says whether the endian is needed.
 -- Assumes nothing.
+use Rattle.std.specs.Prelude.{if◌then◌else◌}
 use mathlib.Core.Path.{◌≡◌, refl, sym, ap, ◌∙◌}
 use Prim.Native.Nat.{ℕ, ◌≤◌}
 use Prim.Native.String.{String}
@@ -12,7 +13,7 @@ use lib.Dec.{eqb}
 use lib.IntN.{ℤ}
 use lib.ListN.{length, length-append, length-map}
 use borrow.Author.Tests.{le-ltb, eq-eqb, le-leb}
-use Rattle.format.specs.Bytes.{if◌then◌else◌, bytes, every, is_any, alike, row_from}
+use Rattle.format.specs.Bytes.{bytes, every, is_any, alike, row_from}
 use Rattle.format.specs.Limits.{max_lines, max_axes}
 use Rattle.format.specs.Lines.{Line, line, lf, lines, unlines}
 use Rattle.format.specs.Pairs.{plain, mark}
@@ -25,7 +26,7 @@ use Rattle.format.proofs.Lines.{Shape, lf_line, no_lf_of, ends_of, shape_of_line
 use Rattle.format.proofs.Judged.{judge_by_text, keeps_judge}
 use Rattle.format.proofs.Header.{Complete, Fine, header_fine}
 use Rattle.format.proofs.Writer.{number_of_decimal}
-use Rattle.theorem_roundtrip.proofs.Names.{Text, Named, type_named_lem, encoding_named_lem, endian_named_lem, version_of_magic}
+use Rattle.theorem_roundtrip.proofs.Names.{Text, Named, type_named, encoding_named, endian_named, version_of_magic}
 use Rattle.theorem_roundtrip.proofs.Numbers.{Sizes, decimal_plain, decimal_short, decimal_text, spaced_text, words_of_spaced, values_of_decimals, sizes_in, sizes_short}
 use Rattle.theorem_roundtrip.proofs.Accepted.{Accepted}
 
@@ -79,10 +80,10 @@ lines_of_entries false version ns t e n h = rw h
 -- ---- what the fields mean
 
 -- endian is the only field that its line gives
-other_field_lem : (x : Bool) (n : ℕ) (gs : List Given) (f : ℕ) → eqb f endian ≡ false → descriptor_of f (with_endian x n gs) ≡ descriptor_of f gs
+other_field : (x : Bool) (n : ℕ) (gs : List Given) (f : ℕ) → eqb f endian ≡ false → descriptor_of f (with_endian x n gs) ≡ descriptor_of f gs
 unfolding descriptor_of
-other_field_lem true n gs f h = rw h
-other_field_lem false n gs f h = refl
+other_field true n gs f h = rw h
+other_field false n gs f h = refl
 
 pub record Means (gs : List Given) (x : Bool) (ns : List ℕ) (t e n : ℕ) : Type 0 where
   pub dimension_is : dimension_of gs ≡ length ns
@@ -93,11 +94,11 @@ pub record Means (gs : List Given) (x : Bool) (ns : List ℕ) (t e n : ℕ) : Ty
   pub no_line_skip : line_skip_of gs ≡ 0
   pub no_byte_skip : byte_skip_of gs ≡ forward 0
   pub attached : is_detached gs ≡ false
-  pub one_file_lem : file_count_of gs ≡ 1
+  pub one_file : file_count_of gs ≡ 1
   pub no_origin : is_given space_origin gs ≡ false
   pub no_directions : is_given space_directions gs ≡ false
   pub no_frame : is_given measurement_frame gs ≡ false
-  pub no_space_lem : space_of gs ≡ no_space
+  pub no_space : space_of gs ≡ no_space
   pub no_size : space_size_of gs ≡ 0
 
 -- ---- one line of a field
@@ -150,13 +151,13 @@ sizes_may ns s =
 
 module _ (version : ℕ) (ns : List ℕ) (t e n : ℕ) (zs : List ℤ) (a : Accepted version ns t e n zs) where
   of_type_name : Named (map type_names types) (bytes (type_name (type_at t))) t
-  of_type_name = type_named_lem t a.numbers.type_in
+  of_type_name = type_named t a.numbers.type_in
 
   of_encoding_name : Named encodings (name_at encodings e) e
-  of_encoding_name = encoding_named_lem e a.numbers.encoding_in
+  of_encoding_name = encoding_named e a.numbers.encoding_in
 
   of_endian_name : Named endians (name_at endians n) n
-  of_endian_name = endian_named_lem n a.numbers.endian_in
+  of_endian_name = endian_named n a.numbers.endian_in
 
   -- the fields mean what was given
   pub means : (x : Bool) → Means (fields_of x ns t e n) x ns t e n
@@ -164,20 +165,20 @@ module _ (version : ℕ) (ns : List ℕ) (t e n : ℕ) (zs : List ℤ) (a : Acce
   means x =
       let gs : List Given = first_fields ns t e in
       record {
-        dimension_is = rw (other_field_lem x n gs dimension refl, number_of_decimal (length ns));
-        type_is = rw (other_field_lem x n gs type refl, of_type_name.row);
-        encoding_is = rw (other_field_lem x n gs encoding refl, of_encoding_name.row);
+        dimension_is = rw (other_field x n gs dimension refl, number_of_decimal (length ns));
+        type_is = rw (other_field x n gs type refl, of_type_name.row);
+        encoding_is = rw (other_field x n gs encoding refl, of_encoding_name.row);
         endian_is = endian_given x;
-        sizes_are = rw (other_field_lem x n gs sizes refl, words_of_spaced ns) (values_of_decimals ns);
-        no_line_skip = rw (other_field_lem x n gs line_skip refl);
-        no_byte_skip = rw (other_field_lem x n gs byte_skip refl);
-        attached = rw (other_field_lem x n gs data_file refl);
-        one_file_lem = rw (other_field_lem x n gs data_file refl);
-        no_origin = rw (other_field_lem x n gs space_origin refl);
-        no_directions = rw (other_field_lem x n gs space_directions refl);
-        no_frame = rw (other_field_lem x n gs measurement_frame refl);
-        no_space_lem = rw (other_field_lem x n gs space refl);
-        no_size = rw (other_field_lem x n gs space refl, other_field_lem x n gs space_dimension refl);
+        sizes_are = rw (other_field x n gs sizes refl, words_of_spaced ns) (values_of_decimals ns);
+        no_line_skip = rw (other_field x n gs line_skip refl);
+        no_byte_skip = rw (other_field x n gs byte_skip refl);
+        attached = rw (other_field x n gs data_file refl);
+        one_file = rw (other_field x n gs data_file refl);
+        no_origin = rw (other_field x n gs space_origin refl);
+        no_directions = rw (other_field x n gs space_directions refl);
+        no_frame = rw (other_field x n gs measurement_frame refl);
+        no_space = rw (other_field x n gs space refl);
+        no_size = rw (other_field x n gs space refl, other_field x n gs space_dimension refl);
       }
     where
       endian_given : (x : Bool) → endian_of (fields_of x ns t e n) ≡ (if x then n else no_endian)
@@ -189,11 +190,11 @@ module _ (version : ℕ) (ns : List ℕ) (t e n : ℕ) (zs : List ℤ) (a : Acce
   unfolding has_needed end_is_raw descriptor_of names_follow list_empty files_fine
   complete_fields x h =
       record {
-        filled = rw (other_field_lem x n (first_fields ns t e) data_file refl);
+        filled = rw (other_field x n (first_fields ns t e) data_file refl);
         needed = go x h;
         fitting = rw (means x).no_byte_skip;
         small = rw ((means x).sizes_are, (means x).type_is) a.extent_small;
-        files = rw (other_field_lem x n (first_fields ns t e) data_file refl);
+        files = rw (other_field x n (first_fields ns t e) data_file refl);
       }
     where
       go : (x : Bool) → endian_needed t e ≡ x → has_needed (fields_of x ns t e n) ≡ true

@@ -1,10 +1,10 @@
 -- What is written is read back (demand 2), as one statement: `RoundTrips`.
 -- It speaks of `file_bytes` and `write_refusal`, the definitions that the writer's contract cites, and of the answers of the reading calls.
-use Rattle.std.specs.Prelude.{ℕ, ◌≤◌, ◌-◌, ◌≡◌, false, List, ◌++◌, ℤ, length, replicate}
+use Rattle.std.specs.Prelude.{ℕ, ◌≤◌, ◌-◌, ◌≡◌, false, List, ◌++◌, ℤ, length, replicate, if◌then◌else◌}
 use Rattle.format.specs.declared.ReadAnswer.{ReadAnswer}
 use Rattle.format.specs.declared.DataAnswer.{DataAnswer}
 use Rattle.format.specs.declared.CountAnswer.{CountAnswer}
-use Rattle.format.specs.Bytes.{if◌then◌else◌, over}
+use Rattle.format.specs.Bytes.{over}
 use Rattle.format.specs.Limits.{max_axes}
 use Rattle.format.specs.Refusals.{fine}
 use Rattle.format.specs.Descriptors.{endian_needed, no_endian, no_space, sample_bytes, extent}

@@ -1,4 +1,6 @@
 // What the writer writes is read back: demand 2, of the definitions that the writer is proved against.
+#![tactic(auto)]
+
 ghost use Rattle.theorem_roundtrip.specs.RoundTrip.{RoundTrips};
 
 // Whatever the writer accepts is read back as it was given.
