@@ -1,5 +1,6 @@
 -- Laws of strings in double quotes, as the functions read them.
 -- Assumes nothing.
+use Rattle.std.specs.Prelude.{if◌then◌else◌}
 use Prim.Native.Nat.{ℕ, zero, suc, ◌+◌, ◌-◌, ◌≤◌, ◌<◌}
 use native.Mathlib.Nat.{add-zero, zero-add, le_of_suc-le-suc, not-suc-le-zero}
 use native.Mathlib.Numerals.{add-one}
@@ -12,7 +13,7 @@ use lib.Dec.{eqb}
 use lib.ListN.{length, take, drop, get_or, set, replicate, drop_of_length-le, length-drop}
 use lib.Seq.{take_all, drop-drop, sets}
 use borrow.Author.Tests.{eqb-true, eq-eqb, ne_eqb}
-use Rattle.format.specs.Bytes.{if◌then◌else◌, space_or_tab, QUOTE, BACKSLASH, each}
+use Rattle.format.specs.Bytes.{space_or_tab, QUOTE, BACKSLASH, each}
 use Rattle.format.specs.Limits.{max_axes}
 use Rattle.format.specs.Strings.{Quoted, quoted, start_of, text_of, apart, closed, inside, closes, joins, strings_from, as_many, strings_said}
 use Rattle.format.specs.AxisRecords.{string_place}
@@ -37,9 +38,9 @@ module _ (b : Bool) (s : List ℕ) (i : ℕ) where
   text_more h e = rw (drop_next s i h, e)
 
   -- the end of the text ends it
-  pub text_end_lem : length s ≤ i → length (text_from b (drop i s)) ≡ 0
+  pub text_end : length s ≤ i → length (text_from b (drop i s)) ≡ 0
   unfolding text_from
-  text_end_lem h = rw (drop_of_length-le s h)
+  text_end h = rw (drop_of_length-le s h)
 
 -- ---- what follows a string
 

@@ -1,7 +1,6 @@
 -- Internal to the library. The answers of the functions on centrings and kinds.
-use Rattle.std.specs.Prelude.{ℕ, Bool, true, false, List, replicate}
+use Rattle.std.specs.Prelude.{ℕ, Bool, true, false, List, replicate, if◌then◌else◌}
 use Rattle.std.proofs.Math.Option.{Option, none, some}
-use Rattle.format.specs.Bytes.{if◌then◌else◌}
 use Rattle.format.specs.Limits.{max_axes}
 use Rattle.format.specs.Words.{words}
 use Rattle.format.specs.Vectors.{said_by}

@@ -1,7 +1,7 @@
 -- Internal to the library. The answers of the functions on strings.
-use Rattle.std.specs.Prelude.{ℕ, ◌+◌, ◌≤◌, ◌≡◌, Bool, true, false, not, ◌&&◌, List, [], ◌∷◌, eqb, length, replicate, drop}
+use Rattle.std.specs.Prelude.{ℕ, ◌+◌, ◌≤◌, ◌≡◌, Bool, true, false, not, ◌&&◌, List, [], ◌∷◌, ◌==◌, length, replicate, drop, if◌then◌else◌}
 use Rattle.std.proofs.Math.Option.{Option, none, some}
-use Rattle.format.specs.Bytes.{if◌then◌else◌, space_or_tab, QUOTE, BACKSLASH, each}
+use Rattle.format.specs.Bytes.{space_or_tab, QUOTE, BACKSLASH, each}
 use Rattle.format.specs.Limits.{max_axes}
 use Rattle.format.specs.Strings.{Quoted, quoted, apart, strings_from}
 use Rattle.format.specs.AxisRecords.{string_place}
@@ -12,7 +12,7 @@ use Rattle.read_axes.specs.declared.strings.Found.{Found}
 -- what stands before the quote that closes a string, all where it stays open; whether a backslash stands right before
 unfoldable pub text_from : Bool → List ℕ → List ℕ
 text_from b [] = []
-text_from b (c ∷ s) = if eqb c QUOTE && not b then [] else c ∷ text_from (eqb c BACKSLASH) s
+text_from b (c ∷ s) = if c == QUOTE && not b then [] else c ∷ text_from (c == BACKSLASH) s
 
 -- a string may end before this text
 abbrev pub blank_or_end : List ℕ → Bool

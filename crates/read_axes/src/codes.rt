@@ -24,7 +24,7 @@ const KINDS_LONG: [u8; 98] =
     *b"\x13\x182D-symmetric-matrix\x1a\x192D-masked-symmetric-matrix\x13\x1c3D-symmetric-matrix\x1a\x1d3D-masked-symmetric-matrix";
 
 // The numbers of the words, and whether there is one for each axis; if not, all are 0.
-#[derive(Drop)]
+#[derive(Clone, Copy)]
 pub struct Codes {
     pub fine: bool,
     pub codes: [u32; format::AXES],

@@ -1,19 +1,19 @@
 // Labels and units: a string in double quotes for each axis.
-ghost use Rattle.std.specs.Prelude.{◌≡◌, false, ◌+◌, ◌≤◌, ◌<◌, length, get_or, drop};
+ghost use Rattle.std.specs.Prelude.{◌≡◌, false, ◌+◌, ◌≤◌, ◌<◌, length, slice_index, drop};
 ghost use Rattle.format.specs.Bytes.{space_or_tab};
 ghost use Rattle.format.specs.Limits.{max_axes, max_file};
 ghost use Rattle.format.specs.Strings.{strings_said};
 ghost use Rattle.read_axes.specs.Strings.{text_from, blank_or_end, StringAt, no_strings, strings_answer};
 
 // Where the text of a string lies; both are 0 where there is none.
-#[derive(Drop)]
+#[derive(Clone, Copy)]
 pub struct Span {
     pub start: u32,
     pub length: u32,
 }
 
 // Where the strings lie, and whether there is one for each axis; if not, all are 0.
-#[derive(Drop)]
+#[derive(Clone, Copy)]
 pub struct Strings {
     pub fine: bool,
     pub spans: [Span; format::AXES],
@@ -25,7 +25,7 @@ const NOWHERE: Span = Span {
 };
 
 // A string at a place of a descriptor: whether there is one, and the length of its text.
-#[derive(Drop)]
+#[derive(Clone, Copy)]
 struct Found {
     pub fine: bool,
     pub length: usize,
@@ -74,7 +74,7 @@ fn is_blank_or_end(t: &[u8], at: usize) -> bool
 
 // The string that begins at a place: a quote, its text, a quote, and then a blank or the end.
 fn string_at(t: &[u8], at: usize) -> Found
-    requires { (at < length t.now) × (space_or_tab (get_or t.now at 0) ≡ false) }
+    requires { (at < length t.now) × (space_or_tab (slice_index t.now at) ≡ false) }
     ensures { StringAt t.now at result }
 {
     if t[at] != b'"' {

@@ -1,5 +1,6 @@
 -- Laws of the digits at the front of a text, and of the numbers that they write.
 -- Assumes nothing.
+use Rattle.std.specs.Prelude.{if◌then◌else◌}
 use Prim.Native.Nat.{ℕ, suc, ◌+◌, ◌*◌, ◌-◌, ◌≤◌, ◌<◌, min}
 use native.Mathlib.Omega.{arith}
 use mathlib.Core.Path.{◌≡◌, refl, sym, ap, subst, ◌∙◌}
@@ -8,7 +9,7 @@ use mathlib.Core.List.{List, [], ◌∷◌, ◌++◌}
 use mathlib.Core.Option.{none, some}
 use lib.ListN.{length, take, drop, get_or, length-drop, drop_of_length-le}
 use lib.Seq.{take_all}
-use Rattle.format.specs.Bytes.{if◌then◌else◌, is_digit, every}
+use Rattle.format.specs.Bytes.{is_digit, every}
 use Rattle.format.specs.Words.{digits_from, number, value_of_number}
 use Rattle.format.specs.Decimals.{past_number, digits_of, after_digits}
 use Rattle.format.proofs.Bytes.{and_left, and_right, and_both}

@@ -1,5 +1,6 @@
 -- A numeral's value by its parts. Numbers and exponents that are cut to `past_number` give the same value as those of any length.
 -- Assumes nothing.
+use Rattle.std.specs.Prelude.{if◌then◌else◌}
 use Prim.Native.Nat.{ℕ, ◌+◌, ◌-◌, ◌≤◌, ◌<◌, min}
 use native.Mathlib.Omega.{arith}
 use mathlib.Core.Path.{◌≡◌, refl, sym, ap, subst, ◌∙◌}
@@ -10,7 +11,7 @@ use borrow.Author.Tests.{ltb-true, ltb-false, le-ltb, lt-leb}
 use lib.Dec.{eqb, ltb}
 use lib.ListN.{length, take, drop, length-append, length-drop}
 use Rattle.format.specs.declared.Decimal.{Decimal}
-use Rattle.format.specs.Bytes.{if◌then◌else◌, is_digit, every, POINT}
+use Rattle.format.specs.Bytes.{is_digit, every, POINT}
 use Rattle.format.specs.Limits.{max_header}
 use Rattle.format.specs.Words.{value_of_number}
 use Rattle.format.specs.Decimals.{past_number, max_power, digits_of, after_digits, pointed, numeral, numeral_of, exponent_of, point_folded, with_exponent, numeral_value}

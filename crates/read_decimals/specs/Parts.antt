@@ -1,7 +1,7 @@
 -- Internal to the library. The answers of the functions on the parts of a component's text.
-use Rattle.std.specs.Prelude.{ℕ, ◌+◌, ◌*◌, ◌-◌, ◌≤◌, min, ◌≡◌, Bool, true, false, List, [], ◌∷◌, eqb, length, drop}
+use Rattle.std.specs.Prelude.{ℕ, ◌+◌, ◌*◌, ◌-◌, ◌≤◌, min, ◌≡◌, Bool, true, false, List, [], ◌∷◌, ◌==◌, length, drop, if◌then◌else◌}
 use Rattle.std.proofs.Math.Option.{Option, none, some}
-use Rattle.format.specs.Bytes.{if◌then◌else◌, POINT}
+use Rattle.format.specs.Bytes.{POINT}
 use Rattle.format.specs.Decimals.{past_number, is_minus, after_sign, digits_of, after_digits}
 use Rattle.read_decimals.specs.declared.parts.Sign.{Sign}
 use Rattle.read_decimals.specs.declared.parts.Digits.{Digits}
@@ -26,11 +26,11 @@ digits_answer m s = record { number = min (number_from m (digits_of s)) past_num
 -- the digits after a point at the front, and what follows them
 abbrev pub fraction_of : List ℕ → List ℕ
 fraction_of [] = []
-fraction_of (b ∷ s) = if eqb b POINT then digits_of s else []
+fraction_of (b ∷ s) = if b == POINT then digits_of s else []
 
 abbrev pub after_fraction : List ℕ → List ℕ
 after_fraction [] = []
-after_fraction (b ∷ s) = if eqb b POINT then after_digits s else b ∷ s
+after_fraction (b ∷ s) = if b == POINT then after_digits s else b ∷ s
 
 -- the fraction at the front of s, its digits after those of m
 pub record FractionRead (m : ℕ) (s : List ℕ) (r : Fraction) : Type 0 where

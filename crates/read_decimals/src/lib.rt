@@ -1,7 +1,8 @@
 // Exact decimals: the value that the text of a component says.
-ghost use Rattle.std.specs.Prelude.{◌≡◌, ◌+◌, ◌≤◌, ◌<◌, ◌^◌, length};
+#![tactic(auto)]
+
+ghost use Rattle.std.specs.Prelude.{◌≡◌, ◌+◌, ◌≤◌, ◌<◌, ◌^◌, length, if◌then◌else◌};
 ghost use Rattle.std.proofs.Math.Option.{some};
-ghost use Rattle.format.specs.Bytes.{if◌then◌else◌};
 ghost use Rattle.format.specs.Limits.{max_header};
 ghost use Rattle.format.specs.Decimals.{past_number, max_power, inf, minus_inf, marked, signed_of, point_folded, numeral_of, numeral_value, unsigned_value, component};
 ghost use Rattle.read_decimals.specs.Components.{component_answer, power_of, valued_number};
@@ -11,14 +12,14 @@ use format::Decimal;
 pub mod parts;
 
 // Whether a text is a component, and its value.
-#[derive(Drop)]
+#[derive(Clone, Copy)]
 pub struct Component {
     pub fine: bool,
     pub value: Decimal,
 }
 
 // A power of ten, its sign apart.
-#[derive(Drop)]
+#[derive(Clone, Copy)]
 struct Power {
     minus: bool,
     size: u64,

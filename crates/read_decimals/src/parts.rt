@@ -9,7 +9,7 @@ ghost use Rattle.read_decimals.specs.Parts.{SignRead, digits_answer, FractionRea
 pub const PAST_NUMBER: u64 = 1000000000000000000;
 
 // Whether there is a minus, and how many bytes the sign takes: 0 or 1.
-#[derive(Drop)]
+#[derive(Clone, Copy)]
 pub struct Sign {
     pub minus: bool,
     pub length: usize,
@@ -44,7 +44,7 @@ pub fn read_sign(t: &[u8]) -> Sign
 }
 
 // Digits: the number that they write, cut to `PAST_NUMBER`, and how many they are.
-#[derive(Drop)]
+#[derive(Clone, Copy)]
 pub struct Digits {
     pub number: u64,
     pub count: usize,
@@ -94,7 +94,7 @@ pub fn read_digits(s: &[u8], before: u64) -> Digits
 }
 
 // The digits after a point, and how many bytes they take with it; where no point stands at the front, there are none.
-#[derive(Drop)]
+#[derive(Clone, Copy)]
 pub struct Fraction {
     pub number: u64,
     pub count: usize,
@@ -127,7 +127,7 @@ pub fn read_fraction(s: &[u8], before: u64) -> Fraction
 }
 
 // Whether a text is an exponent; its sign, and its size, cut to `PAST_NUMBER`.
-#[derive(Drop)]
+#[derive(Clone, Copy)]
 pub struct Exponent {
     pub fine: bool,
     pub minus: bool,

@@ -1,5 +1,6 @@
 -- Laws of descriptors: where one stands, and what the answers of the leaves say of it.
 -- Assumes nothing.
+use Rattle.std.specs.Prelude.{if◌then◌else◌}
 use Prim.Native.Nat.{ℕ, ◌-◌}
 use mathlib.Core.Path.{◌≡◌, refl, ap, ◌∙◌}
 use mathlib.Core.Bool.{Bool, true, false, ◌&&◌, ◌||◌, false≢true}
@@ -9,7 +10,7 @@ use lib.Dec.{eqb, leb}
 use lib.ListN.{length, replicate, take, drop, length-drop, length-map}
 use lib.Seq.{take-length}
 use borrow.Author.Tests.{eqb-true, ne_eqb}
-use Rattle.format.specs.Bytes.{is_in, is_some, if◌then◌else◌}
+use Rattle.format.specs.Bytes.{is_in, is_some}
 use Rattle.format.specs.Limits.{max_axes, max_size}
 use Rattle.format.specs.Fields.{dimension, type, encoding, endian, sizes, line_skip, byte_skip, data_file, space, space_dimension, space_origin, space_directions, measurement_frame, centers, labels, units, kinds}
 use Rattle.format.specs.Words.{trim_end, value_of_number, words, numbers_in}
@@ -149,8 +150,8 @@ strings_fine base (some qs) r e = rw e
 -- ---- data files
 
 -- what is said of data files is the answer for that field
-pub files_said_lem : (n m : ℕ) (t : List ℕ) (o : Option DataFile) → data_file_said t ≡ o
+pub files_said : (n m : ℕ) (t : List ℕ) (o : Option DataFile) → data_file_said t ≡ o
     → record { fine = is_some o; number = last_numbered o; fromend = false; list = is_listed o; cover = cover_code (cover_said o) } ≡ answered n m data_file t
 unfolding may_describe
-files_said_lem n m t none e = rw e
-files_said_lem n m t (some d) e = rw e
+files_said n m t none e = rw e
+files_said n m t (some d) e = rw e

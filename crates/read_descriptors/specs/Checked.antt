@@ -1,6 +1,5 @@
 -- Internal to the library. The answer of the checker of descriptors, and what it keeps.
-use Rattle.std.specs.Prelude.{ℕ, ◌≡◌, Bool, false, not, ◌&&◌, ◌||◌, List, [], ◌∷◌, eqb, leb}
-use Rattle.format.specs.Bytes.{if◌then◌else◌}
+use Rattle.std.specs.Prelude.{ℕ, ◌≡◌, Bool, false, not, ◌&&◌, ◌||◌, List, [], ◌∷◌, ◌==◌, nat_le, if◌then◌else◌}
 use Rattle.format.specs.Limits.{max_axes}
 use Rattle.format.specs.Fields.{dimension, type, encoding, endian, sizes, line_skip, byte_skip, data_file, space, space_dimension, space_origin, space_directions, measurement_frame}
 use Rattle.format.specs.Descriptors.{is_from_end, byte_skip_said, may_describe, number_said, sizes_said}
@@ -15,19 +14,19 @@ found fine n end = record { fine = fine; number = if fine then n else 0; fromend
 
 -- whether the descriptor t of the field f is taken in a header of dimension n and a space of dimension m: no header has sizes of more axes than the largest dimension
 abbrev pub takes : ℕ → ℕ → ℕ → List ℕ → Bool
-takes n m f t = (not (eqb sizes f) || leb n max_axes) && may_describe n m f t
+takes n m f t = (not (sizes == f) || nat_le n max_axes) && may_describe n m f t
 
 -- whether the field f says with t that the data is found from the end: a byte skip of -1
 abbrev pub says_end : ℕ → List ℕ → Bool
-says_end f t = eqb byte_skip f && is_from_end (byte_skip_said t)
+says_end f t = byte_skip == f && is_from_end (byte_skip_said t)
 
 -- whether the field f says with t that names follow on lines of their own: a data file of the form LIST
 abbrev pub says_list : ℕ → List ℕ → Bool
-says_list f t = eqb data_file f && is_listed (data_file_said t)
+says_list f t = data_file == f && is_listed (data_file_said t)
 
 -- how many axes one data file covers, as `read_files::said` tells it; 0 for other fields
 abbrev pub says_cover : ℕ → List ℕ → ℕ
-says_cover f t = if eqb data_file f then cover_code (cover_said (data_file_said t)) else 0
+says_cover f t = if data_file == f then cover_code (cover_said (data_file_said t)) else 0
 
 -- the answer for the descriptor t of the field f
 abbrev pub answered : ℕ → ℕ → ℕ → List ℕ → Checked
@@ -42,7 +41,7 @@ answered n m f t =
 
 -- the sizes kept once the field f has the descriptor t: of sizes those that it says, 0 past them, and otherwise those of before
 abbrev pub sizes_kept : ℕ → List ℕ → List ℕ → List ℕ
-sizes_kept f t ns = if eqb sizes f then padded (sizes_said t) else ns
+sizes_kept f t ns = if sizes == f then padded (sizes_said t) else ns
 
 -- the answer, and the sizes kept
 abbrev pub checked : ℕ → ℕ → ℕ → List ℕ → List ℕ → Checked × List ℕ

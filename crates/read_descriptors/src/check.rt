@@ -20,7 +20,7 @@ use read_text::words::Row;
 
 // Whether the descriptor is one that the field may have; the number that it says, 0 where it says none or is wrong; whether it says that the data is found from the end;
 // whether it is LIST, after which names stand on lines of their own; and how many axes one data file covers, as `read_files::said` tells it.
-#[derive(Drop)]
+#[derive(Clone, Copy)]
 pub struct Checked {
     pub fine: bool,
     pub number: u32,

@@ -1,5 +1,6 @@
 -- Laws of what a line is: fields by number, the fields given, and the judgement along its tests.
 -- Assumes nothing.
+use Rattle.std.specs.Prelude.{if◌then◌else◌}
 use Prim.Native.Nat.{ℕ, zero, suc, ◌-◌, ◌≤◌, ◌<◌}
 use native.Mathlib.Omega.{arith}
 use mathlib.Core.Path.{◌≡◌, refl, sym, ap, ◌∙◌}
@@ -10,7 +11,7 @@ use lib.Dec.{ltb, eqb}
 use lib.ListN.{length, take, drop, get_or, length-drop}
 use lib.Seq.{take-length, get_or-take}
 use borrow.Author.Tests.{lt-ltb, le-ltb, ltb-true, eqb-true, eqb-false, eq-eqb, ne_eqb}
-use Rattle.format.specs.Bytes.{if◌then◌else◌, every, is_some}
+use Rattle.format.specs.Bytes.{every, is_some}
 use Rattle.format.specs.Limits.{max_axes, max_header}
 use Rattle.format.specs.Spaces.{max_space}
 use Rattle.format.specs.Refusals.{bad_byte, no_mark, not_in_version, repeated_field, out_of_order, bad_backslash}
@@ -18,7 +19,7 @@ use Rattle.format.specs.Pairs.{plain, unmarked, pair_mark, LineKind, other_line,
 use Rattle.format.specs.Fields.{FieldRow, field_table, no_field, field_at, space_before, pairs_since, many_files_since, field_since, field_count, data_file, Given, is_given, dimension, space, space_dimension, space_origin, space_directions, measurement_frame, other_field, is_repeated, needs_dimension, needs_space, in_order}
 use Rattle.format.specs.Descriptors.{descriptor, since, may_describe, dimension_of, space_size_of, names_follow}
 use Rattle.format.specs.DataFiles.{is_many_form}
-use Rattle.format.specs.Header.{Judged, wrong, right, unescaped, on_pair, on_field, on_kind, judge}
+use Rattle.format.specs.Header.{Judged, wrong, unescaped, on_pair, on_field, on_kind, judge}
 use Rattle.format.proofs.Descriptors.{descriptor_le}
 use Rattle.format.proofs.Judged.{judge_by_text}
 use Rattle.read_fields.specs.declared.state.Step.{Step}

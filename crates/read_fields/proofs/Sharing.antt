@@ -1,23 +1,23 @@
 -- Laws of how many files there are: what the code asks is what the definitions ask, and the number fits 32 bits.
 -- Assumes nothing.
-use Prim.Native.Nat.{ℕ, zero, suc, ◌+◌, ◌-◌, ◌*◌, ◌%◌, ◌≤◌, ◌<◌, min}
+use Rattle.std.specs.Prelude.{if◌then◌else◌}
+use Prim.Native.Nat.{ℕ, zero, suc, ◌+◌, ◌-◌, ◌%◌, ◌≤◌, ◌<◌, min}
 use native.Mathlib.Nat.{sub-zero, mul-le-mul_left, dvd_of_mod-eq-zero, le_of_dvd}
 use native.Mathlib.Omega.{arith}
-use mathlib.Core.Path.{◌≡◌, refl, sym, ap, ◌∙◌}
+use mathlib.Core.Path.{◌≡◌, refl, sym, ◌∙◌}
 use mathlib.Core.Bool.{Bool, true, false, ◌&&◌, false≢true}
 use mathlib.Core.List.{List, [], ◌∷◌}
 use mathlib.Core.Option.{Option, none, some}
 use lib.Dec.{eqb, ltb, leb}
 use lib.Seq.{take_at}
-use lib.ListN.{length, replicate, take, drop, get_or, length-drop}
-use borrow.Author.Tests.{eqb-true, eqb-false, eq-eqb, ne_eqb, leb-true, leb-false, le-leb, lt-leb, ltb-true, ltb-false, lt-ltb, le-ltb}
-use Rattle.format.specs.Bytes.{if◌then◌else◌, between, is_some, or_default}
+use lib.ListN.{length, replicate, take, drop, get_or}
+use borrow.Author.Tests.{eqb-true, eqb-false, eq-eqb, ne_eqb, leb-true, leb-false, le-leb, lt-leb, ltb-true, ltb-false, lt-ltb}
+use Rattle.format.specs.Bytes.{between, is_some}
 use Rattle.format.specs.Limits.{max_axes, max_extent}
 use Rattle.format.specs.Fields.{Given, descriptor_of, is_given, file_names, dimension, data_file, sizes}
-use Rattle.format.specs.DataFiles.{is_list, DataFile, one_file, numbered_files, listed_files, count_numbered, data_file_said, files_said, last_numbered}
-use Rattle.format.specs.Descriptors.{meaning, dimension_of, type_of, sizes_of, is_detached, number_said, number_of, product, capped, sample_bytes, extent_of, divides, cover_fine, files_fit, files_fine, data_file_of, names_follow, file_count_of, cover_of}
+use Rattle.format.specs.DataFiles.{is_list, DataFile, one_file, numbered_files, listed_files, data_file_said, files_said, last_numbered}
+use Rattle.format.specs.Descriptors.{meaning, dimension_of, type_of, sizes_of, number_said, number_of, product, capped, extent_of, divides, cover_fine, files_fit, files_fine, names_follow, file_count_of, cover_of}
 use Rattle.format.specs.Laws.{Each}
-use Rattle.format.proofs.Bytes.{and_left, and_right}
 use Rattle.format.proofs.Rules.{files_covered}
 use Rattle.format.proofs.Named.{Counts, said_counts, one_file_lem, product_drop, product_positive, files_divide, sample_some}
 use Rattle.read_text.proofs.Places.{eqb_comm}

@@ -1,5 +1,6 @@
 -- Laws of what the reader keeps: what one more field makes of it, what the header's end makes of it, and what the walk keeps.
 -- Assumes nothing.
+use Rattle.std.specs.Prelude.{if◌then◌else◌}
 use Prim.Native.Nat.{ℕ, zero, suc, ◌+◌, ◌≤◌, ◌<◌, ◌-◌}
 use Prim.Native.String.{String}
 use native.Mathlib.Nat.{zero-add}
@@ -11,10 +12,10 @@ use mathlib.Core.Option.{Option, none, some, none-ne-some, some-injective}
 use lib.Dec.{eqb, leb}
 use lib.ListN.{length, replicate, take, get_or, set, length-map}
 use lib.Seq.{take_at}
-use borrow.Author.Tests.{lt-ltb, le-ltb, le-leb, leb-true, eqb-true, eqb-false, eq-eqb, ne_eqb}
+use borrow.Author.Tests.{lt-ltb, le-ltb, le-leb, leb-true, eqb-true, eq-eqb, ne_eqb}
 use mir.Val.{bool_byte}
 use Rattle.format.specs.declared.Reading.{Reading}
-use Rattle.format.specs.Bytes.{is_any, is_some, row_from, or_default, if◌then◌else◌, each}
+use Rattle.format.specs.Bytes.{is_any, is_some, row_from, or_default, each}
 use Rattle.format.specs.Limits.{max_axes, max_size, max_extent}
 use Rattle.format.specs.Refusals.{bad_descriptor, missing_field, extent_too_large, refusal, fine}
 use Rattle.format.specs.Fields.{names_of, field_table, field_at, field_count, field_named, Given, given, named, descriptor_of, is_given, dimension, type, encoding, endian, sizes, line_skip, byte_skip, data_file, space, space_dimension, space_origin, space_directions, measurement_frame, needs_dimension}
@@ -142,9 +143,9 @@ module _ (f : ℕ) (d : List ℕ) (gs : List Given) where
           rw (absent (descriptor_of data_file gs) (rw (eqb-true data_file f e) new)) (keep (eqb n 0) n refl)
       go false e = refl
 
-  sizes_after_lem : padded (sizes_of (given f d ∷ gs)) ≡ sizes_given (some (given f d)) (padded (sizes_of gs))
+  sizes_after : padded (sizes_of (given f d ∷ gs)) ≡ sizes_given (some (given f d)) (padded (sizes_of gs))
   unfolding descriptor_of
-  sizes_after_lem = go (eqb sizes f)
+  sizes_after = go (eqb sizes f)
     where
       go : (x : Bool) → padded (meaning [] sizes_said (if x then some d else descriptor_of sizes gs)) ≡ (if x then padded (sizes_said d) else padded (sizes_of gs))
       go true = refl
@@ -231,8 +232,8 @@ module _ {marks : List Bool} {numbers ns : List ℕ} {end : Bool} {cover : ℕ} 
   pub number_at : (f : ℕ) → f < field_count → get_or numbers f 0 ≡ number_of f gs
   number_at = number_of_lem gs h.numbers_are
 
-  pub axes_at_lem : get_or numbers dimension 0 ≤ max_axes
-  axes_at_lem = rw (number_at dimension (omega arith)) h.kept.axes
+  pub axes_at : get_or numbers dimension 0 ≤ max_axes
+  axes_at = rw (number_at dimension (omega arith)) h.kept.axes
 
   -- the extent
   pub extent_is : is_given sizes gs ≡ true → extent (take (get_or numbers dimension 0) ns) (get_or numbers type 0) ≡ extent_of gs
@@ -375,7 +376,7 @@ module _ (version : ℕ) {gs : List Given} {t : List ℕ} (f : ℕ) (d : List �
     where
       go : (x : Bool) → eqb sizes f ≡ x → (y : Bool) → is_some (if x then some d else descriptor_of sizes gs) ≡ true → is_some (if y then some d else descriptor_of dimension gs) ≡ true
       go x e true p = refl
-      go true e false p = h.after_dimension_lem (ap needs_dimension (sym (eqb-true sizes f e)))
+      go true e false p = h.after_dimension (ap needs_dimension (sym (eqb-true sizes f e)))
       go false e false p = k.ordered p
 
   kept_sized : is_given sizes (given f d ∷ gs) ≡ true → length (sizes_of (given f d ∷ gs)) ≡ dimension_of (given f d ∷ gs)
@@ -468,7 +469,7 @@ holds_next version {marks} {numbers} {ns} {end} {cover} {gs} t i h j = go (given
         record {
           marks_are = rw (l, h.marks_are) (sym (flags_after f d gs b));
           numbers_are = rw (l, h.numbers_are) (sym (numbers_after f d gs b));
-          sizes_are = rw h.sizes_are (sym (sizes_after_lem f d gs));
+          sizes_are = rw h.sizes_are (sym (sizes_after f d gs));
           end_is = rw h.end_is (sym (end_after f d gs s.new));
           cover_is = rw h.cover_is (sym (cover_after f d gs s.new));
           kept = kept_field version f d h.kept s;
@@ -480,9 +481,9 @@ known_of h n = record { marks_are = h.marks_are; numbers_are = h.numbers_are; ax
 
 -- ---- names follow exactly where the line says LIST
 
-pub list_after_lem : (version : ℕ) (gs : List Given) (t : List ℕ) (i : Item) → judge version gs t ≡ right i → names_follow gs ≡ false → names_follow (after_item i gs) ≡ list_given (given_of i)
+pub list_after : (version : ℕ) (gs : List Given) (t : List ℕ) (i : Item) → judge version gs t ≡ right i → names_follow gs ≡ false → names_follow (after_item i gs) ≡ list_given (given_of i)
 unfolding names_follow descriptor_of may_describe
-list_after_lem version gs t i j n = go (given_of i) refl
+list_after version gs t i j n = go (given_of i) refl
   where
     field_after : (f : ℕ) (d : List ℕ) → FieldLine version gs t f d → (x : Bool) → eqb data_file f ≡ x
         → meaning false is_list (if x then some d else descriptor_of data_file gs) ≡ (x && is_listed (data_file_said d))

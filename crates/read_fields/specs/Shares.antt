@@ -1,21 +1,20 @@
 -- Internal to this crate. Whether data files fit the sizes, as the code asks it: by products that stop at the least number that is no extent, and without the test
 -- that their number divides that of the samples, which follows (`Sharing.fits-is`).
-use Rattle.std.specs.Prelude.{ℕ, ◌-◌, ◌%◌, Bool, true, false, List, eqb, ltb, drop, get_or}
-use Rattle.format.specs.Bytes.{if◌then◌else◌}
+use Rattle.std.specs.Prelude.{ℕ, ◌-◌, ◌%◌, Bool, true, false, List, ◌==◌, nat_lt, drop, slice_index, if◌then◌else◌}
 use Rattle.format.specs.Descriptors.{product, capped}
 
 -- k files, each for one place on the axes from c on
 abbrev pub slices_fit : List ℕ → ℕ → ℕ → Bool
-slices_fit ns k c = eqb (capped (product (drop c ns))) k
+slices_fit ns k c = capped (product (drop c ns)) == k
 
 -- k slabs along the slowest of n axes
 abbrev pub slabs_fit : ℕ → List ℕ → ℕ → Bool
-slabs_fit n ns k = eqb (get_or ns (n - 1) 0 % k) 0
+slabs_fit n ns k = slice_index ns (n - 1) % k == 0
 
 -- k files, each of which covers c of n axes
 unfoldable pub fits : ℕ → List ℕ → ℕ → ℕ → Bool
-fits n ns k c = if eqb c 0 then false else if ltb n c then false else if ltb c n then slices_fit ns k c else slabs_fit n ns k
+fits n ns k c = if c == 0 then false else if nat_lt n c then false else if nat_lt c n then slices_fit ns k c else slabs_fit n ns k
 
 -- by how many axes one covers as it is kept: 0 where that is not asked, 1 where it is left open, else 2 more
 unfoldable pub fits_by : ℕ → List ℕ → ℕ → ℕ → Bool
-fits_by n ns k cover = if eqb cover 0 then true else if eqb cover 1 then fits n ns k (n - 1) else fits n ns k (cover - 2)
+fits_by n ns k cover = if cover == 0 then true else if cover == 1 then fits n ns k (n - 1) else fits n ns k (cover - 2)

@@ -1,8 +1,8 @@
 -- Internal to the library. What the reader keeps of the fields given so far, and its steps.
-use Rattle.std.specs.Prelude.{ℕ, ◌+◌, ◌-◌, ◌≤◌, ◌≡◌, Bool, true, false, not, List, ltb, eqb, length, set}
+use Rattle.std.specs.Prelude.{ℕ, ◌+◌, ◌-◌, ◌≤◌, ◌≡◌, Bool, true, false, not, List, nat_lt, ◌==◌, length, set, if◌then◌else◌}
 use Rattle.std.proofs.Math.Option.{Option, none, some}
 use Rattle.format.specs.declared.ReadAnswer.{ReadAnswer}
-use Rattle.format.specs.Bytes.{if◌then◌else◌, is_some, each}
+use Rattle.format.specs.Bytes.{is_some, each}
 use Rattle.format.specs.Limits.{max_axes, max_extent}
 use Rattle.format.specs.Spaces.{max_space}
 use Rattle.format.specs.Refusals.{bad_descriptor, missing_field, extent_too_large, refusal, fine}
@@ -26,7 +26,7 @@ numbers_of gs = each (λ f. number_of f gs) 0 field_count
 
 -- the dimension m of the space as it is handed on for the field f: no field before space lies in one
 unfoldable pub space_for : ℕ → ℕ → ℕ
-space_for f m = if ltb f space then 0 else m
+space_for f m = if nat_lt f space then 0 else m
 
 -- what the walk keeps of the fields given: the dimensions are in their ranges, sizes come after dimension, there is a size for each axis and none is 0, and a data file's
 -- descriptor means something
@@ -90,7 +90,7 @@ cover_given (some (named t)) = 0
 
 -- the same once the line is read
 abbrev pub cover_kept : ℕ → ℕ → ℕ
-cover_kept new old = if eqb new 0 then old else new
+cover_kept new old = if new == 0 then old else new
 
 -- the sizes once the line is read
 abbrev pub sizes_given : Option Given → List ℕ → List ℕ
@@ -113,7 +113,7 @@ stepped j ns = (step_of j, sizes_after j ns)
 
 -- a list with x for the field f; past the last field nothing changes
 abbrev pub kept_at : {A : Type 0} → ℕ → A → List A → List A
-kept_at f x l = if ltb f field_count then set l f x else l
+kept_at f x l = if nat_lt f field_count then set l f x else l
 
 -- the number of a refusal, 0 for none
 abbrev pub wrong_of : Judged → ℕ
@@ -125,14 +125,14 @@ unfoldable pub complete_number : List Given → ℕ
 complete_number gs =
     if not (has_needed gs) then missing_field
     else if not (end_is_raw gs) then bad_descriptor
-    else if ltb max_extent (extent_of gs) then extent_too_large
+    else if nat_lt max_extent (extent_of gs) then extent_too_large
     else if not (files_fine gs) then bad_descriptor
     else 0
 
 -- the answer at the header's end, where so many of its lines stand before the names under LIST
 unfoldable pub finished : ℕ → List Given → ℕ → ℕ → ℕ → ReadAnswer
 finished version gs bytes count before =
-    if eqb (complete_number gs) 0 then record { refusal = fine; reading = reading_at version gs bytes count before }
+    if complete_number gs == 0 then record { refusal = fine; reading = reading_at version gs bytes count before }
     else record { refusal = refusal (complete_number gs); reading = no_reading }
 
 -- the answer of the reading once n - 1 lines of `at` bytes are read, none of them a name, by what the walk gives from line n on

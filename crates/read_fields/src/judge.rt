@@ -1,7 +1,7 @@
 // One line after line 1: what it is, or the number of its refusal, 5 to 12 in order; and the end of the header.
-ghost use Rattle.std.specs.Prelude.{◌≡◌, not, ◌||◌, List, ℕ, ◌+◌, ◌≤◌, ◌<◌, ltb, length, take, drop};
+ghost use Rattle.std.specs.Prelude.{◌≡◌, not, ◌||◌, List, ℕ, ◌+◌, ◌≤◌, ◌<◌, nat_lt, length, take, drop, if◌then◌else◌};
 ghost use Rattle.std.proofs.Math.Option.{some};
-ghost use Rattle.format.specs.Bytes.{every, if◌then◌else◌};
+ghost use Rattle.format.specs.Bytes.{every};
 ghost use Rattle.format.specs.Limits.{max_axes, max_header};
 ghost use Rattle.format.specs.Spaces.{max_space};
 ghost use Rattle.format.specs.Refusals.{bad_byte};
@@ -123,7 +123,7 @@ fn take_field(
 
 // Whether the field, with this descriptor, is there only from a later version on: patterns and LIST come later than the field data file.
 fn is_too_new(version: u32, f: usize, t: &[u8]) -> bool
-    ensures { result ≡ ltb version (since f t.now) }
+    ensures { result ≡ nat_lt version (since f t.now) }
 {
     if version < format_values::fields::since(f) {
         return true;

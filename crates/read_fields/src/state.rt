@@ -1,5 +1,5 @@
 // What the reader keeps of the fields given so far: flags, numbers, sizes, whether the data is found from the end, and how many axes a data file covers; and the answer that they make.
-ghost use Rattle.std.specs.Prelude.{◌≡◌, true, not, ◌||◌, List, [], ◌+◌, ◌≤◌, eqb, take};
+ghost use Rattle.std.specs.Prelude.{◌≡◌, true, not, ◌||◌, List, [], ◌+◌, ◌≤◌, ◌==◌, take};
 ghost use Rattle.format.specs.Limits.{max_axes, max_extent};
 ghost use Rattle.format.specs.Refusals.{at_line};
 ghost use Rattle.format.specs.Fields.{Given};
@@ -13,7 +13,7 @@ use format_values::{products, refusals, types};
 
 // What a line comes to: the number of its refusal or 0, whether it closes the header, and the field that it gives, `field::COUNT` where it gives none, with its number
 // whether it says that the data is found from the end, whether it says that names follow, and how many axes a data file covers, as `read_files::said` tells it.
-#[derive(Drop)]
+#[derive(Clone, Copy)]
 pub struct Step {
     pub wrong: u32,
     pub closes: bool,
@@ -139,7 +139,7 @@ fn has_needed(given: &[bool; field::COUNT], numbers: &[u32; field::COUNT]) -> bo
 
 // Whether a byte skip from the end, if it is one, stands with raw.
 fn end_is_raw(fromend: bool, encoding: u32) -> bool
-    ensures { result ≡ (not fromend || eqb encoding raw) }
+    ensures { result ≡ (not fromend || encoding == raw) }
 {
     !fromend | (encoding == format::RAW)
 }

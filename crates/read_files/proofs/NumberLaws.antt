@@ -1,17 +1,18 @@
 -- Laws of the numbers that go into a pattern, and of the number of axes.
 -- Assumes nothing.
+use Rattle.std.specs.Prelude.{if◌then◌else◌}
 use Prim.Native.Nat.{ℕ, ◌+◌, ◌-◌, ◌*◌, ◌/◌, ◌≤◌, ◌<◌, min}
 use native.Mathlib.Nat.{div-mul-le_self, div-le_self}
 use native.Mathlib.Omega.{arith}
 use mathlib.Core.Path.{◌≡◌, refl, sym, ap, ◌∙◌}
-use mathlib.Core.Bool.{Bool, true, false, not, ◌&&◌, false≢true}
+use mathlib.Core.Bool.{Bool, true, false, ◌&&◌, false≢true}
 use mathlib.Core.List.{List, [], ◌∷◌}
 use mathlib.Core.Option.{Option, none, some}
 use lib.Dec.{eqb, ltb, leb}
 use lib.ListN.{length, take, drop}
 use mir.Val.{bool_byte}
 use borrow.Author.Tests.{eqb-true, eqb-false, eq-eqb, ne_eqb, lt-ltb, le-ltb, ltb-true, ltb-false, leb-true, le-leb}
-use Rattle.format.specs.Bytes.{if◌then◌else◌, MINUS}
+use Rattle.format.specs.Bytes.{MINUS}
 use Rattle.format.specs.Limits.{max_axes, max_size, max_file_number}
 use Rattle.format.specs.Words.{number, number_in, value_of_number, words}
 use Rattle.format.specs.Decimals.{past_number, digits_of}

@@ -1,5 +1,6 @@
 -- Laws of a pattern: a width, what follows the `%`, and the word.
 -- Assumes nothing.
+use Rattle.std.specs.Prelude.{if◌then◌else◌}
 use Prim.Native.Nat.{ℕ, suc, ◌+◌, ◌-◌, ◌≤◌, ◌<◌, min}
 use native.Mathlib.Omega.{arith}
 use mathlib.Core.Path.{◌≡◌, refl, sym, ◌∙◌}
@@ -11,9 +12,9 @@ use lib.ListN.{length, take, drop, get_or, length-drop, drop_of_length-le}
 use lib.Seq.{drop-drop}
 use mir.Val.{bool_byte}
 use borrow.Author.Tests.{leb-true, leb-false, le-leb, lt-leb}
-use Rattle.format.specs.Bytes.{if◌then◌else◌, is_digit, every, PERCENT}
+use Rattle.format.specs.Bytes.{is_digit, every, PERCENT}
 use Rattle.format.specs.Limits.{max_width}
-use Rattle.format.specs.Words.{number, within, value_of_number}
+use Rattle.format.specs.Words.{number, value_of_number}
 use Rattle.format.specs.Decimals.{past_number, digits_of, after_digits}
 use Rattle.format.specs.DataFiles.{has_percent, pattern, width_fine, after_width, after_percent, byte_before, pattern_of}
 use Rattle.format.proofs.Bytes.{and_left, and_right}

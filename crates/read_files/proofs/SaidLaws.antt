@@ -1,5 +1,6 @@
 -- Laws of what a whole descriptor says, by what its words say.
 -- Assumes nothing.
+use Rattle.std.specs.Prelude.{if◌then◌else◌}
 use Prim.Native.Nat.{ℕ, zero, suc, ◌+◌, ◌-◌, ◌≤◌}
 use native.Mathlib.Omega.{arith}
 use mathlib.Core.Path.{◌≡◌, refl, sym, ◌∙◌}
@@ -10,7 +11,7 @@ use lib.Dec.{eqb}
 use lib.ListN.{length, take, drop, length-take}
 use lib.Seq.{drop-drop, take-take, take-nil}
 use borrow.Author.Tests.{ne_eqb}
-use Rattle.format.specs.Bytes.{if◌then◌else◌, is_some, is_empty}
+use Rattle.format.specs.Bytes.{is_some, is_empty}
 use Rattle.format.specs.Words.{words}
 use Rattle.format.specs.DataFiles.{is_list, has_percent, Pattern, pattern, pattern_of, Numbering, one_file, numbered_files, axes_said, listed, numbered, pattern_said, data_file_said}
 use Rattle.read_files.specs.declared.words.Place.{Place}
@@ -129,13 +130,13 @@ module _ {t : List ℕ} {p : Place} {w : PatternAt} (n : Next t 0 p) (q : WordRe
       pub axes_bad : c ≡ 0 → PatternRead t no_pattern
       axes_bad z = no_pattern_lem t (pattern_words (words t) ∙ go (axes_said (drop 4 (words t))) axes_are)
         where
-          no_axes_lem : (o : Option Pattern) (u : Option Numbering) → numbered o u none ≡ none
-          no_axes_lem none u = refl
-          no_axes_lem (some x) none = refl
-          no_axes_lem (some x) (some y) = refl
+          no_axes : (o : Option Pattern) (u : Option Numbering) → numbered o u none ≡ none
+          no_axes none u = refl
+          no_axes (some x) none = refl
+          no_axes (some x) (some y) = refl
 
           go : (o : Option (Option ℕ)) → c ≡ cover_code o → numbered (pattern_of (first_of (words t))) (numbering_of (rest_of (words t))) o ≡ none
-          go none a = no_axes_lem (pattern_of (first_of (words t))) (numbering_of (rest_of (words t)))
+          go none a = no_axes (pattern_of (first_of (words t))) (numbering_of (rest_of (words t)))
           go (some none) a = absurd (omega arith)
           go (some (some x)) a = absurd (omega arith)
 

@@ -1,5 +1,6 @@
 -- Laws of the words of a descriptor: where the next one stands, and what its first byte is.
 -- Assumes nothing.
+use Rattle.std.specs.Prelude.{if◌then◌else◌}
 use Prim.Native.Nat.{ℕ, suc, ◌+◌, ◌-◌, ◌≤◌, min}
 use native.Mathlib.Omega.{arith}
 use mathlib.Core.Path.{◌≡◌, refl, sym, ap, ◌∙◌}
@@ -10,7 +11,7 @@ use lib.ListN.{length, take, drop, get_or}
 use lib.Seq.{drop-drop, take-nil}
 use mir.Val.{bool_byte}
 use borrow.Author.Tests.{eqb-true, eq-eqb, ne_eqb, leb-true, leb-false}
-use Rattle.format.specs.Bytes.{if◌then◌else◌, bytes, space_or_tab, same, begins_with, is_in}
+use Rattle.format.specs.Bytes.{bytes, space_or_tab, same, begins_with, is_in}
 use Rattle.format.specs.Fields.{field_at, dimension}
 use Rattle.format.specs.Words.{join_first, parts, not_empty, words, trim_front}
 use Rattle.format.specs.Decimals.{past_number, digits_of}

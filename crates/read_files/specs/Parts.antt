@@ -1,7 +1,6 @@
 -- Internal to the library. The answers of the functions on the words of a data file descriptor.
-use Rattle.std.specs.Prelude.{ℕ, ◌+◌, ◌-◌, ◌*◌, ◌≤◌, ◌<◌, ◌≡◌, Bool, true, false, not, ◌&&◌, List, [], ◌∷◌, eqb, length, take, drop}
+use Rattle.std.specs.Prelude.{ℕ, ◌+◌, ◌-◌, ◌*◌, ◌≤◌, ◌<◌, ◌≡◌, Bool, true, false, not, ◌&&◌, List, [], ◌∷◌, ◌==◌, length, take, drop, if◌then◌else◌}
 use Rattle.std.proofs.Math.Option.{Option, none, some}
-use Rattle.format.specs.Bytes.{if◌then◌else◌}
 use Rattle.format.specs.Limits.{max_file_number, max_width}
 use Rattle.format.specs.Words.{number_in, value_of_number, words}
 use Rattle.format.specs.Decimals.{digits_of}
@@ -19,7 +18,7 @@ use Rattle.read_files.specs.declared.numbering.Numbers.{Numbers}
 -- the first byte is b
 abbrev pub begins : ℕ → List ℕ → Bool
 begins b [] = false
-begins b (c ∷ s) = eqb c b
+begins b (c ∷ s) = c == b
 
 -- the part of t from one place to another
 abbrev pub part : ℕ → ℕ → List ℕ → List ℕ
@@ -38,7 +37,7 @@ rest_of (w ∷ ws) = ws
 pub record Next (t : List ℕ) (at : ℕ) (r : Place) : Type 0 where
   pub ordered : r.from ≤ r.to
   pub within : r.to ≤ length t
-  pub list : words (drop at t) ≡ (if eqb r.from r.to then [] else part r.from r.to t ∷ words (drop r.to t))
+  pub list : words (drop at t) ≡ (if r.from == r.to then [] else part r.from r.to t ∷ words (drop r.to t))
   pub word : part r.from r.to t ≡ first_of (words (drop at t))
   pub rest : words (drop r.to t) ≡ rest_of (words (drop at t))
 
@@ -82,7 +81,7 @@ pub record NumberRead (t : List ℕ) (at : ℕ) (r : NumberAt) : Type 0 where
 
 -- a step by its sign and its size, which is 0 where there is none
 abbrev pub step_of : Bool → ℕ → Option (Bool × ℕ)
-step_of falls size = if eqb size 0 then none else some (falls, size)
+step_of falls size = if size == 0 then none else some (falls, size)
 
 -- the first word from the place `at` on as a step
 pub record StepRead (t : List ℕ) (at : ℕ) (r : Step) : Type 0 where

@@ -1,7 +1,7 @@
 -- Internal to the library. What a data file descriptor says, in the numbers that the functions answer.
-use Rattle.std.specs.Prelude.{ℕ, ◌+◌, ◌≤◌, ◌<◌, min, ◌≡◌, Bool, true, false, List, length, drop}
+use Rattle.std.specs.Prelude.{ℕ, ◌+◌, ◌≤◌, ◌<◌, min, ◌≡◌, Bool, true, false, List, length, drop, if◌then◌else◌}
 use Rattle.std.proofs.Math.Option.{Option, none, some}
-use Rattle.format.specs.Bytes.{if◌then◌else◌, is_some, or_default}
+use Rattle.format.specs.Bytes.{is_some, or_default}
 use Rattle.format.specs.Limits.{max_axes, max_file_number, max_width}
 use Rattle.format.specs.Words.{words}
 use Rattle.format.specs.DataFiles.{Pattern, pattern, Numbering, numbering, DataFile, one_file, numbered_files, listed_files, axes_said, pattern_said, cover_said, last_numbered}

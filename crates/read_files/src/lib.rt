@@ -1,4 +1,6 @@
 // What a data file descriptor says: the name of one file, a pattern with the numbers that go into it, or that names follow on lines of their own.
+#![tactic(auto)]
+
 ghost use Rattle.std.specs.Prelude.{◌≡◌, ◌≤◌, length, drop};
 ghost use Rattle.format.specs.Words.{words};
 ghost use Rattle.format.specs.DataFiles.{is_list, is_many_form, axes_said, listed, data_file_said};
@@ -33,7 +35,7 @@ pub const COVER_FROM: u32 = 2;
 
 // What a descriptor says of the files: whether it is a right one; whether their names follow; the number of the last file of a pattern, counted from 0, and 0 for the other forms;
 // how many axes one file covers: 0 where nothing holds it to a number, 1 where it is left open, and else the number and 2, where a number above the most axes counts as one above it.
-#[derive(Drop)]
+#[derive(Clone, Copy)]
 pub struct FilesSaid {
     pub fine: bool,
     pub list: bool,
@@ -43,7 +45,7 @@ pub struct FilesSaid {
 
 // What a pattern with its numbers says, by places in the descriptor: the name of a file is the bytes from `from` to before `percent`, a number, and the bytes from `after` to before `to`.
 // The number is padded to the width by zeros or by spaces; the first of them, whether they fall, by how much each differs from the one before it; the last file and the axes as above.
-#[derive(Drop)]
+#[derive(Clone, Copy)]
 pub struct PatternSaid {
     pub fine: bool,
     pub from: usize,

@@ -8,7 +8,7 @@ use crate::{bytes, words};
 use read_text::numbers::Number;
 
 // Whether a word is a number, its value, 0 where it is none, and where the word ends.
-#[derive(Drop)]
+#[derive(Clone, Copy)]
 struct NumberAt {
     fine: bool,
     value: u64,
@@ -39,7 +39,7 @@ fn next_number(t: &[u8], at: usize) -> NumberAt
 }
 
 // Whether a step is negative, its size, 0 where the word is no step, and where the word ends.
-#[derive(Drop)]
+#[derive(Clone, Copy)]
 struct Step {
     falls: bool,
     size: u64,
@@ -89,7 +89,7 @@ fn count_numbers(falls: bool, first: u64, last: u64, size: u64) -> u64
 
 // Whether the numbers are right ones; the first of them, whether they fall, by how much each differs from the one before it; the number of the last file, counted from 0;
 // where the last of their words ends.
-#[derive(Drop)]
+#[derive(Clone, Copy)]
 pub struct Numbers {
     pub fine: bool,
     pub first: u64,

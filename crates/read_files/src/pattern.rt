@@ -5,7 +5,7 @@ ghost use Rattle.read_files.specs.Parts.{WidthRead, is_rest, ConversionRead, Wor
 use crate::bytes;
 
 // Whether a width is right, its value, 0 where it is left out or not right, and how many digits it has.
-#[derive(Drop)]
+#[derive(Clone, Copy)]
 struct Width {
     fine: bool,
     value: u32,
@@ -41,7 +41,7 @@ fn read_width(s: &[u8], zeros: bool) -> Width
 }
 
 // What stands after a `%`: whether it is right, how a number is padded, and how many bytes belong to it, up to and with the `d`.
-#[derive(Drop)]
+#[derive(Clone, Copy)]
 struct Conversion {
     fine: bool,
     zeros: bool,
@@ -86,7 +86,7 @@ fn read_conversion(s: &[u8]) -> Conversion
 }
 
 // Whether a word is a pattern; where its `%` stands; how a number is padded; where the rest starts.
-#[derive(Drop)]
+#[derive(Clone, Copy)]
 pub struct Pattern {
     pub fine: bool,
     pub percent: usize,

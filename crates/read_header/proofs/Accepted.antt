@@ -3,14 +3,11 @@
 use Prim.Native.Nat.{ℕ, ◌≤◌, ◌<◌}
 use native.Mathlib.Omega.{arith}
 use mathlib.Core.Path.{◌≡◌, refl, sym, ap, ◌∙◌}
-use mathlib.Core.Bool.{false}
-use mathlib.Core.List.{List, [], ◌∷◌, ◌++◌}
+use mathlib.Core.List.{List, [], ◌++◌}
 use mathlib.Core.Option.{none}
 use lib.ListN.{length}
-use denote.Enum.Declared.{tag_of}
-use types.Run.{OneOf, miss}
 use Rattle.format.specs.declared.ReadAnswer.{ReadAnswer}
-use Rattle.format.specs.Lines.{Line, lines}
+use Rattle.format.specs.Lines.{Line}
 use Rattle.format.specs.Pairs.{kind_of, pair_texts, field_texts}
 use Rattle.format.specs.Fields.{Given}
 use Rattle.format.specs.Header.{Item, pair_of, given_of, Entry, lines_of, Outcome, refused, accepted, header, before_names, field_lines}
@@ -23,7 +20,6 @@ use Rattle.read_text.specs.declared.lines.Kind.{Kind}
 use Rattle.read_text.specs.declared.lines.Kind.TheVariants.{Empty, Comment, Field, Pair, Neither}
 use Rattle.read_text.specs.Places.{kind_place}
 use Rattle.read_text.proofs.Places.{kind_told}
-use Rattle.read_text.specs.contracts.lines.Kind.{the_type}
 use Rattle.read_header.specs.Accepted.{Fielded, IsItem, Items}
 
 -- there is a byte in an accepted file, and a line in its header
@@ -70,16 +66,16 @@ module _ {t : List ℕ} {i : Item} (w : IsItem t i) where
   item_field = line_field w.version w.before t w.no_names w.judged
 
 -- an answer that is not a pair, and one that is not a field
-pub told_no_pair : (t : List ℕ) (r : Kind) → r ≡ kind_place (kind_of t) → OneOf (0 ∷ 1 ∷ 2 ∷ 4 ∷ []) (tag_of the_type r) → pair_texts (kind_of t) ≡ none
+pub told_no_pair : (t : List ℕ) (r : Kind) → r ≡ kind_place (kind_of t) → ((i : ℕ) → r ≡ Pair i → ⊥) → pair_texts (kind_of t) ≡ none
 told_no_pair t Empty e h = ap pair_texts (kind_told t e)
 told_no_pair t Comment e h = ap pair_texts (kind_told t e)
 told_no_pair t (Field i) e h = ap pair_texts (kind_told t e).0
-told_no_pair t (Pair i) e h = absurd (miss (0 ∷ 1 ∷ 2 ∷ 4 ∷ []) 3 tt h)
+told_no_pair t (Pair i) e h = absurd (h i refl)
 told_no_pair t Neither e h = ap pair_texts (kind_told t e)
 
-pub told_no_field : (t : List ℕ) (r : Kind) → r ≡ kind_place (kind_of t) → OneOf (0 ∷ 1 ∷ 3 ∷ 4 ∷ []) (tag_of the_type r) → field_texts (kind_of t) ≡ none
+pub told_no_field : (t : List ℕ) (r : Kind) → r ≡ kind_place (kind_of t) → ((i : ℕ) → r ≡ Field i → ⊥) → field_texts (kind_of t) ≡ none
 told_no_field t Empty e h = ap field_texts (kind_told t e)
 told_no_field t Comment e h = ap field_texts (kind_told t e)
-told_no_field t (Field i) e h = absurd (miss (0 ∷ 1 ∷ 3 ∷ 4 ∷ []) 2 tt h)
+told_no_field t (Field i) e h = absurd (h i refl)
 told_no_field t (Pair i) e h = ap field_texts (kind_told t e).0
 told_no_field t Neither e h = ap field_texts (kind_told t e)

@@ -24,17 +24,17 @@ use Rattle.read_header.proofs.Turns.{refused_at}
 
 -- the first lines of a file with an accepted header
 module _ (file : List ℕ) {es : List Entry} {gs : List Given} {ls : List Line} (e : header file ≡ accepted es gs ls) where
-  header_lines_lem : take (length es) (lines file) ≡ lines_of es
-  header_lines_lem = rw (header_sound file e).split (take_at (lines_of es) ls (length es) (length-map es line_of))
+  header_lines : take (length es) (lines file) ≡ lines_of es
+  header_lines = rw (header_sound file e).split (take_at (lines_of es) ls (length es) (length-map es line_of))
 
   pub starts_of_lem : starts_of file (length es) ≡ table_of es
-  starts_of_lem = rw header_lines_lem
+  starts_of_lem = rw header_lines
 
   pub header_lined : Lined file 0 (length es)
   header_lined =
       record {
         there = rw ((header_sound file e).split, length-append, length-map) (omega arith);
-        short = rw (zero-add, header_lines_lem) (header_sound file e).short;
+        short = rw (zero-add, header_lines) (header_sound file e).short;
       }
 
 module _ (file table : List ℕ) (a : ReadAnswer) (is : a ≡ read_header_call file) where

@@ -1,5 +1,6 @@
 -- A turn of the reading: what the walk answers from a line on, by what stands there.
 -- Assumes nothing.
+use Rattle.std.specs.Prelude.{if◌then◌else◌}
 use Prim.Native.Nat.{ℕ, suc, ◌+◌, ◌-◌, ◌≤◌, ◌<◌}
 use native.Mathlib.Nat.{add-zero}
 use native.Mathlib.Omega.{arith}
@@ -11,7 +12,7 @@ use lib.Dec.{eqb, ltb}
 use lib.ListN.{length, take, drop, get_or, length-take, length-drop, length-append}
 use borrow.Author.Tests.{lt-ltb, le-ltb, eqb-true, ne_eqb}
 use Rattle.format.specs.declared.ReadAnswer.{ReadAnswer}
-use Rattle.format.specs.Bytes.{if◌then◌else◌, every, is_some}
+use Rattle.format.specs.Bytes.{every, is_some}
 use Rattle.format.specs.Limits.{max_header, max_lines, max_extent}
 use Rattle.format.specs.Refusals.{no_end, bad_byte, bad_descriptor, missing_field, extent_too_large, header_too_long, too_many_lines, at_line, refusal, fine}
 use Rattle.format.specs.Lines.{Line, line, size, lines, unlines}
@@ -30,7 +31,7 @@ use Rattle.format.proofs.Numbered.{Numbered, judge_numbered}
 use Rattle.read_fields.specs.declared.state.Step.{Step}
 use Rattle.read_fields.specs.States.{flags, numbers_of, Holds, Known, stepped, kept_at, cover_kept, complete_number, finished, answer_from, named_from}
 use Rattle.read_lines.specs.Spans.{LineAt, PastAt}
-use Rattle.read_fields.proofs.States.{given_at, number_at, holds_none, holds_name, holds_next, known_of, list_after_lem}
+use Rattle.read_fields.proofs.States.{given_at, number_at, holds_none, holds_name, holds_next, known_of, list_after}
 use Rattle.read_fields.proofs.Sharing.{last_file}
 use Rattle.read_header.specs.Listed.{names_ended}
 
@@ -234,7 +235,7 @@ module _ (file : List ℕ) (version : ℕ) (gs : List Given) (n at : ℕ) where
               answer =
                   judged few (right i) right_of.is_right
                   ∙ rw (c, answer_entry version n at (line t w.ending) i (walk version (n + 1) next (after_item i gs) (lines (drop next file))) some f, w.bytes);
-              names = list_after_lem version gs t i right_of.is_right u ∙ ap (λ (x : Step × List ℕ). x.0.list) (sym right_of.stepped_is);
+              names = list_after version gs t i right_of.is_right u ∙ ap (λ (x : Step × List ℕ). x.0.list) (sym right_of.stepped_is);
               unnamed = names_stay i gs f;
             }
 

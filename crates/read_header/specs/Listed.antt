@@ -1,7 +1,6 @@
 -- Internal to this crate. The end of a header under LIST.
-use Rattle.std.specs.Prelude.{ℕ, List}
+use Rattle.std.specs.Prelude.{ℕ, List, if◌then◌else◌}
 use Rattle.format.specs.declared.ReadAnswer.{ReadAnswer}
-use Rattle.format.specs.Bytes.{if◌then◌else◌}
 use Rattle.format.specs.Refusals.{bad_descriptor, at_line}
 use Rattle.format.specs.Fields.{Given}
 use Rattle.format.specs.Descriptors.{list_empty}

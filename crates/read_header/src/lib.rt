@@ -1,2 +1,4 @@
 // The reader: headers read, refused and tabled.
+#![tactic(auto)]
+
 pub mod read;

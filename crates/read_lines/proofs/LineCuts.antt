@@ -1,5 +1,6 @@
 -- The line at a place of a file, from the search for its LF in the bytes up to the limit.
 -- Assumes nothing.
+use Rattle.std.specs.Prelude.{if◌then◌else◌}
 use Prim.Native.Nat.{ℕ, zero, suc, ◌+◌, ◌-◌, ◌≤◌, ◌<◌, min}
 use native.Mathlib.Nat.{le_of_suc-le-suc, not-suc-le-zero}
 use native.Mathlib.Omega.{arith}
@@ -10,7 +11,7 @@ use lib.Dec.{eqb, ltb}
 use lib.ListN.{length, take, drop, length-take, length-drop}
 use lib.Seq.{take_all, take-take, length-take-le, drop-drop}
 use borrow.Author.Tests.{ltb-true, ltb-false}
-use Rattle.format.specs.Bytes.{if◌then◌else◌, LF, CR}
+use Rattle.format.specs.Bytes.{LF, CR}
 use Rattle.format.specs.Limits.{max_header}
 use Rattle.format.specs.Lines.{Line, line, lf, crlf, eof, size, lines}
 use Rattle.format.proofs.Lines.{lines_none}

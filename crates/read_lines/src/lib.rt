@@ -1,9 +1,11 @@
 // The line at a place of a file.
+#![tactic(auto)]
+
 ghost use Rattle.std.specs.Prelude.{◌≡◌, ◌<◌, ◌≤◌, min, length};
 ghost use Rattle.format.specs.Limits.{max_header};
 ghost use Rattle.read_lines.specs.Spans.{SpanIs};
 
-#[derive(Drop)]
+#[derive(Clone, Copy)]
 pub enum Span {
     // where the line's text ends, and where the next line starts
     Found(usize, usize),

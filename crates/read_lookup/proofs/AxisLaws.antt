@@ -1,5 +1,6 @@
 -- Laws of the look-up of the four fields of axes: what a line gives, and what is kept of it once the line is passed.
 -- Assumes nothing.
+use Rattle.std.specs.Prelude.{if◌then◌else◌}
 use Prim.Native.Nat.{ℕ, ◌+◌, ◌-◌, ◌≤◌, ◌<◌}
 use native.Mathlib.Omega.{arith}
 use mathlib.Core.Path.{◌≡◌, refl, sym, ap, ◌∙◌, subst}
@@ -10,7 +11,6 @@ use lib.Dec.{eqb, ltb}
 use lib.ListN.{length, take, drop}
 use borrow.Author.Tests.{ltb-true, ltb-false, eqb-true, lt-ltb, le-ltb, eq-eqb, ne_eqb}
 use Rattle.format.specs.declared.FindAnswer.{FindAnswer}
-use Rattle.format.specs.Bytes.{if◌then◌else◌}
 use Rattle.format.specs.Refusals.{fine}
 use Rattle.format.specs.Lines.{Line, text, size}
 use Rattle.format.specs.Pairs.{kind_of, field_texts}

@@ -1,5 +1,6 @@
 -- Laws of the look-ups: what a line gives a key or a field, and the entries that are left of a header, up to the names under LIST.
 -- Assumes nothing.
+use Rattle.std.specs.Prelude.{if◌then◌else◌}
 use Prim.Native.Nat.{ℕ, ◌+◌, ◌-◌, ◌≤◌, ◌<◌}
 use native.Mathlib.Nat.{zero-add}
 use native.Mathlib.Omega.{arith}
@@ -12,7 +13,7 @@ use lib.ListN.{length, take, drop, length-append, length-drop, length-map}
 use lib.Seq.{length-take-le}
 use borrow.Author.Tests.{eqb-true}
 use Rattle.format.specs.declared.FindAnswer.{FindAnswer}
-use Rattle.format.specs.Bytes.{if◌then◌else◌, same, is_some, or_else, or_default}
+use Rattle.format.specs.Bytes.{same, is_some, or_else, or_default}
 use Rattle.format.specs.Limits.{max_header}
 use Rattle.format.specs.Refusals.{fine}
 use Rattle.format.specs.Lines.{Line, line, text, size, lines, unlines}
@@ -139,9 +140,9 @@ module _ (f at : ℕ) (rest : FindAnswer) {t : List ℕ} {i : Item} (w : IsItem 
         go none q = rw (← q)
         go (some g) q = rw (starts, ← q) (by g (eqb f g) refl)
 
-    pub field_there_lem : is_field f (field_named (take j t)) ≡ true
+    pub field_there : is_field f (field_named (take j t)) ≡ true
         → (r : FindAnswer) → r ≡ place_in f (at + (j + 2)) (take (length t - (j + 2)) (drop (j + 2) t)) → r ≡ descriptor_place f at t i rest
-    field_there_lem z r q = q ∙ ap (place_in f (at + (j + 2))) (rest_of (j + 2) t) ∙ field_field true z
+    field_there z r q = q ∙ ap (place_in f (at + (j + 2))) (rest_of (j + 2) t) ∙ field_field true z
 
 module _ (f at : ℕ) (t : List ℕ) (i : Item) (rest : FindAnswer) where
   -- the line has the field

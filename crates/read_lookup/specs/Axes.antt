@@ -1,8 +1,7 @@
 -- Internal to the library. The look-up of centers, labels, units and kinds in one pass over the lines of an accepted header.
-use Rattle.std.specs.Prelude.{ℕ, ◌≤◌, ◌≡◌, List, eqb, ltb}
+use Rattle.std.specs.Prelude.{ℕ, ◌≤◌, ◌≡◌, List, ◌==◌, nat_lt, if◌then◌else◌}
 use Rattle.std.proofs.Math.Option.{Option, none, some}
 use Rattle.format.specs.declared.FindAnswer.{FindAnswer}
-use Rattle.format.specs.Bytes.{if◌then◌else◌}
 use Rattle.format.specs.Refusals.{fine}
 use Rattle.format.specs.Fields.{centers, labels, units, kinds}
 use Rattle.format.specs.Header.{Item, Entry}
@@ -25,7 +24,7 @@ axis_places file =
 -- the field that a name means, or 0 if it comes before the four
 abbrev pub axis_row : Option ℕ → ℕ
 axis_row none = 0
-axis_row (some g) = if ltb g centers then 0 else g
+axis_row (some g) = if nat_lt g centers then 0 else g
 
 -- what was found, or else what comes after it
 abbrev pub first_of : FindAnswer → FindAnswer → FindAnswer
@@ -33,11 +32,11 @@ first_of found rest = if found.found then found else rest
 
 -- what a line gives the field f, or else what comes after it
 abbrev pub given_then : ℕ → AxisField → FindAnswer → FindAnswer
-given_then f g rest = if eqb f g.field then first_of g.place rest else rest
+given_then f g rest = if f == g.field then first_of g.place rest else rest
 
 -- what is found of the field f once a line is passed
 abbrev pub kept_of : ℕ → FindAnswer → AxisField → FindAnswer
-kept_of f before g = if before.found then before else if eqb f g.field then g.place else before
+kept_of f before g = if before.found then before else if f == g.field then g.place else before
 
 -- a line with the text t, which starts at `at`, gives this
 pub record Gives (t : List ℕ) (at : ℕ) (g : AxisField) : Type 0 where

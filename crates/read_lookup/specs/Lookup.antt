@@ -1,8 +1,8 @@
 -- Internal to this crate. The look-up of a key and of a field: a second pass over the lines of an accepted header, up to the names under LIST.
-use Rattle.std.specs.Prelude.{ℕ, ◌+◌, ◌≤◌, ◌≡◌, Bool, false, List, ◌∷◌, ◌++◌, eqb, length, drop}
+use Rattle.std.specs.Prelude.{ℕ, ◌+◌, ◌≤◌, ◌≡◌, Bool, false, List, ◌∷◌, ◌++◌, ◌==◌, length, drop, if◌then◌else◌}
 use Rattle.std.proofs.Math.Option.{Option, none, some}
 use Rattle.format.specs.declared.FindAnswer.{FindAnswer}
-use Rattle.format.specs.Bytes.{if◌then◌else◌, is_some}
+use Rattle.format.specs.Bytes.{is_some}
 use Rattle.format.specs.Limits.{max_header}
 use Rattle.format.specs.Lines.{Line, size, lines}
 use Rattle.format.specs.Header.{Item, Entry, lines_of, value_in, header_length}
@@ -43,7 +43,7 @@ FieldLeft file f at count = Left (λ es. find_field_call file f ≡ field_place 
 -- the field that a name means is f
 abbrev pub is_field : ℕ → Option ℕ → Bool
 is_field f none = false
-is_field f (some g) = eqb f g
+is_field f (some g) = f == g
 
 -- line 2 starts at `at`, where line 1 is within the limit
 abbrev pub SecondAt : List ℕ → ℕ → Type 0

@@ -22,14 +22,14 @@ const UNITS: u32 = field::UNITS as u32;
 const KINDS: u32 = field::KINDS as u32;
 
 // A field that a line gives, and the place of its descriptor; 0 and no place where it gives none of the four.
-#[derive(Drop)]
+#[derive(Clone, Copy)]
 pub(crate) struct AxisField {
     field: u32,
     place: FindAnswer,
 }
 
 // The places of the four descriptors.
-#[derive(Drop)]
+#[derive(Clone, Copy)]
 pub struct AxisPlaces {
     pub centers: FindAnswer,
     pub labels: FindAnswer,

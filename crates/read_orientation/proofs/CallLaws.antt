@@ -1,5 +1,6 @@
 -- Laws of the calls: what they answer is what the header says, by what is told of the field.
 -- Assumes nothing.
+use Rattle.std.specs.Prelude.{if◌then◌else◌}
 use Prim.Native.Nat.{ℕ, zero, suc, ◌*◌, ◌/◌, ◌≤◌, ◌<◌}
 use native.Mathlib.Nat.{zero-add}
 use native.Mathlib.Omega.{arith}
@@ -15,7 +16,7 @@ use Rattle.format.specs.declared.Decimal.{Decimal}
 use Rattle.format.specs.declared.Refusal.{Refusal}
 use Rattle.format.specs.declared.VectorAnswer.{VectorAnswer}
 use Rattle.format.specs.declared.CountAnswer.{CountAnswer}
-use Rattle.format.specs.Bytes.{if◌then◌else◌, is_some, or_default, over}
+use Rattle.format.specs.Bytes.{is_some, or_default, over}
 use Rattle.format.specs.Words.{not_empty}
 use Rattle.format.specs.Refusals.{lent_too_short, bad_coordinates, refusal, fine}
 use Rattle.format.specs.Lines.{Line}
@@ -126,9 +127,9 @@ module _ (file : List ℕ) (x : Field) (w : Told file space_directions (header f
         (λ es gs ls e d q. rw (lt-ltb axis (dimension_of gs) (omega (arith, ap (λ (y : Field). y.axes) q)), d, q))
         (λ es gs ls e t d l. absurd (false≢true (sym z ∙ l.there))) w
 
-    pub direction_given_lem : axis < x.axes → x.given ≡ true → direction_told x.size (get_or (vector_words (part x.from x.to file)) axis []) ≡ direction_call file axis
+    pub direction_given : axis < x.axes → x.given ≡ true → direction_told x.size (get_or (vector_words (part x.from x.to file)) axis []) ≡ direction_call file axis
     unfolding directions_of may_describe
-    direction_given_lem h z =
+    direction_given h z =
         told_cases file space_directions x (λ o. direction_told x.size (get_or (vector_words (part x.from x.to file)) axis []) ≡ direction_in axis o)
         (λ r q. absurd (some_axes (ap (λ (y : Field). y.axes) q)))
         (λ es gs ls e d q. absurd (false≢true (sym (ap (λ (y : Field). y.given) q) ∙ z)))
@@ -210,8 +211,8 @@ module _ (file list : List ℕ) where
     parts : (v.count ≤ 8) × (length v.parts ≡ 8) × (stored v.refusal (take v.count v.parts) list ≡ origin_entry file list)
     parts = rw e (origin_parts (header file) refl)
 
-    pub origin_fits_lem : v.count ≤ 8
-    origin_fits_lem = parts.0
+    pub origin_fits : v.count ≤ 8
+    origin_fits = parts.0
 
     pub origin_stores : Stores v.refusal (take v.count v.parts) v.count list (origin_entry file list)
     origin_stores = record { many = length-take-le v.count v.parts (omega (arith, parts.0, parts.1)); is = parts.2 }

@@ -1,5 +1,6 @@
 -- Laws of vectors that are said: how many there are, how long they are, and each of them by its word.
 -- Assumes nothing.
+use Rattle.std.specs.Prelude.{if◌then◌else◌}
 use Prim.Native.Nat.{ℕ, zero, suc, ◌-◌, ◌≤◌, ◌<◌}
 use native.Mathlib.Nat.{zero-add}
 use native.Mathlib.Omega.{arith}
@@ -12,7 +13,7 @@ use lib.ListN.{length, take, drop, get_or, replicate}
 use lib.Seq.{sets-eq, take_at, length-sets}
 use borrow.Author.Tests.{eqb-true}
 use Rattle.format.specs.declared.Decimal.{Decimal}
-use Rattle.format.specs.Bytes.{if◌then◌else◌, bytes, alike, is_some, or_default}
+use Rattle.format.specs.Bytes.{bytes, alike, is_some, or_default}
 use Rattle.format.specs.Decimals.{marked, no_direction, nought}
 use Rattle.format.specs.Vectors.{Direction, without, along, along_said, cons_said, all_said, said_by, enclosed, comma_parts, component_in, components_in, vector_said, direction_said}
 use Rattle.format.specs.Columns.{eight, column}

@@ -1,10 +1,10 @@
 -- Internal to this crate. Where a field of vectors lies in a file, and what is read and stored of it.
-use Rattle.std.specs.Prelude.{ℕ, zero, suc, ◌-◌, ◌≤◌, ◌<◌, ◌≡◌, true, false, List, [], ◌++◌, length, take, get_or}
+use Rattle.std.specs.Prelude.{ℕ, zero, suc, ◌-◌, ◌≤◌, ◌<◌, ◌≡◌, true, false, List, [], ◌++◌, length, take, slice_index_or, if◌then◌else◌}
 use Rattle.std.proofs.Math.Option.{Option, none, some}
 use Rattle.format.specs.declared.Decimal.{Decimal}
 use Rattle.format.specs.declared.Refusal.{Refusal}
 use Rattle.format.specs.declared.VectorAnswer.{VectorAnswer}
-use Rattle.format.specs.Bytes.{if◌then◌else◌, bytes, alike}
+use Rattle.format.specs.Bytes.{bytes, alike}
 use Rattle.format.specs.Limits.{max_header}
 use Rattle.format.specs.Refusals.{fine}
 use Rattle.format.specs.Fields.{Given, descriptor_of, needs_space}
@@ -68,12 +68,12 @@ joined f (suc k) = joined f k ++ f k
 
 -- n decimals for each of k words
 abbrev pub directions_in : ℕ → List (List ℕ) → ℕ → List Decimal
-directions_in n ws k = joined (λ i. take n (direction_answer (direction_said n (get_or ws i []))).parts) k
+directions_in n ws k = joined (λ i. take n (direction_answer (direction_said n (slice_index_or ws i []))).parts) k
 
 -- the first n entries of each of k columns
 abbrev pub columns_in : ℕ → List (List Decimal) → ℕ → List Decimal
-columns_in n m k = joined (λ c. take n (get_or m c [])) k
+columns_in n m k = joined (λ c. take n (slice_index_or m c [])) k
 
 -- each of the eight columns has eight entries
 abbrev pub Columns : List (List Decimal) → Type 0
-Columns m = (c : ℕ) → c < 8 → length (get_or m c []) ≡ 8
+Columns m = (c : ℕ) → c < 8 → length (slice_index_or m c []) ≡ 8

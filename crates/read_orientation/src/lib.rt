@@ -1,5 +1,7 @@
 // The orientation that a header says: the origin, the direction of each axis and the measurement frame, by value and in lent bytes.
-ghost use Rattle.std.specs.Prelude.{◌≡◌, List, [], ℕ, ◌≤◌, length, get_or};
+#![tactic(auto)]
+
+ghost use Rattle.std.specs.Prelude.{◌≡◌, List, [], ℕ, ◌≤◌, length, slice_index_or};
 ghost use Rattle.format.specs.declared.CountAnswer.{CountAnswer};
 ghost use Rattle.format.specs.Limits.{max_header};
 ghost use Rattle.format.specs.Vectors.{vector_words};
@@ -68,7 +70,7 @@ fn components(w: &[u8], n: usize) -> u32
 // The direction of axis i, in a space of n dimensions.
 fn direction_in(t: &[u8], i: usize, n: usize) -> VectorAnswer
     requires { (length t.now ≤ max_header) × (n ≤ 8) }
-    ensures { result ≡ direction_told n (get_or (vector_words t.now) i []) }
+    ensures { result ≡ direction_told n (slice_index_or (vector_words t.now) i []) }
 {
     let w = read_vectors::words::word_at(t, i);
     let from = w.from;

@@ -7,7 +7,7 @@ use format::Refusal;
 use format_values::refusals;
 
 // A field of vectors in a header.
-#[derive(Drop)]
+#[derive(Clone, Copy)]
 pub(crate) struct Field {
     // why the header is refused, if it is
     pub refusal: Refusal,

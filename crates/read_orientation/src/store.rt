@@ -1,5 +1,5 @@
 // Vectors in lent bytes, one after the other, 16 bytes a component.
-ghost use Rattle.std.specs.Prelude.{◌≡◌, [], ◌+◌, ◌*◌, ◌≤◌, ◌<◌, length, take, get_or};
+ghost use Rattle.std.specs.Prelude.{◌≡◌, [], ◌+◌, ◌*◌, ◌≤◌, ◌<◌, length, take, slice_index_or};
 ghost use Rattle.std.proofs.lemmas.List.Edits.{sets};
 ghost use Rattle.format.specs.Limits.{max_header};
 ghost use Rattle.format.specs.Vectors.{vector_words};
@@ -28,7 +28,7 @@ pub(crate) fn put_directions(list: &mut [u8], t: &[u8], axes: usize, n: usize)
 // The first n entries of column c, at the place of that column.
 fn put_entries(list: &mut [u8], m: [[Decimal; 8]; 8], c: usize, n: usize)
     requires { Columns m × (n ≤ 8) × (c < 8) × (16 * (n * c) + 16 * n ≤ length list.old) }
-    ensures { list.new ≡ sets list.old (16 * (n * c)) (decimals_bytes (take n (get_or m c []))) }
+    ensures { list.new ≡ sets list.old (16 * (n * c)) (decimals_bytes (take n (slice_index_or m c []))) }
 {
     let mut r: usize = 0;
     while r < n {

@@ -1,12 +1,10 @@
 -- A list that is filled from the front out of another: after i stores it is `take i rs ++ drop i ys`. Of elements of any type.
 --     fill_more     a store of rs[i] at i makes it the same at i + 1
---     fill-length   it is as long as ys
 --     filled        filled to its end, it is rs
---     whole-fits    a place below 16, times the 32 bytes of a record, is a machine number
 -- Assumes nothing.
 use mathlib.Core.Path.{◌≡◌, refl, sym, ap, subst}
 use mathlib.Core.List.{List, [], ◌∷◌, ◌++◌, append-nil}
-use Prim.Native.Nat.{ℕ, zero, suc, ◌+◌, ◌*◌, ◌<◌, ◌≤◌, ◌^◌}
+use Prim.Native.Nat.{ℕ, zero, suc, ◌+◌, ◌<◌, ◌≤◌}
 use native.Mathlib.Nat.{not-suc-le-zero, le_of_suc-le-suc}
 use native.Mathlib.Numerals.{add-one}
 use native.Mathlib.Omega.{arith}
@@ -23,15 +21,6 @@ module _ {X : Type 0} where
   pub fill_more : (i : ℕ) (rs ys : List X) (d : X) → i < length rs → i < length ys → set (take i rs ++ drop i ys) i (get_or rs i d) ≡ take (i + 1) rs ++ drop (i + 1) ys
   fill_more i rs ys d l k = subst (λ (m : ℕ). set (take i rs ++ drop i ys) i (get_or rs i d) ≡ take m rs ++ drop m ys) (sym (add-one i)) (fill_suc i rs ys d l k)
 
-  pub fill_length : (i : ℕ) (rs ys : List X) → i ≤ length rs → i ≤ length ys → length (take i rs ++ drop i ys) ≡ length ys
-  fill_length zero rs ys l k = refl
-  fill_length (suc i) [] ys l k = absurd (not-suc-le-zero l)
-  fill_length (suc i) (r ∷ rs) [] l k = absurd (not-suc-le-zero k)
-  fill_length (suc i) (r ∷ rs) (y ∷ ys) l k = ap suc (fill_length i rs ys (le_of_suc-le-suc l) (le_of_suc-le-suc k))
-
   -- once it is filled to its end, it is the other
   pub filled : {n : ℕ} (i : ℕ) (rs ys : List X) → length rs ≡ n → length ys ≡ n → i ≤ n → n ≤ i → take i rs ++ drop i ys ≡ rs
   filled i rs ys e q l k = rw (take_all i rs (omega (arith, e)), drop_of_length-le ys {i = i} (omega (arith, q)), append-nil rs)
-
-pub whole_fits : (i n : ℕ) → i < n → n ≤ 16 → i * 32 < 2 ^ 64
-whole_fits i n l k = omega arith

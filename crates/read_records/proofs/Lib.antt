@@ -1,5 +1,3 @@
-pub mod Both
 pub mod Filling
 pub mod ListLaws
-pub mod RecordRows
 pub mod ValueLaws

@@ -3,6 +3,7 @@
 --     handed-over     the answer, and the list with these records at its front, are those of the call
 --     handed-bytes    the same of lent bytes with the records' bytes at their front
 -- Assumes nothing.
+use Rattle.std.specs.Prelude.{if◌then◌else◌}
 use mathlib.Core.Path.{◌≡◌, refl}
 use mathlib.Core.Bool.{Bool, true, false}
 use mathlib.Core.List.{List, ◌++◌}
@@ -13,7 +14,7 @@ use borrow.Author.Tests.{ltb-false}
 use Rattle.format.specs.declared.Axis.{Axis}
 use Rattle.format.specs.declared.Axes.{Axes}
 use Rattle.format.specs.declared.CountAnswer.{CountAnswer}
-use Rattle.format.specs.Bytes.{if◌then◌else◌, each, over}
+use Rattle.format.specs.Bytes.{each, over}
 use Rattle.format.specs.Limits.{max_axes}
 use Rattle.format.specs.Refusals.{lent_too_short, refusal, fine}
 use Rattle.format.specs.Fields.{Given}

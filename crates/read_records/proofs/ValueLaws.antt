@@ -12,7 +12,7 @@ use lib.ListN.{length, take, drop, get_or, replicate, length-take, length-drop}
 use borrow.Author.Tests.{lt-ltb, le-ltb}
 use Rattle.format.specs.declared.FindAnswer.{FindAnswer}
 use Rattle.format.specs.declared.ReadAnswer.{ReadAnswer}
-use Rattle.format.specs.Bytes.{if◌then◌else◌, each, or_default}
+use Rattle.format.specs.Bytes.{each, or_default}
 use Rattle.format.specs.Limits.{max_file, max_axes}
 use Rattle.format.specs.Refusals.{lent_too_short, refusal, fine}
 use Rattle.format.specs.Fields.{descriptor_of, centers, labels, units, kinds}

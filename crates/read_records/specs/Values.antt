@@ -1,5 +1,5 @@
 -- Internal to this crate. What the functions by value are asked, and what they answer.
-use Rattle.std.specs.Prelude.{ℕ, ◌≡◌, Bool, List, [], get_or}
+use Rattle.std.specs.Prelude.{ℕ, ◌≡◌, Bool, List, [], slice_index, slice_index_or}
 use Rattle.format.specs.declared.Axis.{Axis}
 use Rattle.format.specs.declared.FindAnswer.{FindAnswer}
 use Rattle.format.specs.Bytes.{each, or_default}
@@ -48,11 +48,11 @@ Placed f r (accepted es gs ls) = r ≡ each (λ i. span_of (string_place_of f es
 abbrev pub axis_from : List ℕ → List ℕ → List ℕ → List Span → List Span → ℕ → Axis
 axis_from sizes centrings kinds labels units i =
     record {
-      size = get_or sizes i 0;
-      centring = get_or centrings i 0;
-      kind = get_or kinds i 0;
-      labelplace = (get_or labels i no_span).start;
-      labellength = (get_or labels i no_span).length;
-      unitplace = (get_or units i no_span).start;
-      unitlength = (get_or units i no_span).length;
+      size = slice_index sizes i;
+      centring = slice_index centrings i;
+      kind = slice_index kinds i;
+      labelplace = (slice_index_or labels i no_span).start;
+      labellength = (slice_index_or labels i no_span).length;
+      unitplace = (slice_index_or units i no_span).start;
+      unitlength = (slice_index_or units i no_span).length;
     }

@@ -1,4 +1,6 @@
 // Axis records: what a header says of each axis, worked out by value and then handed over in a lent list, of records or of bytes.
+#![tactic(auto)]
+
 ghost use Rattle.std.specs.Prelude.{◌≡◌, List, ℕ, ◌≤◌, length};
 ghost use Rattle.format.specs.declared.CountAnswer.{CountAnswer};
 ghost use Rattle.format.specs.AxisRecords.{axes_entry};

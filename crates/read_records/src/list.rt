@@ -1,5 +1,4 @@
-// The records in a lent list. These functions have a list of structs lent to be altered, or make one: their proofs go through the code step by step, by hand.
-// So nothing is decided here: `values::records` works out the answer and the records first, and `fill` stores as many as the answer says.
+// The records in a lent list. Nothing is decided here: `values::records` works out the answer and the records first, and `fill` stores as many as the answer says.
 ghost use Rattle.std.specs.Prelude.{◌≡◌, List, ◌++◌, ◌≤◌, length, take, drop};
 ghost use Rattle.format.specs.declared.Axis.{Axis};
 ghost use Rattle.format.specs.declared.CountAnswer.{CountAnswer};
@@ -10,8 +9,8 @@ use format::{Axis, CountAnswer};
 
 // The first n records, stored at the front of the list; those past them stay.
 fn fill(list: &mut [Axis], records: [Axis; format::AXES], n: usize)
-    requires n_in_bounds { n ≤ length list.old }
-    requires n_bound { n ≤ 16 }
+    requires room { n ≤ length list.old }
+    requires few { n ≤ 16 }
     ensures { list.new ≡ take n records ++ drop n list.old }
 {
     let mut i: usize = 0;

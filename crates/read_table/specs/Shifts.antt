@@ -1,11 +1,10 @@
 -- Internal to the library. The starts of lines, moved by an edit of the header.
-use Rattle.std.specs.Prelude.{ℕ, zero, suc, ◌+◌, ◌-◌, ◌≤◌, ◌<◌, List, [], ◌∷◌, map, ltb, length, get_or}
-use Rattle.format.specs.Bytes.{if◌then◌else◌}
+use Rattle.std.specs.Prelude.{ℕ, zero, suc, ◌+◌, ◌-◌, ◌≤◌, ◌<◌, List, [], ◌∷◌, map, nat_lt, length, slice_index, if◌then◌else◌}
 use Rattle.format.specs.Limits.{max_file}
 
 -- where a line that started at x starts, once what ended at `to` ends at `front`
 unfoldable pub moved_by : ℕ → ℕ → ℕ → ℕ
-moved_by to front x = if ltb x to then x else front + (x - to)
+moved_by to front x = if nat_lt x to then x else front + (x - to)
 
 -- the starts of the lines after an edit; `more` is 1 for a new line 2, which starts at `from`
 unfoldable pub shifted : ℕ → ℕ → ℕ → ℕ → List ℕ → List ℕ
@@ -19,4 +18,4 @@ pub record Shiftable (table : List ℕ) (count more from to front : ℕ) : Type 
   pub few : more ≤ 1
   pub room : count + more ≤ length table
   pub second : from ≤ max_file
-  pub small : (k : ℕ) → k < count → moved_by to front (get_or table k 0) ≤ max_file
+  pub small : (k : ℕ) → k < count → moved_by to front (slice_index table k) ≤ max_file

@@ -1,6 +1,5 @@
 -- Internal to the library. A line table as it is lent, and the first lines of a file, whose starts go to it.
-use Rattle.std.specs.Prelude.{ℕ, ◌+◌, ◌≤◌, ◌≡◌, Bool, List, eqb, length, take, drop}
-use Rattle.format.specs.Bytes.{if◌then◌else◌}
+use Rattle.std.specs.Prelude.{ℕ, ◌+◌, ◌≤◌, ◌≡◌, Bool, List, ◌==◌, length, take, drop, if◌then◌else◌}
 use Rattle.format.specs.Limits.{max_header}
 use Rattle.format.specs.Lines.{lines, unlines, starts}
 use Rattle.format.specs.Boundary.{entry_bytes, numbers_of, lent_numbers}
@@ -9,7 +8,7 @@ use Rattle.format.specs.Boundary.{entry_bytes, numbers_of, lent_numbers}
 
 -- the bytes count at the width of an entry, at any other number the list
 abbrev pub in_bytes : ℕ → Bool
-in_bytes width = eqb width entry_bytes
+in_bytes width = width == entry_bytes
 
 unfoldable pub lent_entries : ℕ → List ℕ → List ℕ → List ℕ
 lent_entries width list bytes = if in_bytes width then numbers_of width bytes else list

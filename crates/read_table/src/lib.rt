@@ -1,6 +1,8 @@
 // The line table as it is lent: a list of numbers, or bytes, the low byte of an entry first. Both are lent; the width of an entry in bytes tells which
 // counts.
-ghost use Rattle.std.specs.Prelude.{◌≡◌, ◌≤◌, ◌<◌, length, take, get_or, set};
+#![tactic(auto)]
+
+ghost use Rattle.std.specs.Prelude.{◌≡◌, ◌≤◌, ◌<◌, length, take, slice_index, set};
 ghost use Rattle.format.specs.Bytes.{same, over};
 ghost use Rattle.format.specs.Limits.{max_file};
 ghost use Rattle.format.specs.Settings.{table_fine};
@@ -28,7 +30,7 @@ pub fn entries(list: &[u32], bytes: &[u8], width: usize) -> usize
 // Entry k.
 fn entry(list: &[u32], bytes: &[u8], width: usize, k: usize) -> u32
     requires { k < length (lent_entries width list.now bytes.now) }
-    ensures { result ≡ get_or (lent_entries width list.now bytes.now) k 0 }
+    ensures { result ≡ slice_index (lent_entries width list.now bytes.now) k }
 {
     if width == IN_BYTES {
         return lent_numbers::entry_at(bytes, k);

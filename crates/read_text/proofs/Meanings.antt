@@ -1,9 +1,10 @@
 -- Laws of what an escaped text means, byte by byte.
 -- Assumes nothing.
+use Rattle.std.specs.Prelude.{if◌then◌else◌}
 use Prim.Native.Nat.{ℕ, zero, suc, ◌+◌, ◌-◌, ◌≤◌, ◌<◌}
 use native.Mathlib.Nat.{zero-add}
 use native.Mathlib.Omega.{arith}
-use mathlib.Core.Path.{◌≡◌, refl, sym, ap, ◌∙◌}
+use mathlib.Core.Path.{◌≡◌, refl, ap, ◌∙◌}
 use mathlib.Core.Bool.{Bool, true, false}
 use mathlib.Core.List.{List, [], ◌∷◌}
 use mathlib.Core.Option.{Option, none, some}
@@ -11,7 +12,7 @@ use lib.Dec.{eqb}
 use lib.ListN.{length, drop, get_or, set, drop_of_length-le}
 use lib.Seq.{sets, sets-eq}
 use borrow.Author.Tests.{eqb-true, eqb-false, eq-eqb, ne_eqb}
-use Rattle.format.specs.Bytes.{if◌then◌else◌, same, is_some, onto, over, LF, BACKSLASH}
+use Rattle.format.specs.Bytes.{same, is_some, onto, over, LF, BACKSLASH}
 use Rattle.format.specs.Pairs.{unescape_from, unescape}
 use Rattle.read_text.specs.Meanings.{means_key, meant_from, meant, First}
 use Rattle.read_text.proofs.Places.{drop_next}

@@ -1,5 +1,6 @@
 -- Laws of numbers and sizes, as the leaves read them.
 -- Assumes nothing.
+use Rattle.std.specs.Prelude.{if◌then◌else◌}
 use Prim.Native.Nat.{ℕ, suc, ◌+◌, ◌-◌, ◌*◌, ◌≤◌, ◌<◌, min}
 use native.Mathlib.Nat.{add-zero, zero-add}
 use native.Mathlib.Numerals.{add-one}
@@ -12,7 +13,7 @@ use lib.Dec.{eqb, leb}
 use lib.ListN.{length, take, drop, get_or, set, replicate, drop_of_length-le, length-drop, length-replicate, length-map, replicate-append-replicate}
 use lib.Seq.{take_all, drop-drop, drop_at, sets, sets-eq}
 use borrow.Author.Tests.{leb-true, leb-false, eqb-true, eq-eqb, ne_eqb, le-leb, lt-leb}
-use Rattle.format.specs.Bytes.{if◌then◌else◌, space_or_tab, is_digit, or_default, SPACE, TAB}
+use Rattle.format.specs.Bytes.{space_or_tab, is_digit, or_default, SPACE, TAB}
 use Rattle.format.specs.Limits.{max_size}
 use Rattle.format.specs.Words.{digits_from, number, join_first, parts, not_empty, words, within, numbers_in, value_of_number}
 use Rattle.read_text.specs.Numbers.{past_size, number_answer, size_answer, first_word, no_sizes, sizes_answer}

@@ -1,5 +1,6 @@
 -- Laws of what the leaves answer about a text: by index for their loops, and as parts of the text for those that call them.
 -- Assumes nothing.
+use Rattle.std.specs.Prelude.{if◌then◌else◌}
 use Prim.Native.Nat.{ℕ, zero, suc, ◌+◌, ◌≤◌, ◌<◌, ◌-◌}
 use native.Mathlib.Nat.{zero-add, add-zero, le_of_suc-le-suc, not-suc-le-zero}
 use native.Mathlib.Numerals.{add-one, one-add}
@@ -11,7 +12,7 @@ use lib.Dec.{eqb, eqb-zero-suc, eqb-suc-suc}
 use lib.ListN.{length, take, drop, get_or, length-append, length-drop, take-append-drop, drop_of_length-le}
 use lib.Seq.{drop-cons, drop-drop, take-length, length-take-le, take-suc, take_at, drop-append-add}
 use borrow.Author.Tests.{eq-eqb, ne_eqb, eqb-true, eqb-false}
-use Rattle.format.specs.Bytes.{LF, CR, TAB, SPACE, COLON, EQUALS, space_or_tab, every, same, begins_with, is_in, if◌then◌else◌}
+use Rattle.format.specs.Bytes.{LF, CR, TAB, SPACE, COLON, EQUALS, space_or_tab, every, same, begins_with, is_in}
 use Rattle.format.specs.Lines.{lf, crlf, eof, line, size, extend, lines}
 use Rattle.format.specs.Pairs.{Marked, unmarked, field_mark, pair_mark, more_before, first_mark, mark, LineKind, empty_line, comment_line, other_line, kind_of}
 use Rattle.format.specs.Words.{trim_front, trim_byte, trim_end}

@@ -1,5 +1,6 @@
 -- Laws of texts that are alike, of names in tables, and of the rows that they stand in.
 -- Assumes nothing.
+use Rattle.std.specs.Prelude.{if◌then◌else◌}
 use Prim.Native.Nat.{ℕ, suc, ◌+◌, ◌-◌, ◌≤◌, ◌<◌}
 use Prim.Native.String.{String}
 use mathlib.Core.Path.{◌≡◌, refl, sym, ap, ◌∙◌}
@@ -12,7 +13,7 @@ use lib.Dec.{eqb, ltb, leb}
 use lib.ListN.{length, take, drop, get_or, length-append, length-drop, drop_of_length-le}
 use lib.Seq.{drop-drop, get_or-drop, take_at, drop_at}
 use borrow.Author.Tests.{le-leb, lt-ltb}
-use Rattle.format.specs.Bytes.{if◌then◌else◌, bytes, small, alike, is_any, row_from, row_of}
+use Rattle.format.specs.Bytes.{bytes, small, alike, is_any, row_from, row_of}
 use Rattle.read_text.specs.declared.words.Row.{Row}
 use Rattle.read_text.specs.declared.words.Row.TheVariants.{Number, Unknown}
 use Rattle.read_text.specs.Rows.{Name, name, packed, row_among, row_answer}
@@ -57,12 +58,12 @@ record NameAt (table : List ℕ) (at : ℕ) (ns : List Name) : Type 0 where
   rest : drop (at + 2 + get_or table at 0) table ≡ packed later
   within : at + 2 + get_or table at 0 ≤ length table
 
-name_at_lem : (table : List ℕ) (at : ℕ) (ns : List Name) → at < length table → drop at table ≡ packed ns → NameAt table at ns
+name_at : (table : List ℕ) (at : ℕ) (ns : List Name) → at < length table → drop at table ≡ packed ns → NameAt table at ns
 unfolding packed
-name_at_lem table at [] h e =
+name_at table at [] h e =
     let l : length (drop at table) ≡ 0 = rw e in
     absurd (omega (arith, length-drop at table))
-name_at_lem table at (name i w ∷ ns) h e =
+name_at table at (name i w ∷ ns) h e =
     let n : get_or table at 0 ≡ length w = rw (← add-zero at, ← get_or-drop at table 0 0, e) in
     let d : drop (at + 2) table ≡ w ++ packed ns = rw (← drop-drop 2 at table, e) in
     let m : at + 2 + get_or table at 0 - (at + 2) ≡ length w = omega arith in
@@ -96,7 +97,7 @@ module _ (table s : List ℕ) (at : ℕ) (p : Passed table s at) where
   -- a name is left
   module _ (h : at < length table) where
     left : (ns : List Name) (e : table ≡ packed ns) → NameAt table at (p ns e).0
-    left ns e = name_at_lem table at (p ns e).0 h (p ns e).1
+    left ns e = name_at table at (p ns e).0 h (p ns e).1
 
     -- it lies in the table
     pub name_within : (ns : List Name) → table ≡ packed ns → at + 2 + get_or table at 0 ≤ length table

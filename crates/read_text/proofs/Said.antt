@@ -1,5 +1,6 @@
 -- Laws of `saidBy k f ws`, what each of the k texts ws says: text by text, as loops go over them.
 -- Assumes nothing.
+use Rattle.std.specs.Prelude.{if◌then◌else◌}
 use Prim.Native.Nat.{ℕ, zero, suc, ◌-◌, ◌<◌}
 use native.Mathlib.Omega.{arith}
 use mathlib.Core.Path.{◌≡◌, refl, sym, ap, ◌∙◌}
@@ -9,7 +10,7 @@ use mathlib.Core.Option.{Option, none, some}
 use lib.Dec.{eqb}
 use lib.ListN.{length, length-map}
 use borrow.Author.Tests.{eqb-true, eq-eqb, ne_eqb}
-use Rattle.format.specs.Bytes.{if◌then◌else◌, is_some, or_default}
+use Rattle.format.specs.Bytes.{is_some, or_default}
 use Rattle.format.specs.Vectors.{cons_said, all_said, said_by}
 
 module _ {A : Type 0} where

@@ -1,7 +1,7 @@
 -- Internal to the library. What an escaped text means, as the functions on escapes answer it.
-use Rattle.std.specs.Prelude.{ℕ, ◌+◌, ◌≤◌, ◌≡◌, Bool, true, false, List, [], ◌∷◌, eqb, length, drop}
+use Rattle.std.specs.Prelude.{ℕ, ◌+◌, ◌≤◌, ◌≡◌, Bool, true, false, List, [], ◌∷◌, ◌==◌, length, drop, if◌then◌else◌}
 use Rattle.std.proofs.Math.Option.{Option, none, some}
-use Rattle.format.specs.Bytes.{if◌then◌else◌, same, onto, LF, BACKSLASH}
+use Rattle.format.specs.Bytes.{same, onto, LF, BACKSLASH}
 use Rattle.format.specs.Pairs.{unescape}
 
 -- the text means the key
@@ -12,10 +12,10 @@ means_key k (some t) = same k t
 -- what the text means up to the first backslash that is not allowed; the flag: a backslash stands right before the text
 unfoldable pub meant_from : Bool → List ℕ → List ℕ
 meant_from b [] = []
-meant_from false (b ∷ s) = if eqb b BACKSLASH then meant_from true s else b ∷ meant_from false s
+meant_from false (b ∷ s) = if b == BACKSLASH then meant_from true s else b ∷ meant_from false s
 meant_from true (b ∷ s) =
-    if eqb b 110 then LF ∷ meant_from false s
-    else if eqb b BACKSLASH then BACKSLASH ∷ meant_from false s
+    if b == 110 then LF ∷ meant_from false s
+    else if b == BACKSLASH then BACKSLASH ∷ meant_from false s
     else []
 
 abbrev pub meant : List ℕ → List ℕ

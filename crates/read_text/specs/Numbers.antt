@@ -1,7 +1,7 @@
 -- Internal to the library. The answers of the functions on numbers.
-use Rattle.std.specs.Prelude.{ℕ, ◌+◌, ◌-◌, true, false, ◌&&◌, List, [], ◌∷◌, ◌++◌, map, leb, replicate}
+use Rattle.std.specs.Prelude.{ℕ, ◌+◌, ◌-◌, true, false, ◌&&◌, List, [], ◌∷◌, ◌++◌, map, nat_le, replicate, if◌then◌else◌}
 use Rattle.std.proofs.Math.Option.{Option, none, some}
-use Rattle.format.specs.Bytes.{if◌then◌else◌, space_or_tab}
+use Rattle.format.specs.Bytes.{space_or_tab}
 use Rattle.format.specs.Limits.{max_axes, max_size}
 use Rattle.format.specs.Words.{value_of_number}
 use Rattle.format.specs.Descriptors.{sizes_fine}
@@ -16,12 +16,12 @@ past_size = max_size + 1
 -- a number up to the largest that any field has
 abbrev pub number_answer : Option ℕ → Number
 number_answer none = Wrong
-number_answer (some n) = if leb n max_size then Value n else Wrong
+number_answer (some n) = if nat_le n max_size then Value n else Wrong
 
 -- a size, or 0 where it is none
 abbrev pub size_answer : Option ℕ → ℕ
 size_answer none = 0
-size_answer (some n) = if leb n max_size then n else 0
+size_answer (some n) = if nat_le n max_size then n else 0
 
 -- what stands before the first space or tab, or all where there is none
 unfoldable pub first_word : List ℕ → List ℕ
@@ -34,5 +34,5 @@ no_sizes = record { fine = false; sizes = replicate max_axes 0 }
 -- the sizes of so many axes in the words, 0 past them
 unfoldable pub sizes_answer : ℕ → List (List ℕ) → Sizes
 sizes_answer n ws =
-    if leb n max_axes && sizes_fine n ws then record { fine = true; sizes = map value_of_number ws ++ replicate (max_axes - n) 0 }
+    if nat_le n max_axes && sizes_fine n ws then record { fine = true; sizes = map value_of_number ws ++ replicate (max_axes - n) 0 }
     else no_sizes

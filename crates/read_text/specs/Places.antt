@@ -1,6 +1,6 @@
 -- Internal to the library. What the functions on bytes answer in numbers: how many bytes stand before a place.
-use Rattle.std.specs.Prelude.{ℕ, suc, List, [], ◌∷◌, eqb, length}
-use Rattle.format.specs.Bytes.{if◌then◌else◌, CR}
+use Rattle.std.specs.Prelude.{ℕ, suc, List, [], ◌∷◌, ◌==◌, length, if◌then◌else◌}
+use Rattle.format.specs.Bytes.{CR}
 use Rattle.format.specs.Lines.{Ending, lf, crlf}
 use Rattle.format.specs.Pairs.{Marked, unmarked, field_mark, pair_mark, LineKind, empty_line, comment_line, other_line}
 use Rattle.read_text.specs.declared.lines.Kind.{Kind}
@@ -9,18 +9,18 @@ use Rattle.read_text.specs.declared.lines.Kind.TheVariants.{Empty, Comment, Fiel
 -- how many bytes stand before the first b, or all of them where there is none
 unfoldable pub before : ℕ → List ℕ → ℕ
 before b [] = 0
-before b (c ∷ s) = if eqb c b then 0 else suc (before b s)
+before b (c ∷ s) = if c == b then 0 else suc (before b s)
 
 -- without one CR at the end
 unfoldable pub without_cr : List ℕ → List ℕ
 without_cr [] = []
-without_cr (b ∷ []) = if eqb b CR then [] else b ∷ []
+without_cr (b ∷ []) = if b == CR then [] else b ∷ []
 without_cr (b ∷ c ∷ s) = b ∷ without_cr (c ∷ s)
 
 -- the ending of a line whose LF stands right after these bytes: a CR at their end belongs to it
 unfoldable pub ending_at : List ℕ → Ending
 ending_at [] = lf
-ending_at (b ∷ []) = if eqb b CR then crlf else lf
+ending_at (b ∷ []) = if b == CR then crlf else lf
 ending_at (b ∷ c ∷ s) = ending_at (c ∷ s)
 
 -- what a line is, and how many bytes stand before its mark

@@ -1,7 +1,7 @@
 -- Internal to the library. Names with the rows that they stand in, as the tables of the code hold them, and the answers of the look-ups.
-use Rattle.std.specs.Prelude.{ℕ, List, [], ◌∷◌, ◌++◌, length}
+use Rattle.std.specs.Prelude.{ℕ, List, [], ◌∷◌, ◌++◌, length, if◌then◌else◌}
 use Rattle.std.proofs.Math.Option.{Option, none, some}
-use Rattle.format.specs.Bytes.{if◌then◌else◌, alike}
+use Rattle.format.specs.Bytes.{alike}
 use Rattle.read_text.specs.declared.words.Row.{Row}
 use Rattle.read_text.specs.declared.words.Row.TheVariants.{Number, Unknown}
 

@@ -6,7 +6,7 @@ ghost use Rattle.format.specs.Pairs.{unescape};
 ghost use Rattle.read_text.specs.Meanings.{means_key, meant, First};
 
 // What the front of a text means: the byte, and how many bytes of the text write it, 0 where they write none.
-#[derive(Drop)]
+#[derive(Clone, Copy)]
 struct Meant {
     byte: u8,
     width: usize,

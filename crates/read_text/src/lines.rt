@@ -16,7 +16,7 @@ pub fn without_cr(s: &[u8]) -> usize
 }
 
 // What a line is by its text. Of a field and a pair the place of their mark is told; a line with no mark is neither.
-#[derive(Drop)]
+#[derive(Clone, Copy)]
 pub enum Kind {
     Empty,
     Comment,

@@ -4,14 +4,14 @@ ghost use Rattle.format.specs.Words.{number, words};
 ghost use Rattle.read_text.specs.Numbers.{past_size, number_answer, size_answer, first_word, sizes_answer};
 
 // A number up to `MAX_SIZE`, the limit of sizes and skips, or that the text is none.
-#[derive(Drop)]
+#[derive(Clone, Copy)]
 pub enum Number {
     Value(u64),
     Wrong,
 }
 
 // The sizes, and whether they are as many as the dimension and each in its range; if not, all are 0.
-#[derive(Drop)]
+#[derive(Clone, Copy)]
 pub struct Sizes {
     pub fine: bool,
     pub sizes: [u64; format::AXES],

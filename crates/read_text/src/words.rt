@@ -1,5 +1,5 @@
 // The rows that names stand in, ignoring case.
-ghost use Rattle.std.specs.Prelude.{◌≡◌, List, eqb};
+ghost use Rattle.std.specs.Prelude.{◌≡◌, List, ◌==◌};
 ghost use Rattle.format.specs.Bytes.{small, alike};
 ghost use Rattle.format.specs.Fields.{field_named};
 ghost use Rattle.format.specs.Descriptors.{type_named, encoding_named, endian_named};
@@ -55,7 +55,7 @@ const ENCODINGS: [u8; 28] = *b"\x03\x00raw\x03\x01txt\x04\x01text\x05\x01ascii\x
 const ENDIANS: [u8; 13] = *b"\x06\x00little\x03\x01big";
 
 // The number of the row that a name stands in.
-#[derive(Drop)]
+#[derive(Clone, Copy)]
 pub enum Row {
     Number(u32),
     Unknown,
@@ -76,7 +76,7 @@ pub fn lower(b: u8) -> u8
 
 // Whether two bytes are the same but for the case of a letter. Mostly they are the same, which one test tells.
 fn is_alike_byte(a: u8, b: u8) -> bool
-    ensures { result ≡ eqb (small a) (small b) }
+    ensures { result ≡ (small a == small b) }
 {
     if a == b {
         return true;

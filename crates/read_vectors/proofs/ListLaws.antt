@@ -1,5 +1,6 @@
 -- Laws of a list of vectors: what is left of it from a word on.
 -- Assumes nothing.
+use Rattle.std.specs.Prelude.{if◌then◌else◌}
 use Prim.Native.Nat.{ℕ, suc, ◌+◌, ◌-◌, ◌≤◌, ◌<◌}
 use native.Mathlib.Numerals.{add-one}
 use native.Mathlib.Omega.{arith}
@@ -11,7 +12,7 @@ use lib.Dec.{eqb}
 use lib.ListN.{length, drop, set, replicate, length-set}
 use lib.Seq.{sets, length-sets, set_out}
 use Rattle.format.specs.declared.Decimal.{Decimal}
-use Rattle.format.specs.Bytes.{if◌then◌else◌, is_some, or_default}
+use Rattle.format.specs.Bytes.{is_some, or_default}
 use Rattle.format.specs.Vectors.{Direction, without, along, along_said, said_by, vector_said, direction_said, vector_words, vectors_said}
 use Rattle.read_vectors.specs.declared.vector.Vector.{Vector}
 use Rattle.format.specs.Columns.{eight, column, matrix}

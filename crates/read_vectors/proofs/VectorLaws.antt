@@ -1,5 +1,6 @@
 -- Laws of one vector: its brackets, and what is left of it after i components.
 -- Assumes nothing.
+use Rattle.std.specs.Prelude.{if◌then◌else◌}
 use Prim.Native.Nat.{ℕ, zero, suc, ◌+◌, ◌-◌, ◌≤◌, ◌<◌}
 use native.Mathlib.Numerals.{add-one}
 use native.Mathlib.Omega.{arith}
@@ -12,7 +13,7 @@ use lib.ListN.{length, take, drop, get_or, set, drop_of_length-le}
 use lib.Seq.{sets, drop-drop}
 use borrow.Author.Tests.{leb-true, leb-false, ltb-true, ltb-false, le-leb, lt-leb}
 use Rattle.format.specs.declared.Decimal.{Decimal}
-use Rattle.format.specs.Bytes.{if◌then◌else◌, bytes, alike, is_some, onto, OPEN, CLOSE, COMMA}
+use Rattle.format.specs.Bytes.{bytes, alike, is_some, onto, OPEN, CLOSE, COMMA}
 use Rattle.format.specs.Words.{join_first, trim_front, trim_end}
 use Rattle.format.specs.Vectors.{part_or_join, closed, enclosed, comma_parts, cons_said, said_by, component_in, vector_said, without, along_said, direction_said}
 use Rattle.format.proofs.Descriptors.{take_trimmed}

@@ -1,5 +1,6 @@
 -- Laws of the words that blanks outside of brackets part: where the next one stands in a text.
 -- Assumes nothing.
+use Rattle.std.specs.Prelude.{if◌then◌else◌}
 use Prim.Native.Nat.{ℕ, zero, suc, ◌+◌, ◌-◌, ◌≤◌, ◌<◌}
 use native.Mathlib.Omega.{arith}
 use mathlib.Core.Path.{◌≡◌, refl, sym, ap, ◌∙◌}
@@ -9,7 +10,7 @@ use lib.Dec.{eqb}
 use lib.ListN.{length, take, drop, get_or, drop_of_length-le, length-drop}
 use lib.Seq.{take_all, drop-drop}
 use borrow.Author.Tests.{eqb-true, eq-eqb, ne_eqb, not-true}
-use Rattle.format.specs.Bytes.{if◌then◌else◌, space_or_tab, SPACE, TAB}
+use Rattle.format.specs.Bytes.{space_or_tab, SPACE, TAB}
 use Rattle.format.specs.Fields.{field_at, dimension}
 use Rattle.format.specs.Words.{join_first, not_empty, trim_front}
 use Rattle.format.specs.Vectors.{part_or_join, inside_after, parts_outside, vector_words}

@@ -1,8 +1,8 @@
 -- Internal to the library. What the functions on vectors answer.
-use Rattle.std.specs.Prelude.{ℕ, Bool, true, false, List, [], ◌∷◌, map}
+use Rattle.std.specs.Prelude.{ℕ, Bool, true, false, List, [], ◌∷◌, map, if◌then◌else◌}
 use Rattle.std.proofs.Math.Option.{Option, none, some}
 use Rattle.format.specs.declared.Decimal.{Decimal}
-use Rattle.format.specs.Bytes.{if◌then◌else◌, is_some, or_default}
+use Rattle.format.specs.Bytes.{is_some, or_default}
 use Rattle.format.specs.Decimals.{marked, no_direction}
 use Rattle.format.specs.Vectors.{Direction, without, along, along_said, vector_said, direction_said, vector_words}
 use Rattle.read_vectors.specs.declared.vector.Vector.{Vector}

@@ -1,5 +1,5 @@
 // Vectors parted by blanks, as a descriptor has them.
-ghost use Rattle.std.specs.Prelude.{◌≡◌, [], ◌≤◌, length, get_or};
+ghost use Rattle.std.specs.Prelude.{◌≡◌, [], ◌≤◌, length, slice_index_or};
 ghost use Rattle.format.specs.Bytes.{is_some};
 ghost use Rattle.format.specs.Limits.{max_header};
 ghost use Rattle.format.specs.Vectors.{said_by, vector_words, vector_said, direction_said, vectors_said, directions_said};
@@ -70,7 +70,7 @@ pub fn are_directions(t: &[u8], count: usize, n: usize) -> bool
 // The vector number i, from 0 for the first.
 pub fn vector_at(t: &[u8], i: usize, n: usize) -> Vector
     requires { (length t.now ≤ max_header) × (n ≤ 8) }
-    ensures { result ≡ vector_answer (vector_said n (get_or (vector_words t.now) i [])) }
+    ensures { result ≡ vector_answer (vector_said n (slice_index_or (vector_words t.now) i [])) }
 {
     let w = words::word_at(t, i);
     let from = w.from;
@@ -81,7 +81,7 @@ pub fn vector_at(t: &[u8], i: usize, n: usize) -> Vector
 // The direction of axis i, from 0 for the first.
 pub fn direction_at(t: &[u8], i: usize, n: usize) -> Vector
     requires { (length t.now ≤ max_header) × (n ≤ 8) }
-    ensures { result ≡ direction_answer (direction_said n (get_or (vector_words t.now) i [])) }
+    ensures { result ≡ direction_answer (direction_said n (slice_index_or (vector_words t.now) i [])) }
 {
     let w = words::word_at(t, i);
     let from = w.from;

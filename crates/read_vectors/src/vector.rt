@@ -12,7 +12,7 @@ use format::Decimal;
 use read_decimals::Component;
 
 // A vector, and whether there is one: its components, and zeros after them.
-#[derive(Drop)]
+#[derive(Clone, Copy)]
 pub struct Vector {
     pub fine: bool,
     pub parts: [Decimal; 8],

@@ -5,7 +5,7 @@ ghost use Rattle.format.specs.Vectors.{inside_after};
 ghost use Rattle.read_vectors.specs.Outside.{first_outside, Next, WordAt};
 
 // Where a word stands: from a byte to before another. Both are the same where there is no word.
-#[derive(Drop)]
+#[derive(Clone, Copy)]
 pub struct Place {
     pub from: usize,
     pub to: usize,

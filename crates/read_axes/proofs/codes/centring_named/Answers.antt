@@ -1,0 +1,15 @@
+-- `codes::centring_named` meets its contract: the table holds the names of the centrings (by computation).
+use mathlib.Core.Bool.{true}
+use mathlib.Core.Path.{refl}
+use Rattle.format.specs.Kinds.{centring_words, centring_named}
+use Rattle.read_text.specs.Rows.{packed}
+use Rattle.read_text.proofs.Rows.{row_names, names_from, row_named}
+use Rattle.read_axes.proofs.codes.centring_named.Goals as goal
+
+pub row_among-requires : goal.row_among-requires
+unfolding packed names_from row_names
+row_among-requires c = (names_from (λ n. true) 0 centring_words, refl)
+
+pub returns : goal.returns
+unfolding packed names_from row_names centring_named
+returns c = row_named (λ n. true) c.args.w.now refl centring_words c.row_among.ensures refl

@@ -1,0 +1,15 @@
+-- `read_decimals::signed_64` meets its contract.
+use native.Mathlib.Omega.{arith}
+use mir.Syntax.{w64}
+use mir.Facts.{to_z_pos}
+use Rattle.read_decimals.proofs.Signs.{minus_fits, minus_kept}
+use Rattle.read_decimals.proofs.signed_64.Goals as goal
+
+pub overflow_sub-result : goal.overflow_sub-result
+overflow_sub-result c = minus_fits w64 c.args.n (omega arith)
+
+pub returns-then-minus : goal.returns-then-minus
+returns-then-minus c = rw c.if-minus.true (minus_kept w64 c.args.n (omega arith))
+
+pub returns : goal.returns
+returns c = rw c.if-minus.false (to_z_pos w64 (omega arith))

@@ -1,0 +1,14 @@
+-- `read_lookup::axes::find_axis_fields` meets its contract: the pass over the lines after line 1, up to the names.
+use Rattle.read_header.proofs.Accepted.{some_byte, some_lines}
+use Rattle.read_lookup.proofs.AxisLaws.{axes_start}
+use Rattle.read_lookup.proofs.axes.find_axis_fields.Goals as goal
+
+pub second_line-requires : goal.second_line-requires
+second_line-requires c = some_byte _ c.requires
+
+pub overflow_sub-lines : goal.overflow_sub-lines
+overflow_sub-lines c = some_lines _ c.requires
+
+pub first_fields-requires : goal.first_fields-requires
+first_fields-requires c =
+    axes_start c.args.file.now c.requires c.second_line.ensures

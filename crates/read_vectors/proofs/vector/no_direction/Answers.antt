@@ -1,0 +1,7 @@
+-- `vector::no_direction` meets its contract.
+use Rattle.format.specs.Columns.{eight}
+use Rattle.read_vectors.proofs.vector.no_direction.Goals as goal
+
+pub returns : goal.returns
+unfolding eight
+returns c = rw c.blank_column-parts.ensures
