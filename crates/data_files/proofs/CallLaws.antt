@@ -1,5 +1,6 @@
 -- Laws of the call for a name: where it stands, by the reading and by the look-up.
 -- Assumes nothing.
+use Rattle.std.specs.Prelude.{if◌then◌else◌}
 use Prim.Native.Nat.{ℕ, ◌+◌, ◌-◌, ◌≤◌, ◌<◌}
 use native.Mathlib.Omega.{arith}
 use mathlib.Core.Path.{◌≡◌, refl, sym, ap, ◌∙◌, subst}
@@ -11,7 +12,7 @@ use borrow.Author.Tests.{le-leb, lt-leb, le-ltb}
 use Rattle.format.specs.declared.ReadAnswer.{ReadAnswer}
 use Rattle.format.specs.declared.FindAnswer.{FindAnswer}
 use Rattle.format.specs.declared.WriteAnswer.{WriteAnswer}
-use Rattle.format.specs.Bytes.{if◌then◌else◌, is_some}
+use Rattle.format.specs.Bytes.{is_some}
 use Rattle.format.specs.Refusals.{no_such_file, refusal, fine}
 use Rattle.format.specs.Lines.{Line, text}
 use Rattle.format.specs.Fields.{Given, descriptor_of, file_names, data_file}

@@ -1,5 +1,6 @@
 -- Laws of a name in a lent buffer.
 -- Assumes nothing.
+use Rattle.std.specs.Prelude.{if◌then◌else◌}
 use Prim.Native.Nat.{ℕ, ◌+◌, ◌-◌, ◌≤◌, ◌<◌}
 use native.Mathlib.Nat.{zero-add}
 use native.Mathlib.Omega.{arith}
@@ -10,7 +11,7 @@ use lib.ListN.{length, replicate, length-append, length-replicate}
 use lib.Seq.{sets, sets-eq}
 use borrow.Author.Tests.{lt-ltb, le-ltb}
 use Rattle.format.specs.declared.WriteAnswer.{WriteAnswer}
-use Rattle.format.specs.Bytes.{if◌then◌else◌, over, SPACE}
+use Rattle.format.specs.Bytes.{over, SPACE}
 use Rattle.format.specs.Refusals.{lent_too_short, refusal, fine}
 use Rattle.format.specs.DataFiles.{pattern}
 use Rattle.format.specs.FileNames.{pattern_name}

@@ -1,5 +1,6 @@
 -- Laws of a descriptor that is not LIST: the name that it is, or the pattern that it has.
 -- Assumes nothing.
+use Rattle.std.specs.Prelude.{if◌then◌else◌}
 use Prim.Native.Nat.{ℕ, ◌+◌, ◌-◌, ◌≤◌, ◌<◌}
 use native.Mathlib.Nat.{mul-le-mul_right}
 use native.Mathlib.Omega.{arith}
@@ -9,7 +10,7 @@ use mathlib.Core.List.{List, []}
 use mathlib.Core.Option.{none, some}
 use lib.ListN.{length, take, drop, length-take, length-drop}
 use Rattle.format.specs.declared.WriteAnswer.{WriteAnswer}
-use Rattle.format.specs.Bytes.{if◌then◌else◌, is_some, is_empty}
+use Rattle.format.specs.Bytes.{is_some, is_empty}
 use Rattle.format.specs.Limits.{max_header}
 use Rattle.format.specs.Words.{words}
 use Rattle.format.specs.DataFiles.{is_list, has_percent, is_many_form, numbering, DataFile, one_file, numbered_files, listed, axes_said, pattern_said, data_file_said, files_said}

@@ -1,8 +1,8 @@
 -- Internal to this crate. What the functions below the calls are asked, and what they answer.
-use Rattle.std.specs.Prelude.{ℕ, ◌+◌, ◌-◌, ◌*◌, ◌≤◌, ◌<◌, ◌≡◌, Bool, true, false, List, [], ◌++◌, ltb, leb, length, take, drop, get_or}
+use Rattle.std.specs.Prelude.{ℕ, ◌+◌, ◌-◌, ◌*◌, ◌≤◌, ◌<◌, ◌≡◌, Bool, true, false, List, [], ◌++◌, nat_lt, nat_le, length, take, drop, slice_index_or, if◌then◌else◌}
 use Rattle.format.specs.declared.WriteAnswer.{WriteAnswer}
 use Rattle.format.specs.declared.ShareAnswer.{ShareAnswer}
-use Rattle.format.specs.Bytes.{if◌then◌else◌, is_some, over}
+use Rattle.format.specs.Bytes.{is_some, over}
 use Rattle.format.specs.Limits.{max_header, max_extent}
 use Rattle.format.specs.Refusals.{lent_too_short, bad_coordinates, refusal, fine}
 use Rattle.format.specs.Lines.{Line, line, eof, text, lines, unlines}
@@ -19,7 +19,7 @@ use Rattle.data_files.specs.declared.lines.Place.{Place}
 -- a name goes to a lent buffer, which is too short or is not
 abbrev pub stored_name : List ℕ → List ℕ → WriteAnswer × List ℕ
 stored_name name out =
-    if ltb (length out) (length name) then (no_name (refusal lent_too_short), out)
+    if nat_lt (length out) (length name) then (no_name (refusal lent_too_short), out)
     else (record { refusal = fine; length = length name }, over name out)
 
 -- a file whose header is accepted, with so many lines, and so many before the names under LIST; n is the number of one of its files
@@ -34,7 +34,7 @@ pub record Asked (file : List ℕ) (n count before : ℕ) : Type 0 where
 
 -- the text of the line after so many others
 abbrev pub line_text : List ℕ → ℕ → List ℕ
-line_text file n = text (get_or (lines file) n (line [] eof))
+line_text file n = text (slice_index_or (lines file) n (line [] eof))
 
 -- from the place `at` of a file on there are lines within the limit of a header; the one after `count` of them has the text t
 pub record Ahead (file : List ℕ) (at count : ℕ) (t : List ℕ) : Type 0 where
@@ -43,7 +43,7 @@ pub record Ahead (file : List ℕ) (at count : ℕ) (t : List ℕ) : Type 0 wher
   pub split : lines (drop at file) ≡ first ++ after
   pub short : at + length (unlines first) ≤ max_header
   pub many : count < length first
-  pub is : text (get_or first count (line [] eof)) ≡ t
+  pub is : text (slice_index_or first count (line [] eof)) ≡ t
 
 -- the text t stands there in the file
 pub record TextAt (file t : List ℕ) (p : Place) : Type 0 where
@@ -74,5 +74,5 @@ pub record Shared (samples files bytes : ℕ) : Type 0 where
 -- the place of a sample among so many, in so many files, with samples of so many bytes
 abbrev pub share_in : ℕ → ℕ → ℕ → ℕ → ShareAnswer
 share_in samples files bytes s =
-    if leb samples s then no_share (refusal bad_coordinates)
+    if nat_le samples s then no_share (refusal bad_coordinates)
     else record { refusal = fine; file = share_file samples files s; byte = share_byte samples files bytes s }

@@ -1,4 +1,6 @@
 // Data in several files: how many there are, the name of one, and which of them a sample is in.
+#![tactic(auto)]
+
 ghost use Rattle.std.specs.Prelude.{◌≡◌, List, ℕ, ◌≤◌, length};
 ghost use Rattle.format.specs.Files.{file_count_call, file_name_call, sample_file_call};
 ghost use Rattle.format.specs.Room.{Enough, name_room};

@@ -4,7 +4,7 @@ ghost use Rattle.data_files.specs.Asked.{Ahead, line_text, TextAt};
 use read_lines::Span;
 
 // Where a text stands: from a byte to before another.
-#[derive(Drop)]
+#[derive(Clone, Copy)]
 pub(crate) struct Place {
     pub from: usize,
     pub to: usize,

@@ -1,7 +1,7 @@
 // The name of a file by the descriptor of a data file: a name itself, or a pattern with a number in it.
-ghost use Rattle.std.specs.Prelude.{◌≡◌, List, [], ℕ, ◌+◌, ◌-◌, ◌≤◌, length, replicate};
+ghost use Rattle.std.specs.Prelude.{◌≡◌, List, [], ℕ, ◌+◌, ◌-◌, ◌≤◌, length, replicate, if◌then◌else◌};
 ghost use Rattle.std.proofs.lemmas.List.Edits.{sets};
-ghost use Rattle.format.specs.Bytes.{if◌then◌else◌, SPACE};
+ghost use Rattle.format.specs.Bytes.{SPACE};
 ghost use Rattle.format.specs.Limits.{max_header, max_width};
 ghost use Rattle.format.specs.DataFiles.{pattern, data_file_said};
 ghost use Rattle.format.specs.FileNames.{pattern_name, name_said};

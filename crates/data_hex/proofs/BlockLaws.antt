@@ -1,5 +1,6 @@
 -- Laws of the blocks in which hex data is decoded.
 -- Assumes nothing.
+use Rattle.std.specs.Prelude.{if◌then◌else◌}
 use Prim.Native.Nat.{ℕ, zero, suc, ◌+◌, ◌*◌, ◌-◌, ◌/◌, ◌%◌, ◌≤◌, ◌<◌, min}
 use native.Mathlib.Numerals.{add-one}
 use native.Mathlib.Omega.{arith}
@@ -10,7 +11,7 @@ use lib.Dec.{eqb, leb, ltb}
 use lib.ListN.{length, take, drop, get_or, set, length-append, length-drop, length-map, length-set}
 use lib.Seq.{take-suc-set, take-set-le, take-suc, take-take, take-append-le, drop-cons, drop-append-le, drop_at, take_at, set_at, get_or_at, length-take-le}
 use borrow.Author.Tests.{lt-ltb, le-ltb, leb-true, leb-false, eqb-true}
-use Rattle.format.specs.Bytes.{if◌then◌else◌, between, is_some}
+use Rattle.format.specs.Bytes.{between, is_some}
 use Rattle.format.specs.Samples.{hex_digit, blank}
 use Rattle.format.proofs.Bytes.{and_right}
 use Rattle.data_hex.specs.Forms.{digits_at, digits_refusal, Spaced, Moved, one_if, digit_value, Pair, pairs_of, Taken}

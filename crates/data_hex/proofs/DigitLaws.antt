@@ -1,5 +1,6 @@
 -- Laws of hex digits and of the bytes that they write, each stated once, over the width.
 -- Assumes nothing.
+use Rattle.std.specs.Prelude.{if◌then◌else◌}
 use Prim.Native.Nat.{ℕ, zero, suc, ◌+◌, ◌-◌, ◌≤◌, ◌<◌}
 use native.Mathlib.Numerals.{add-one}
 use native.Mathlib.Omega.{arith}
@@ -11,7 +12,7 @@ use lib.Dec.{leb}
 use lib.ListN.{length, drop, get_or, drop_of_length-le}
 use lib.Seq.{drop-cons, drop-drop}
 use borrow.Author.Tests.{leb-true, leb-false, lt-leb, ne_eqb}
-use Rattle.format.specs.Bytes.{if◌then◌else◌, between, is_some, or_default}
+use Rattle.format.specs.Bytes.{between, is_some, or_default}
 use Rattle.format.specs.Refusals.{bad_sample, data_ends_early}
 use Rattle.format.specs.Samples.{hex_digit, blank, without_blanks}
 use Rattle.format.proofs.Bytes.{and_left, and_right}

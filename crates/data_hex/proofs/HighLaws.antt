@@ -1,5 +1,6 @@
 -- Laws of unsigned samples of 8 bytes: the highest byte tells whether one is past the largest sample.
 -- Assumes nothing.
+use Rattle.std.specs.Prelude.{if◌then◌else◌}
 use Prim.Native.Nat.{ℕ, zero, suc, ◌+◌, ◌*◌, ◌^◌, ◌≤◌, ◌<◌}
 use native.Mathlib.Numerals.{add-one}
 use native.Mathlib.Omega.{arith}
@@ -11,7 +12,6 @@ use borrow.Author.Tests.{le-leb, lt-leb, leb-true, leb-false}
 use lib.IntN.{ℤ}
 use lib.ListN.{length, take, drop, get_or, length-drop, length-reverse}
 use lib.Seq.{drop-cons, get_or-drop, take-suc}
-use Rattle.format.specs.Bytes.{if◌then◌else◌}
 use Rattle.format.specs.Descriptors.{unsigned, big}
 use Rattle.format.specs.Limits.{max_sample}
 use Rattle.format.specs.Refusals.{bad_sample}

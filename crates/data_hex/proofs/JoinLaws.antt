@@ -1,5 +1,6 @@
 -- Laws of raw samples after raw samples.
 -- Assumes nothing.
+use Rattle.std.specs.Prelude.{if◌then◌else◌}
 use Prim.Native.Nat.{ℕ, zero, suc, ◌+◌, ◌*◌, ◌≤◌}
 use native.Mathlib.Nat.{suc-mul}
 use native.Mathlib.Omega.{arith}
@@ -11,7 +12,6 @@ use borrow.Author.Tests.{eqb-true, eqb-false, ne_eqb}
 use lib.IntN.{ℤ}
 use lib.ListN.{length, take, drop, length-drop, take-append-drop}
 use lib.Seq.{drop-drop, drop-append-le, take-append-le, length-take-le}
-use Rattle.format.specs.Bytes.{if◌then◌else◌}
 use Rattle.format.specs.Refusals.{bad_sample}
 use Rattle.format.specs.Descriptors.{NumberKind}
 use Rattle.format.specs.Samples.{Decoded, raw_samples, with_sample, stopped, sample_value, in_type}

@@ -1,6 +1,6 @@
 -- Internal to this crate. Hex digits as the code reads them, for the contracts of the functions below the public ones.
-use Rattle.std.specs.Prelude.{ℕ, zero, suc, ◌+◌, ◌*◌, ◌/◌, ◌%◌, ◌≤◌, ◌<◌, ◌≡◌, Bool, true, false, ◌||◌, List, [], ◌∷◌, ◌++◌, map, eqb, leb, length, take, drop, get_or}
-use Rattle.format.specs.Bytes.{if◌then◌else◌, is_some, or_default}
+use Rattle.std.specs.Prelude.{ℕ, zero, suc, ◌+◌, ◌*◌, ◌/◌, ◌%◌, ◌≤◌, ◌<◌, ◌≡◌, Bool, true, false, ◌||◌, List, [], ◌∷◌, ◌++◌, map, ◌==◌, nat_le, length, take, drop, slice_index, if◌then◌else◌}
+use Rattle.format.specs.Bytes.{is_some, or_default}
 use Rattle.format.specs.Descriptors.{NumberKind}
 use Rattle.format.specs.Refusals.{bad_sample, data_ends_early}
 use Rattle.format.specs.Samples.{Decoded, raw_samples, hex_digit, without_blanks}
@@ -52,11 +52,11 @@ one_if false = 0
 
 -- n bytes from a place on are above the blanks
 abbrev pub Run : List ℕ → ℕ → ℕ → Type 0
-Run s at n = (i : ℕ) → i < n → 32 < get_or s (at + i) 0
+Run s at n = (i : ℕ) → i < n → 32 < slice_index s (at + i)
 
 -- of n bytes from a place on each third one is at most 32, and no other
 abbrev pub Spaced : List ℕ → ℕ → ℕ → Type 0
-Spaced s at n = (i : ℕ) → i < n → leb (get_or s (at + i) 0) 32 ≡ eqb (i % 3) 2
+Spaced s at n = (i : ℕ) → i < n → nat_le (slice_index s (at + i)) 32 ≡ (i % 3 == 2)
 
 -- the list d up to e, after the list c up to o: what was added are the digits between two places
 abbrev pub Moved : List ℕ → ℕ → ℕ → List ℕ → ℕ → List ℕ → ℕ → Type 0
@@ -99,4 +99,4 @@ top_place false = 7
 -- one of m samples of 8 bytes has a byte from 128 on at a place
 unfoldable pub has_high : ℕ → ℕ → List ℕ → Bool
 has_high zero top b = false
-has_high (suc m) top b = has_high m top b || leb 128 (get_or b (8 * m + top) 0)
+has_high (suc m) top b = has_high m top b || nat_le 128 (slice_index b (8 * m + top))

@@ -1,6 +1,6 @@
 // The bytes that digits write, by blocks of 128: first the digits without blanks, then their values, then the bytes of two.
 // Loops over a fixed count have no branches, so that the compiler makes vector code of them.
-ghost use Rattle.std.specs.Prelude.{◌≡◌, true, ◌++◌, map, ◌+◌, ◌*◌, ◌-◌, ◌/◌, ◌%◌, ◌≤◌, ◌<◌, min, length, take, drop, get_or, set};
+ghost use Rattle.std.specs.Prelude.{◌≡◌, true, ◌++◌, map, ◌+◌, ◌*◌, ◌-◌, ◌/◌, ◌%◌, ◌≤◌, ◌<◌, min, length, take, drop, slice_index, set};
 ghost use Rattle.format.specs.Samples.{blank};
 ghost use Rattle.data_hex.specs.Forms.{digits_at, digits_refusal, digit_value, pairs_of, Run, Spaced, Moved, Pair, Enough, Taken};
 
@@ -33,8 +33,8 @@ fn is_run(s: &[u8], at: usize, room: usize) -> bool
 
 // 32 digits with no blank between them, 8 at a time, of which the compiler makes moves of 16 bytes.
 fn copy(s: &[u8], at: usize, d: &mut [u8], o: usize)
-    requires at_in_bounds { at + 32 ≤ length s.now }
-    requires o_in_bounds { o + 32 ≤ length d.old }
+    requires bytes_there { at + 32 ≤ length s.now }
+    requires room { o + 32 ≤ length d.old }
     requires run { Run s.now at 32 }
     ensures { Moved s.now at (at + 32) d.old o d.new (o + 32) }
 {
@@ -64,7 +64,7 @@ fn blanks_third(s: &[u8], at: usize) -> bool
 // The byte after the last pair is tested exactly, since no wanted digit needs to follow it.
 fn is_spaced(s: &[u8], at: usize, room: usize) -> bool
     requires { at ≤ length s.now }
-    ensures { result ≡ true → (at + 48 ≤ length s.now) × ((32 ≤ room) × (Spaced s.now at 48 × (blank (get_or s.now (at + 47) 0) ≡ true))) }
+    ensures { result ≡ true → (at + 48 ≤ length s.now) × ((32 ≤ room) × (Spaced s.now at 48 × (blank (slice_index s.now (at + 47)) ≡ true))) }
 {
     if (48 <= s.len() - at) & (32 <= room) {
         // other shapes of data mostly end here
@@ -86,10 +86,10 @@ fn store_pair(d: &mut [u8], o: usize, x: u16)
 
 // 16 pairs of digits with a blank after each.
 fn copy_pairs(s: &[u8], at: usize, d: &mut [u8], o: usize)
-    requires at_in_bounds { at + 48 ≤ length s.now }
-    requires o_in_bounds { o + 32 ≤ length d.old }
+    requires bytes_there { at + 48 ≤ length s.now }
+    requires room { o + 32 ≤ length d.old }
     requires spaced { Spaced s.now at 48 }
-    requires at_value { blank (get_or s.now (at + 47) 0) ≡ true }
+    requires ends_blank { blank (slice_index s.now (at + 47)) ≡ true }
     ensures { digits_refusal 32 (digits_at s.now at) ≡ 0 → Moved s.now at (at + 48) d.old o d.new (o + 32) }
 {
     let mut j: usize = 0;
@@ -102,9 +102,9 @@ fn copy_pairs(s: &[u8], at: usize, d: &mut [u8], o: usize)
 
 // The digits of c bytes: each byte is stored, and the next one over it where it is a blank.
 fn squeeze(s: &[u8], at: usize, c: usize, d: &mut [u8], o: usize) -> usize
-    requires c_in_bounds { at + c ≤ length s.now }
-    requires c_in_bounds_2 { o + c ≤ length d.old }
-    ensures lower_bound { (o ≤ result) × (result ≤ o + c) }
+    requires bytes_there { at + c ≤ length s.now }
+    requires room { o + c ≤ length d.old }
+    ensures between { (o ≤ result) × (result ≤ o + c) }
     ensures moved { digits_refusal c (digits_at s.now at) ≡ 0 → Moved s.now at (at + c) d.old o d.new result }
 {
     let mut e = o;
@@ -126,7 +126,7 @@ pub(crate) fn least(a: usize, b: usize) -> usize
 }
 
 // A place in the data, and the end of what is stored.
-#[derive(Drop)]
+#[derive(Clone, Copy)]
 struct Place {
     at: usize,
     end: usize,
@@ -135,10 +135,10 @@ struct Place {
 // Some of the m digits that are wanted: 16 pairs, a run of 32, none for a blank, or those of up to 25 bytes.
 // Where pairs start one or two bytes later, 25 bytes more lead to a blank or to the start of a pair, since 25 is no multiple of 3.
 fn put_some(s: &[u8], at: usize, m: usize, d: &mut [u8], o: usize) -> Place
-    requires at_in_bounds { at < length s.now }
-    requires o_lt_m { o < m }
-    requires m_in_bounds { m ≤ length d.old }
-    ensures at_lt_at { (at < result.at) × ((result.at ≤ length s.now) × ((o ≤ result.end) × (result.end ≤ m))) }
+    requires at_inside { at < length s.now }
+    requires o_below_m { o < m }
+    requires room { m ≤ length d.old }
+    ensures ahead { (at < result.at) × ((result.at ≤ length s.now) × ((o ≤ result.end) × (result.end ≤ m))) }
     ensures moved { digits_refusal (m - o) (digits_at s.now at) ≡ 0 → Moved s.now at result.at d.old o d.new result.end }
 {
     if is_spaced(s, at, m - o) {
@@ -165,9 +165,9 @@ fn put_some(s: &[u8], at: usize, m: usize, d: &mut [u8], o: usize) -> Place
 
 // The next m digits, and the place after them.
 fn gather(s: &[u8], at: usize, m: usize, d: &mut [u8]) -> usize
-    requires at_in_bounds { at ≤ length s.now }
-    requires m_in_bounds { m ≤ length d.old }
-    ensures upper_bound { result ≤ length s.now }
+    requires at_within { at ≤ length s.now }
+    requires room { m ≤ length d.old }
+    ensures within { result ≤ length s.now }
     ensures moved { digits_refusal m (digits_at s.now at) ≡ 0 → Moved s.now at result d.old 0 d.new m }
 {
     let mut i = at;
@@ -185,8 +185,8 @@ fn gather(s: &[u8], at: usize, m: usize, d: &mut [u8]) -> usize
 
 // Each of the first 32 * k digits becomes its value. The count is a multiple of 32 that is not known when compiling: the compiler then makes a short loop over vectors, with nothing left over.
 fn make_values(d: &mut [u8], k: usize)
-    requires d_len { length d.old ≡ 256 }
-    requires k_bound { k ≤ 8 }
+    requires buffer_of_256 { length d.old ≡ 256 }
+    requires k_up_to_8 { k ≤ 8 }
     ensures { d.new ≡ take (32 * k) (map digit_value d.old) ++ drop (32 * k) d.old }
 {
     let mut j: usize = 0;
@@ -206,7 +206,7 @@ fn wide(b: u8) -> u16
 // Two values as one number, the first one below. The compiler makes one load of it.
 fn load_pair(d: &[u8], at: usize) -> u16
     requires { at + 2 ≤ length d.now }
-    ensures { Pair (get_or d.now at 0) (get_or d.now (at + 1) 0) result }
+    ensures { Pair (slice_index d.now at) (slice_index d.now (at + 1)) result }
 {
     let high = wide(d[at]);
     let low = wide(d[at + 1]);
@@ -222,9 +222,9 @@ fn byte_of(x: u16) -> u8
 
 // The bytes that the first 32 * k values write.
 fn make_bytes(d: &[u8], bytes: &mut [u8], k: usize)
-    requires d_len { length d.now ≡ 256 }
-    requires bytes_len { length bytes.old ≡ 128 }
-    requires k_bound { k ≤ 8 }
+    requires buffer_of_256 { length d.now ≡ 256 }
+    requires block_of_128 { length bytes.old ≡ 128 }
+    requires k_up_to_8 { k ≤ 8 }
     ensures { bytes.new ≡ take (16 * k) (pairs_of d.now) ++ drop (16 * k) bytes.old }
 {
     let mut j: usize = 0;
@@ -237,11 +237,11 @@ fn make_bytes(d: &[u8], bytes: &mut [u8], k: usize)
 // The next j bytes to the front of a block, and the place after their digits, which go to d. Both arrays are the caller's, so that they are not
 // set to 0 for each block.
 pub(crate) fn next_bytes(s: &[u8], at: usize, j: usize, d: &mut [u8], bytes: &mut [u8]) -> usize
-    requires at_in_bounds { at ≤ length s.now }
-    requires j_bound { j ≤ 128 }
-    requires d_len { length d.old ≡ 256 }
-    requires bytes_len { length bytes.old ≡ 128 }
-    ensures upper_bound { result ≤ length s.now }
+    requires at_within { at ≤ length s.now }
+    requires j_up_to_128 { j ≤ 128 }
+    requires buffer_of_256 { length d.old ≡ 256 }
+    requires block_of_128 { length bytes.old ≡ 128 }
+    ensures within { result ≤ length s.now }
     ensures taken { Enough s.now at j → Taken s.now at j bytes.new result }
 {
     let next = gather(s, at, 2 * j, d);

@@ -1,6 +1,6 @@
 // Hex samples into a list, block by block: the bytes that the digits write, and these as raw samples.
-ghost use Rattle.std.specs.Prelude.{◌≡◌, false, ◌&&◌, ◌*◌, ◌≤◌, ◌<◌, leb, length};
-ghost use Rattle.format.specs.Bytes.{over, if◌then◌else◌};
+ghost use Rattle.std.specs.Prelude.{◌≡◌, false, ◌&&◌, ◌*◌, ◌≤◌, ◌<◌, nat_le, length, if◌then◌else◌};
+ghost use Rattle.format.specs.Bytes.{over};
 ghost use Rattle.format.specs.Descriptors.{unsigned};
 ghost use Rattle.format.specs.Samples.{hex_samples, raw_samples, without_blanks};
 ghost use Rattle.data_hex.specs.Forms.{Enough, Past, samples_at, top_place, has_high};
@@ -9,7 +9,7 @@ ghost use Rattle.lent_numbers.specs.Widths.{Width, is_width, kind_by, endian_by}
 use crate::{bytes, scan};
 
 // The refusal of samples, or 0, and the place after their digits.
-#[derive(Drop)]
+#[derive(Clone, Copy)]
 struct Checked {
     code: u32,
     next: usize,
@@ -24,8 +24,8 @@ fn top_place(big: bool) -> usize
 
 // Whether one of m samples of 8 bytes has its highest byte, the one at `top`, from 128 on. As an unsigned number it is then past the largest sample.
 fn has_high(bytes: &[u8], m: usize, top: usize) -> bool
-    requires m_in_bounds { 8 * m ≤ length bytes.now }
-    requires top_bound { top < 8 }
+    requires bytes_there { 8 * m ≤ length bytes.now }
+    requires top_below_8 { top < 8 }
     ensures { result ≡ has_high m top bytes.now }
 {
     let mut high = false;
@@ -51,12 +51,12 @@ fn value_code(bytes: &[u8], m: usize, big: bool) -> u32
 
 // The refusal of the next m unsigned samples of 8 bytes, for their values. Their digits go to d, and what these write to bytes.
 fn check_block(s: &[u8], at: usize, m: usize, big: bool, d: &mut [u8], bytes: &mut [u8]) -> Checked
-    requires at_in_bounds { at ≤ length s.now }
-    requires m_bound { m ≤ 16 }
-    requires d_len { length d.old ≡ 256 }
-    requires bytes_len { length bytes.old ≡ 128 }
-    ensures next_in_bounds { result.next ≤ length s.now }
-    ensures past { Enough s.now at (m * 8) → Past s.now at (m * 8) result.next × (result.code ≡ (samples_at unsigned 8 (endian_by big) m s.now at).number) }
+    requires at_within { at ≤ length s.now }
+    requires m_up_to_16 { m ≤ 16 }
+    requires buffer_of_256 { length d.old ≡ 256 }
+    requires block_of_128 { length bytes.old ≡ 128 }
+    ensures within { result.next ≤ length s.now }
+    ensures checked { Enough s.now at (m * 8) → Past s.now at (m * 8) result.next × (result.code ≡ (samples_at unsigned 8 (endian_by big) m s.now at).number) }
 {
     let next = bytes::next_bytes(s, at, m * 8, d, bytes);
     let code = value_code(bytes, m, big);
@@ -118,13 +118,13 @@ fn fill_block(
     dst: &mut [i64],
 ) -> usize
     requires width { Width w }
-    requires d_len { length d.old ≡ 256 }
-    requires bytes_len { length bytes.old ≡ 128 }
-    requires at_in_bounds { at ≤ length s.now }
-    requires w_bound { m * w ≤ 128 }
-    requires m_in_bounds { m ≤ length dst.old }
-    ensures upper_bound { result ≤ length s.now }
-    ensures past { Enough s.now at (m * w) → Past s.now at (m * w) result × ((samples_at (kind_by signed) w (endian_by big) m s.now at).number ≡ 0 → dst.new ≡ over (samples_at (kind_by signed) w (endian_by big) m s.now at).seen dst.old) }
+    requires buffer_of_256 { length d.old ≡ 256 }
+    requires block_of_128 { length bytes.old ≡ 128 }
+    requires at_within { at ≤ length s.now }
+    requires block_fits { m * w ≤ 128 }
+    requires room { m ≤ length dst.old }
+    ensures within { result ≤ length s.now }
+    ensures filled { Enough s.now at (m * w) → Past s.now at (m * w) result × ((samples_at (kind_by signed) w (endian_by big) m s.now at).number ≡ 0 → dst.new ≡ over (samples_at (kind_by signed) w (endian_by big) m s.now at).seen dst.old) }
 {
     let next = bytes::next_bytes(s, at, m * w, d, bytes);
     data_raw::list::fill(bytes, m, w, signed, big, dst);
@@ -134,7 +134,7 @@ fn fill_block(
 // The samples to the front of dst, block by block.
 fn fill_blocks(s: &[u8], n: usize, w: usize, signed: bool, big: bool, dst: &mut [i64])
     requires width { Width w }
-    requires n_in_bounds { n ≤ length dst.old }
+    requires room { n ≤ length dst.old }
     ensures { (hex_samples (kind_by signed) w (endian_by big) n (without_blanks s.now)).number ≡ 0 → dst.new ≡ over (hex_samples (kind_by signed) w (endian_by big) n (without_blanks s.now)).seen dst.old }
 {
     let most = 128 / w;
@@ -151,7 +151,7 @@ fn fill_blocks(s: &[u8], n: usize, w: usize, signed: bool, big: bool, dst: &mut 
 
 // The samples to the front of dst, where none is refused. dst stays as it was where it is too short or w is no width.
 pub fn fill(s: &[u8], n: usize, w: usize, signed: bool, big: bool, dst: &mut [i64])
-    ensures kept { (is_width w && leb n (length dst.old)) ≡ false → dst.new ≡ dst.old }
+    ensures kept { (is_width w && nat_le n (length dst.old)) ≡ false → dst.new ≡ dst.old }
     ensures fills { Width w → n ≤ length dst.old → (hex_samples (kind_by signed) w (endian_by big) n (without_blanks s.now)).number ≡ 0 → dst.new ≡ over (hex_samples (kind_by signed) w (endian_by big) n (without_blanks s.now)).seen dst.old }
 {
     if !lent_numbers::is_width(w) {

@@ -1,5 +1,5 @@
 // Hex samples into lent bytes, 8 for each, the low byte first. It goes by blocks, as for a list.
-ghost use Rattle.std.specs.Prelude.{◌≡◌, false, ◌&&◌, ◌*◌, ◌/◌, ◌≤◌, leb, length};
+ghost use Rattle.std.specs.Prelude.{◌≡◌, false, ◌&&◌, ◌*◌, ◌/◌, ◌≤◌, nat_le, length};
 ghost use Rattle.format.specs.Boundary.{words_of_samples};
 ghost use Rattle.format.specs.Bytes.{over};
 ghost use Rattle.format.specs.Samples.{hex_samples, without_blanks};
@@ -22,13 +22,13 @@ fn fill_block(
     dst: &mut [u8],
 ) -> usize
     requires width { Width w }
-    requires d_len { length d.old ≡ 256 }
-    requires bytes_len { length bytes.old ≡ 128 }
-    requires at_in_bounds { at ≤ length s.now }
-    requires w_bound { m * w ≤ 128 }
-    requires m_in_bounds { m ≤ length dst.old / 8 }
-    ensures upper_bound { result ≤ length s.now }
-    ensures past { Enough s.now at (m * w) → Past s.now at (m * w) result × ((samples_at (kind_by signed) w (endian_by big) m s.now at).number ≡ 0 → dst.new ≡ over (words_of_samples (samples_at (kind_by signed) w (endian_by big) m s.now at).seen) dst.old) }
+    requires buffer_of_256 { length d.old ≡ 256 }
+    requires block_of_128 { length bytes.old ≡ 128 }
+    requires at_within { at ≤ length s.now }
+    requires block_fits { m * w ≤ 128 }
+    requires room { m ≤ length dst.old / 8 }
+    ensures within { result ≤ length s.now }
+    ensures filled { Enough s.now at (m * w) → Past s.now at (m * w) result × ((samples_at (kind_by signed) w (endian_by big) m s.now at).number ≡ 0 → dst.new ≡ over (words_of_samples (samples_at (kind_by signed) w (endian_by big) m s.now at).seen) dst.old) }
 {
     let next = bytes::next_bytes(s, at, m * w, d, bytes);
     data_raw::packed::fill(bytes, m, w, signed, big, dst);
@@ -38,7 +38,7 @@ fn fill_block(
 // The samples to the front of dst, block by block.
 fn fill_blocks(s: &[u8], n: usize, w: usize, signed: bool, big: bool, dst: &mut [u8])
     requires width { Width w }
-    requires n_in_bounds { n ≤ length dst.old / 8 }
+    requires room { n ≤ length dst.old / 8 }
     ensures { (hex_samples (kind_by signed) w (endian_by big) n (without_blanks s.now)).number ≡ 0 → dst.new ≡ over (words_of_samples (hex_samples (kind_by signed) w (endian_by big) n (without_blanks s.now)).seen) dst.old }
 {
     let most = 128 / w;
@@ -66,7 +66,7 @@ fn fill_blocks(s: &[u8], n: usize, w: usize, signed: bool, big: bool, dst: &mut 
 
 // The samples to the front of dst, where none is refused. dst stays as it was where it is too short or w is no width.
 pub fn fill(s: &[u8], n: usize, w: usize, signed: bool, big: bool, dst: &mut [u8])
-    ensures kept { (is_width w && leb n (length dst.old / 8)) ≡ false → dst.new ≡ dst.old }
+    ensures kept { (is_width w && nat_le n (length dst.old / 8)) ≡ false → dst.new ≡ dst.old }
     ensures fills { Width w → n ≤ length dst.old / 8 → (hex_samples (kind_by signed) w (endian_by big) n (without_blanks s.now)).number ≡ 0 → dst.new ≡ samples_over (hex_samples (kind_by signed) w (endian_by big) n (without_blanks s.now)).seen dst.old }
 {
     if !lent_numbers::is_width(w) {

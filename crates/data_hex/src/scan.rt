@@ -24,7 +24,7 @@ fn block_digits(s: &[u8], at: usize) -> u8
 }
 
 // What a scan comes to: a refusal or 0, the place, and the digits before it.
-#[derive(Drop)]
+#[derive(Clone, Copy)]
 pub(crate) struct Count {
     pub(crate) code: u32,
     pub(crate) at: usize,
@@ -93,7 +93,7 @@ pub(crate) fn scan(s: &[u8], need: usize) -> Count
 // How many digits n samples of w bytes have; or fewer, but more than there are bytes.
 pub(crate) fn wanted(len: usize, n: usize, w: usize) -> usize
     requires width { Width w }
-    requires len_bound { len < 9223372036854775808 }
+    requires len_below_2_63 { len < 9223372036854775808 }
     ensures { (result ≤ 2 * (n * w)) × (result < 2 * (n * w) → len < result) }
 {
     if n <= len / (2 * w) {

@@ -1,6 +1,8 @@
 // Hex digits, one byte at a time: told, and valued, by the three ranges `0` to `9`, `a` to `f` and `A` to `F`, without a table. Both functions are
 // written so that the compiler needs no branch, and the loops over blocks can take many bytes at once.
 // The contracts of `is_digit` and `value` say what the ranges give (`hex_digit`), and the same by the digits as text (`digit_named`), at every byte.
+#![tactic(auto)]
+
 ghost use Rattle.std.specs.Prelude.{◌≡◌};
 ghost use Rattle.format.specs.Bytes.{bytes, is_in, is_some, or_default};
 ghost use Rattle.format.specs.Samples.{hex_digit};

@@ -1,5 +1,6 @@
 -- Laws of the place of the data: by the numbers of the reading, and that it lies within its file.
 -- Assumes nothing.
+use Rattle.std.specs.Prelude.{if◌then◌else◌}
 use Prim.Native.Nat.{ℕ, ◌+◌, ◌-◌, ◌^◌, ◌≤◌, ◌<◌, min}
 use native.Mathlib.Omega.{arith}
 use mathlib.Core.Path.{◌≡◌, refl, sym, ap, ◌∙◌}
@@ -13,7 +14,7 @@ use borrow.Author.Tests.{ltb-false, le-ltb, lt-leb, ne_eqb}
 use Rattle.format.specs.declared.Reading.{Reading}
 use Rattle.format.specs.declared.ReadAnswer.{ReadAnswer}
 use Rattle.format.specs.declared.DataAnswer.{DataAnswer}
-use Rattle.format.specs.Bytes.{if◌then◌else◌, and_then}
+use Rattle.format.specs.Bytes.{and_then}
 use Rattle.format.specs.Limits.{max_file}
 use Rattle.format.specs.Refusals.{file_too_long, several_files, skip_past_end, place_too_large, data_too_short, float_samples}
 use Rattle.format.specs.Fields.{Given}

@@ -1,5 +1,6 @@
 -- Laws of the skips: a line by the place of its LF, and what is left of the bytes.
 -- Assumes nothing.
+use Rattle.std.specs.Prelude.{if◌then◌else◌}
 use Prim.Native.Nat.{ℕ, zero, suc, ◌+◌, ◌-◌, ◌≤◌, ◌<◌}
 use native.Mathlib.Nat.{suc-add, not-suc-le-zero, le_of_suc-le-suc}
 use native.Mathlib.Omega.{arith}
@@ -11,7 +12,7 @@ use lib.Dec.{eqb}
 use lib.ListN.{length, take, drop, length-drop}
 use lib.Seq.{take_all, drop-drop}
 use borrow.Author.Tests.{lt-ltb, le-ltb}
-use Rattle.format.specs.Bytes.{if◌then◌else◌, LF}
+use Rattle.format.specs.Bytes.{LF}
 use Rattle.format.specs.Data.{skip_line, skip_lines, skip_bytes}
 use Rattle.read_text.specs.Places.{before}
 

@@ -1,10 +1,10 @@
 -- Internal to the library. What the parts of the data call and of the coordinates call answer.
-use Rattle.std.specs.Prelude.{ℕ, ◌-◌, ◌≤◌, ◌≡◌, Bool, true, List, eqb, ltb, length, drop}
+use Rattle.std.specs.Prelude.{ℕ, ◌-◌, ◌≤◌, ◌≡◌, Bool, true, List, ◌==◌, nat_lt, length, drop, if◌then◌else◌}
 use Rattle.std.proofs.Math.Option.{Option, none, some}
 use Rattle.format.specs.declared.Refusal.{Refusal}
 use Rattle.format.specs.declared.Reading.{Reading}
 use Rattle.format.specs.declared.NumberAnswer.{NumberAnswer}
-use Rattle.format.specs.Bytes.{if◌then◌else◌, and_then}
+use Rattle.format.specs.Bytes.{and_then}
 use Rattle.format.specs.Limits.{max_extent}
 use Rattle.format.specs.Refusals.{file_too_long, several_files, skip_past_end, data_too_short, bad_coordinates, refusal, fine}
 use Rattle.format.specs.Lines.{Line}
@@ -33,8 +33,8 @@ SkipIs s left Past = left ≡ none
 -- the place by the numbers of a reading; the data starts at `start`, with `left` bytes up to the end of the file
 unfoldable pub place_by : Reading → Bool → ℕ → ℕ → Place
 place_by x second start left =
-    if eqb x.encoding raw then
-    (if ltb left x.extent then nowhere data_too_short else part second start x.extent)
+    if x.encoding == raw then
+    (if nat_lt left x.extent then nowhere data_too_short else part second start x.extent)
     else part second start left
 
 -- how many of the bytes left after the lines are skipped: from the end all but the extent, none where there are fewer

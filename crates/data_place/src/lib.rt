@@ -1,3 +1,5 @@
 // The place of the data, and the number of a sample.
+#![tactic(auto)]
+
 pub mod axes;
 pub mod place;

@@ -12,7 +12,7 @@ use format::{DataAnswer, Reading, Refusal};
 use format_values::refusals;
 
 // Where what follows a skip starts, or that the skip passes the end.
-#[derive(Drop)]
+#[derive(Clone, Copy)]
 pub enum Skip {
     At(usize),
     Past,

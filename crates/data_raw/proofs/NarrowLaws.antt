@@ -1,11 +1,12 @@
 -- Laws of samples of 1 or 2 bytes, which go by way of numbers of 16 bits.
 -- Assumes nothing.
-use Rattle.std.proofs.Common.{◌≡◌, ℕ, zero, suc, ◌+◌, ◌-◌, ◌*◌, ◌%◌, ◌^◌, ◌<◌, ◌≤◌, min, Bool, true, false, ltb, List, [], ◌∷◌, length, get_or, take, drop, set, ℤ, pos, ◌-ℤ◌, sym, refl, ap, ◌∙◌, append-nil, mul-le-mul_right, suc-mul, add-mul, arith, lit<, length-drop, drop_of_length-le, get_or-drop, drop-drop, to_z-of_z, w64, SFits, to_z, of_z, eq-eqb, ne_eqb}
+use Rattle.std.specs.Prelude.{if◌then◌else◌}
+use Rattle.std.proofs.Common.{◌≡◌, ℕ, zero, suc, ◌+◌, ◌*◌, ◌%◌, ◌^◌, ◌<◌, ◌≤◌, min, Bool, true, false, ltb, List, [], ◌∷◌, length, get_or, take, drop, set, ℤ, pos, ◌-ℤ◌, sym, refl, ap, ◌∙◌, append-nil, mul-le-mul_right, suc-mul, add-mul, arith, lit<, length-drop, drop_of_length-le, get_or-drop, drop-drop, to_z-of_z, w64, SFits, to_z, of_z, eq-eqb, ne_eqb}
 use lib.IntN.{sub_ℕ}
 use lib.ListN.{length-map}
 use lib.Seq.{sets}
 use mir.Facts.{to_z_pos}
-use Rattle.format.specs.Bytes.{if◌then◌else◌, over}
+use Rattle.format.specs.Bytes.{over}
 use Rattle.format.specs.Refusals.{bad_sample}
 use Rattle.format.specs.Samples.{Decoded, raw_samples, sample_value, in_type, with_sample, stopped}
 use Rattle.lent_numbers.proofs.WidthLaws.{by_width}

@@ -1,5 +1,6 @@
 -- Laws of raw samples, each stated once, over the width.
 -- Assumes nothing.
+use Rattle.std.specs.Prelude.{if◌then◌else◌}
 use Rattle.std.proofs.Common.{◌≡◌, ℕ, zero, suc, ◌+◌, ◌-◌, ◌*◌, ◌/◌, ◌%◌, ◌^◌, ◌<◌, ◌≤◌, min, Bool, true, false, ◌&&◌, eqb, ltb, leb, List, reverse, length, get_or, take, drop, set, ℤ, pos, ◌-ℤ◌, sym, refl, ap, ◌∙◌, le_trans, mod-lt, mod-eq_of_lt, suc-mul, add-one, arith, lit≤, length-drop, length-set, get_or-drop, drop-drop, to_z-of_z, w64, SFits, to_z, of_z, ltb-false, ltb-true, le-ltb, lt-ltb, eq-eqb, ne_eqb, eqb-true, le-leb, leb-false, leb-true}
 use native.Mathlib.Nat.{add-mod_right}
 use mathlib.Core.List.{reverse-append}
@@ -8,7 +9,7 @@ use lib.ListN.{length-reverse}
 use lib.Seq.{sets}
 use borrow.Author.Tests.{eqb-false}
 use mir.Facts.{to_z_pos}
-use Rattle.format.specs.Bytes.{if◌then◌else◌, over}
+use Rattle.format.specs.Bytes.{over}
 use Rattle.format.specs.Descriptors.{NumberKind, signed, unsigned}
 use Rattle.format.specs.Limits.{max_sample}
 use Rattle.format.specs.Refusals.{bad_sample}

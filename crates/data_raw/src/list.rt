@@ -1,7 +1,7 @@
 // Raw samples into a list.
-ghost use Rattle.std.specs.Prelude.{◌≡◌, ◌+◌, ◌*◌, ◌≤◌, true, false, ◌&&◌, leb, length, ◌≢◌, nat_le};
+ghost use Rattle.std.specs.Prelude.{◌≡◌, ◌+◌, ◌*◌, ◌≤◌, true, false, ◌&&◌, nat_le, length, ◌≢◌, if◌then◌else◌};
 ghost use Rattle.std.proofs.lemmas.List.Edits.{sets};
-ghost use Rattle.format.specs.Bytes.{over, if◌then◌else◌};
+ghost use Rattle.format.specs.Bytes.{over};
 ghost use Rattle.format.specs.Descriptors.{unsigned};
 ghost use Rattle.format.specs.Limits.{max_sample};
 ghost use Rattle.format.specs.Samples.{raw_samples};
@@ -12,7 +12,7 @@ use crate::number;
 
 // 1 for a number above the largest sample, or 0.
 fn is_above(x: u64) -> u64
-    ensures { result ≡ (if leb x max_sample then 0 else 1) }
+    ensures { result ≡ (if nat_le x max_sample then 0 else 1) }
 {
     x / 9223372036854775808
 }
@@ -52,8 +52,8 @@ pub fn check(s: &[u8], n: usize, w: usize, signed: bool, big: bool) -> u32
 // The samples to the front of dst, with no place tested.
 fn put(s: &[u8], n: usize, w: usize, signed: bool, big: bool, dst: &mut [i64])
     requires width { Width w }
-    requires w_in_bounds { n * w ≤ length s.now }
-    requires n_in_bounds { n ≤ length dst.old }
+    requires bytes_there { n * w ≤ length s.now }
+    requires room { n ≤ length dst.old }
     ensures { (raw_samples (kind_by signed) w (endian_by big) n s.now).number ≡ 0 → dst.new ≡ over (raw_samples (kind_by signed) w (endian_by big) n s.now).seen dst.old }
 {
     let mut at: usize = 0;
@@ -68,8 +68,8 @@ fn put(s: &[u8], n: usize, w: usize, signed: bool, big: bool, dst: &mut [i64])
 // The same, two samples a turn: of one of 4 or 8 bytes with its bytes turned the compiler would make vector code that is slower.
 fn put_pairs(s: &[u8], n: usize, w: usize, signed: bool, big: bool, dst: &mut [i64])
     requires width { Width w }
-    requires w_in_bounds { n * w ≤ length s.now }
-    requires n_in_bounds { n ≤ length dst.old }
+    requires bytes_there { n * w ≤ length s.now }
+    requires room { n ≤ length dst.old }
     ensures { (raw_samples (kind_by signed) w (endian_by big) n s.now).number ≡ 0 → dst.new ≡ over (raw_samples (kind_by signed) w (endian_by big) n s.now).seen dst.old }
 {
     let mut at: usize = 0;
@@ -103,10 +103,10 @@ fn put_lifted(a: [u16; 64], signed: bool, up: u16, dst: &mut [i64], k: usize)
 // Samples of 1 or 2 bytes, by blocks of 64. The last block ends with the last sample and may overlap the one before it, so that no samples are left over.
 fn put_narrow(s: &[u8], n: usize, w: usize, signed: bool, big: bool, up: u16, dst: &mut [i64])
     requires width { Width w }
-    requires w_bound { w ≤ 2 }
-    requires shifts { Shifts w signed up }
-    requires w_in_bounds { n * w ≤ length s.now }
-    requires n_in_bounds { n ≤ length dst.old }
+    requires narrow { w ≤ 2 }
+    requires shift { Shifts w signed up }
+    requires bytes_there { n * w ≤ length s.now }
+    requires room { n ≤ length dst.old }
     ensures { (raw_samples (kind_by signed) w (endian_by big) n s.now).number ≡ 0 → dst.new ≡ over (raw_samples (kind_by signed) w (endian_by big) n s.now).seen dst.old }
 {
     if n < 64 {
@@ -135,11 +135,11 @@ fn put_by_sign(
     dst: &mut [i64],
 )
     requires width { Width w }
-    requires w_bound { w ≤ 2 }
-    requires shifts { Shifts w true half }
-    requires shifts_2 { Shifts w false up }
-    requires w_in_bounds { n * w ≤ length s.now }
-    requires n_in_bounds { n ≤ length dst.old }
+    requires narrow { w ≤ 2 }
+    requires signed_shift { Shifts w true half }
+    requires unsigned_shift { Shifts w false up }
+    requires bytes_there { n * w ≤ length s.now }
+    requires room { n ≤ length dst.old }
     ensures { (raw_samples (kind_by signed) w (endian_by big) n s.now).number ≡ 0 → dst.new ≡ over (raw_samples (kind_by signed) w (endian_by big) n s.now).seen dst.old }
 {
     if signed {
@@ -151,9 +151,9 @@ fn put_by_sign(
 // Big-endian samples of more than a byte. A call for each width: the compiler makes a loop of its own of each.
 fn put_big(s: &[u8], n: usize, w: usize, signed: bool, dst: &mut [i64])
     requires width { Width w }
-    requires w_nonzero { w ≢ 1 }
-    requires w_in_bounds { n * w ≤ length s.now }
-    requires n_in_bounds { n ≤ length dst.old }
+    requires not_one_byte { w ≢ 1 }
+    requires bytes_there { n * w ≤ length s.now }
+    requires room { n ≤ length dst.old }
     ensures { (raw_samples (kind_by signed) w (endian_by true) n s.now).number ≡ 0 → dst.new ≡ over (raw_samples (kind_by signed) w (endian_by true) n s.now).seen dst.old }
 {
     if w == 8 {
@@ -168,9 +168,9 @@ fn put_big(s: &[u8], n: usize, w: usize, signed: bool, dst: &mut [i64])
 // Little-endian samples, in the same way.
 fn put_little(s: &[u8], n: usize, w: usize, signed: bool, dst: &mut [i64])
     requires width { Width w }
-    requires w_nonzero { w ≢ 1 }
-    requires w_in_bounds { n * w ≤ length s.now }
-    requires n_in_bounds { n ≤ length dst.old }
+    requires not_one_byte { w ≢ 1 }
+    requires bytes_there { n * w ≤ length s.now }
+    requires room { n ≤ length dst.old }
     ensures { (raw_samples (kind_by signed) w (endian_by false) n s.now).number ≡ 0 → dst.new ≡ over (raw_samples (kind_by signed) w (endian_by false) n s.now).seen dst.old }
 {
     if w == 8 {
@@ -184,8 +184,8 @@ fn put_little(s: &[u8], n: usize, w: usize, signed: bool, dst: &mut [i64])
 
 fn put_by_endian(s: &[u8], n: usize, w: usize, signed: bool, big: bool, dst: &mut [i64])
     requires width { Width w }
-    requires w_in_bounds { n * w ≤ length s.now }
-    requires n_in_bounds { n ≤ length dst.old }
+    requires bytes_there { n * w ≤ length s.now }
+    requires room { n ≤ length dst.old }
     ensures { (raw_samples (kind_by signed) w (endian_by big) n s.now).number ≡ 0 → dst.new ≡ over (raw_samples (kind_by signed) w (endian_by big) n s.now).seen dst.old }
 {
     if w == 1 {

@@ -13,7 +13,7 @@ fn wide(b: u8) -> u64
 // The number at a place, the least byte first.
 fn load(s: &[u8], at: usize, w: usize) -> u64
     requires width { Width w }
-    requires w_in_bounds { at + w ≤ length s.now }
+    requires bytes_there { at + w ≤ length s.now }
     ensures { Bits w (from_bytes (take w (drop at s.now))) result }
 {
     if w == 8 {
@@ -51,7 +51,7 @@ fn turn8(x: u64) -> u64
 
 fn turn(x: u64, w: usize) -> u64
     requires width { Width w }
-    requires x_bound { x < 256 ^ w }
+    requires x_of_w_bytes { x < 256 ^ w }
     ensures { Bits w (turned w x) result }
 {
     if w == 8 {
@@ -69,7 +69,7 @@ fn turn(x: u64, w: usize) -> u64
 // The number at a place, by its endian.
 pub(crate) fn word(s: &[u8], at: usize, w: usize, big: bool) -> u64
     requires width { Width w }
-    requires w_in_bounds { at + w ≤ length s.now }
+    requires bytes_there { at + w ≤ length s.now }
     ensures { Bits w (bits_at big w s.now at) result }
 {
     let x = load(s, at, w);
@@ -78,8 +78,8 @@ pub(crate) fn word(s: &[u8], at: usize, w: usize, big: bool) -> u64
 
 // Two's complement below 8 bytes. With a fixed half the compiler makes one instruction of it.
 fn fold(x: u64, half: u64) -> i64
-    requires x_bound { x < 2 * half }
-    requires half_bound { half ≤ 2147483648 }
+    requires x_in_range { x < 2 * half }
+    requires half_up_to_2_31 { half ≤ 2147483648 }
     ensures { result ≡ folded half x }
 {
     (((x + half) % (2 * half)) as i64) - (half as i64)
@@ -87,7 +87,7 @@ fn fold(x: u64, half: u64) -> i64
 
 fn signed_value(x: u64, w: usize) -> i64
     requires width { Width w }
-    requires x_bound { x < 256 ^ w }
+    requires x_of_w_bytes { x < 256 ^ w }
     ensures { result ≡ to_signed w x }
 {
     if w == 8 {
@@ -105,7 +105,7 @@ fn signed_value(x: u64, w: usize) -> i64
 // The value of a sample's bits, where the type has it.
 fn value(x: u64, w: usize, signed: bool) -> i64
     requires width { Width w }
-    requires x_bound { x < 256 ^ w }
+    requires x_of_w_bytes { x < 256 ^ w }
     ensures { in_type (kind_by signed) w (value_of_bits (kind_by signed) w x) ≡ true → result ≡ value_of_bits (kind_by signed) w x }
 {
     if signed {
@@ -118,7 +118,7 @@ fn value(x: u64, w: usize, signed: bool) -> i64
 // The sample at a place, where the type has it.
 pub(crate) fn sample_at(s: &[u8], at: usize, w: usize, signed: bool, big: bool) -> i64
     requires width { Width w }
-    requires w_in_bounds { at + w ≤ length s.now }
+    requires bytes_there { at + w ≤ length s.now }
     ensures { in_type (kind_by signed) w (sample_at signed big w s.now at) ≡ true → result ≡ sample_at signed big w s.now at }
 {
     let x = word(s, at, w, big);
@@ -144,8 +144,8 @@ fn lifted(x: u64, w: usize, up: u16) -> u16
 // The 64 numbers from a place on, lifted.
 pub(crate) fn lift(s: &[u8], at: usize, w: usize, up: u16, big: bool) -> [u16; 64]
     requires width { Width w }
-    requires w_bound { (w ≤ 2) × (up < range w) }
-    requires w_in_bounds { at + 64 * w ≤ length s.now }
+    requires both_narrow { (w ≤ 2) × (up < range w) }
+    requires bytes_there { at + 64 * w ≤ length s.now }
     ensures { result ≡ lifts big w up 64 (drop at s.now) }
 {
     let mut a = [0u16; 64];

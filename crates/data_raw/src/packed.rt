@@ -12,8 +12,8 @@ use crate::number;
 // Raw samples to the front of dst, with no place tested.
 fn put(s: &[u8], n: usize, w: usize, signed: bool, big: bool, dst: &mut [u8])
     requires width { Width w }
-    requires w_in_bounds { n * w ≤ length s.now }
-    requires n_in_bounds { n ≤ length dst.old / 8 }
+    requires bytes_there { n * w ≤ length s.now }
+    requires room { n ≤ length dst.old / 8 }
     ensures { (raw_samples (kind_by signed) w (endian_by big) n s.now).number ≡ 0 → dst.new ≡ samples_over (raw_samples (kind_by signed) w (endian_by big) n s.now).seen dst.old }
 {
     let mut at: usize = 0;
@@ -28,8 +28,8 @@ fn put(s: &[u8], n: usize, w: usize, signed: bool, big: bool, dst: &mut [u8])
 // The same, two samples a turn: of one of 4 or 8 bytes with its bytes turned the compiler would make vector code that is slower.
 fn put_pairs(s: &[u8], n: usize, w: usize, signed: bool, big: bool, dst: &mut [u8])
     requires width { Width w }
-    requires w_in_bounds { n * w ≤ length s.now }
-    requires n_in_bounds { n ≤ length dst.old / 8 }
+    requires bytes_there { n * w ≤ length s.now }
+    requires room { n ≤ length dst.old / 8 }
     ensures { (raw_samples (kind_by signed) w (endian_by big) n s.now).number ≡ 0 → dst.new ≡ samples_over (raw_samples (kind_by signed) w (endian_by big) n s.now).seen dst.old }
 {
     let mut at: usize = 0;
@@ -63,10 +63,10 @@ fn put_lifted(a: [u16; 64], signed: bool, up: u16, dst: &mut [u8], k: usize)
 // Samples of 1 or 2 bytes, by blocks of 64. The last block ends with the last sample and may overlap the one before it, so that no samples are left over.
 fn put_narrow(s: &[u8], n: usize, w: usize, signed: bool, big: bool, up: u16, dst: &mut [u8])
     requires width { Width w }
-    requires w_bound { w ≤ 2 }
-    requires shifts { Shifts w signed up }
-    requires w_in_bounds { n * w ≤ length s.now }
-    requires n_in_bounds { n ≤ length dst.old / 8 }
+    requires narrow { w ≤ 2 }
+    requires shift { Shifts w signed up }
+    requires bytes_there { n * w ≤ length s.now }
+    requires room { n ≤ length dst.old / 8 }
     ensures { (raw_samples (kind_by signed) w (endian_by big) n s.now).number ≡ 0 → dst.new ≡ samples_over (raw_samples (kind_by signed) w (endian_by big) n s.now).seen dst.old }
 {
     if n < 64 {
@@ -95,11 +95,11 @@ fn put_by_sign(
     dst: &mut [u8],
 )
     requires width { Width w }
-    requires w_bound { w ≤ 2 }
-    requires shifts { Shifts w true half }
-    requires shifts_2 { Shifts w false up }
-    requires w_in_bounds { n * w ≤ length s.now }
-    requires n_in_bounds { n ≤ length dst.old / 8 }
+    requires narrow { w ≤ 2 }
+    requires signed_shift { Shifts w true half }
+    requires unsigned_shift { Shifts w false up }
+    requires bytes_there { n * w ≤ length s.now }
+    requires room { n ≤ length dst.old / 8 }
     ensures { (raw_samples (kind_by signed) w (endian_by big) n s.now).number ≡ 0 → dst.new ≡ samples_over (raw_samples (kind_by signed) w (endian_by big) n s.now).seen dst.old }
 {
     if signed {
@@ -111,9 +111,9 @@ fn put_by_sign(
 // Big-endian samples of more than a byte. A call for each width: the compiler makes a loop of its own of each.
 fn put_big(s: &[u8], n: usize, w: usize, signed: bool, dst: &mut [u8])
     requires width { Width w }
-    requires w_nonzero { w ≢ 1 }
-    requires w_in_bounds { n * w ≤ length s.now }
-    requires n_in_bounds { n ≤ length dst.old / 8 }
+    requires not_one_byte { w ≢ 1 }
+    requires bytes_there { n * w ≤ length s.now }
+    requires room { n ≤ length dst.old / 8 }
     ensures { (raw_samples (kind_by signed) w (endian_by true) n s.now).number ≡ 0 → dst.new ≡ samples_over (raw_samples (kind_by signed) w (endian_by true) n s.now).seen dst.old }
 {
     if w == 8 {
@@ -128,9 +128,9 @@ fn put_big(s: &[u8], n: usize, w: usize, signed: bool, dst: &mut [u8])
 // Little-endian samples, in the same way.
 fn put_little(s: &[u8], n: usize, w: usize, signed: bool, dst: &mut [u8])
     requires width { Width w }
-    requires w_nonzero { w ≢ 1 }
-    requires w_in_bounds { n * w ≤ length s.now }
-    requires n_in_bounds { n ≤ length dst.old / 8 }
+    requires not_one_byte { w ≢ 1 }
+    requires bytes_there { n * w ≤ length s.now }
+    requires room { n ≤ length dst.old / 8 }
     ensures { (raw_samples (kind_by signed) w (endian_by false) n s.now).number ≡ 0 → dst.new ≡ samples_over (raw_samples (kind_by signed) w (endian_by false) n s.now).seen dst.old }
 {
     if w == 8 {
@@ -144,8 +144,8 @@ fn put_little(s: &[u8], n: usize, w: usize, signed: bool, dst: &mut [u8])
 
 fn put_by_endian(s: &[u8], n: usize, w: usize, signed: bool, big: bool, dst: &mut [u8])
     requires width { Width w }
-    requires w_in_bounds { n * w ≤ length s.now }
-    requires n_in_bounds { n ≤ length dst.old / 8 }
+    requires bytes_there { n * w ≤ length s.now }
+    requires room { n ≤ length dst.old / 8 }
     ensures { (raw_samples (kind_by signed) w (endian_by big) n s.now).number ≡ 0 → dst.new ≡ samples_over (raw_samples (kind_by signed) w (endian_by big) n s.now).seen dst.old }
 {
     if w == 1 {

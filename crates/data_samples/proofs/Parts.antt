@@ -1,5 +1,6 @@
 -- Laws of the sample calls: the order of the bytes, and the place of the samples.
 -- Assumes nothing.
+use Rattle.std.specs.Prelude.{if◌then◌else◌}
 use Prim.Native.Nat.{ℕ, zero, suc, ◌+◌, ◌*◌, ◌^◌, ◌-◌, ◌/◌, ◌≤◌, ◌<◌}
 use native.Mathlib.Nat.{le_refl, mul-div_cancel}
 use native.Mathlib.Omega.{arith}
@@ -16,7 +17,7 @@ use Rattle.format.specs.declared.Reading.{Reading}
 use Rattle.format.specs.declared.ReadAnswer.{ReadAnswer}
 use Rattle.format.specs.declared.DataAnswer.{DataAnswer}
 use Rattle.format.specs.declared.CountAnswer.{CountAnswer}
-use Rattle.format.specs.Bytes.{if◌then◌else◌, over}
+use Rattle.format.specs.Bytes.{over}
 use Rattle.format.specs.Limits.{max_file}
 use Rattle.format.specs.Refusals.{file_too_long, several_files, place_too_large, data_too_short, float_samples, lent_too_short, refusal, fine}
 use Rattle.format.specs.Fields.{Given}
@@ -72,7 +73,7 @@ pub record PartIs (x : Reading) (n : ℕ) (s : List ℕ) (w : ℕ) (g : Bool) : 
   pub width : Width w
   pub enough : x.encoding ≡ 0 → n * w ≤ length s
   pub as_raw : x.encoding ≡ 0 → raw_samples (kind_by g) w (endian_by (eqb x.endian 1)) n s ≡ decoded_by x n s
-  pub as_text_lem : x.encoding ≡ 1 → text_samples (kind_by g) w n s ≡ decoded_by x n s
+  pub as_text : x.encoding ≡ 1 → text_samples (kind_by g) w n s ≡ decoded_by x n s
   pub as_hex : (x.encoding ≡ 0 → ⊥) → (x.encoding ≡ 1 → ⊥)
       → hex_samples (kind_by g) w (endian_by (eqb x.endian 1)) n (without_blanks s) ≡ decoded_by x n s
 
@@ -84,7 +85,7 @@ part_is x n s w g h l es =
       width = rw l (type_width x.sampletype);
       enough = λ e. rw l (h.enough e);
       as_raw = λ e. rw (e, l, k) (raw_by (number_kind x.sampletype) x.endian (sample_bytes x.sampletype) n s);
-      as_text_lem = λ e. rw (e, l, k);
+      as_text = λ e. rw (e, l, k);
       as_hex = λ a b.
           rw (ne_eqb x.encoding 0 a, ne_eqb x.encoding 1 b, l, k)
           (hex_by (number_kind x.sampletype) x.endian (sample_bytes x.sampletype) n (without_blanks s));

@@ -1,8 +1,7 @@
 -- Internal to this crate. What the parts of the sample calls need and answer.
-use Rattle.std.specs.Prelude.{ℕ, ◌+◌, ◌*◌, ◌≤◌, ◌≡◌, true, false, List, length, take, drop}
+use Rattle.std.specs.Prelude.{ℕ, ◌+◌, ◌*◌, ◌≤◌, ◌≡◌, true, false, List, length, take, drop, if◌then◌else◌}
 use Rattle.format.specs.declared.Reading.{Reading}
 use Rattle.format.specs.declared.DataAnswer.{DataAnswer}
-use Rattle.format.specs.Bytes.{if◌then◌else◌}
 use Rattle.format.specs.Fields.{Given}
 use Rattle.format.specs.Descriptors.{raw, number_kind, is_floating, sample_bytes}
 use Rattle.format.specs.Header.{Entry, header_length}

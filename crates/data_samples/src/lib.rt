@@ -1,9 +1,10 @@
 // The samples of a file, checked and decoded.
+#![tactic(auto)]
+
 mod part;
 
-ghost use Rattle.std.specs.Prelude.{◌≡◌, List, ℕ, ◌/◌, ◌≤◌, eqb, ℤ, length};
+ghost use Rattle.std.specs.Prelude.{◌≡◌, List, ℕ, ◌/◌, ◌≤◌, ◌==◌, ℤ, length, if◌then◌else◌};
 ghost use Rattle.format.specs.declared.CountAnswer.{CountAnswer};
-ghost use Rattle.format.specs.Bytes.{if◌then◌else◌};
 ghost use Rattle.format.specs.Refusals.{refusal, fine};
 ghost use Rattle.format.specs.Boundary.{word_bytes};
 ghost use Rattle.format.specs.Header.{header};
@@ -27,7 +28,7 @@ fn none(refusal: Refusal) -> CountAnswer
 
 // There are no samples, for the reason with this number; or n samples where it is 0.
 fn told(number: u32, n: u64) -> CountAnswer
-    ensures { result ≡ (if eqb number 0 then record { refusal = fine; count = n } else no_samples (refusal number)) }
+    ensures { result ≡ (if number == 0 then record { refusal = fine; count = n } else no_samples (refusal number)) }
 {
     if number == 0 {
         return CountAnswer {

@@ -35,8 +35,8 @@ fn check_part(s: &[u8], reading: Reading, n: usize) -> u32
 // n samples of the data to the front of the list; none of them is refused.
 fn fill_part(s: &[u8], reading: Reading, n: usize, list: &mut [i64])
     requires decodable { Decodable reading n s.now }
-    requires s_value { (decoded_by reading n s.now).number ≡ 0 }
-    requires n_in_bounds { n ≤ length list.old }
+    requires none_refused { (decoded_by reading n s.now).number ≡ 0 }
+    requires room { n ≤ length list.old }
     ensures { list.new ≡ over (decoded_by reading n s.now).seen list.old }
 {
     let w = types::sample_bytes(reading.sampletype as u64) as usize;
@@ -54,8 +54,8 @@ fn fill_part(s: &[u8], reading: Reading, n: usize, list: &mut [i64])
 // n samples of the data to the front of lent bytes, 8 for each; none of them is refused.
 fn pack_part(s: &[u8], reading: Reading, n: usize, list: &mut [u8])
     requires decodable { Decodable reading n s.now }
-    requires s_value { (decoded_by reading n s.now).number ≡ 0 }
-    requires n_in_bounds { n ≤ length list.old / 8 }
+    requires none_refused { (decoded_by reading n s.now).number ≡ 0 }
+    requires room { n ≤ length list.old / 8 }
     ensures { list.new ≡ samples_over (decoded_by reading n s.now).seen list.old }
 {
     let w = types::sample_bytes(reading.sampletype as u64) as usize;
@@ -100,8 +100,8 @@ pub(crate) fn fill_place(
     list: &mut [i64],
 )
     requires held { Held file.now second.now reading n d }
-    requires second_value { (decoded_by reading n (part_by d file.now second.now)).number ≡ 0 }
-    requires n_in_bounds { n ≤ length list.old }
+    requires none_refused { (decoded_by reading n (part_by d file.now second.now)).number ≡ 0 }
+    requires room { n ≤ length list.old }
     ensures { list.new ≡ over (decoded_by reading n (part_by d file.now second.now)).seen list.old }
 {
     let start = d.start as usize;
@@ -123,8 +123,8 @@ pub(crate) fn pack_place(
     list: &mut [u8],
 )
     requires held { Held file.now second.now reading n d }
-    requires second_value { (decoded_by reading n (part_by d file.now second.now)).number ≡ 0 }
-    requires n_in_bounds { n ≤ length list.old / 8 }
+    requires none_refused { (decoded_by reading n (part_by d file.now second.now)).number ≡ 0 }
+    requires room { n ≤ length list.old / 8 }
     ensures { list.new ≡ samples_over (decoded_by reading n (part_by d file.now second.now)).seen list.old }
 {
     let start = d.start as usize;

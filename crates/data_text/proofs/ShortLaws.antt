@@ -1,5 +1,6 @@
 -- Laws of tokens of few digits.
 -- Assumes nothing.
+use Rattle.std.specs.Prelude.{if◌then◌else◌}
 use Prim.Native.Nat.{ℕ, zero, suc, ◌+◌, ◌*◌, ◌-◌, ◌^◌, ◌≤◌, ◌<◌, min}
 use native.Mathlib.Nat.{pow-suc, pow-le-pow_right}
 use native.Mathlib.Numerals.{add-one}
@@ -14,7 +15,7 @@ use mir.Syntax.{w64}
 use mir.Val.{SFits, bool_byte, to_z, of_z}
 use mir.Facts.{to_z-of_z}
 use borrow.Author.Tests.{ltb-true, ltb-false, eqb-true, eqb-false, ne_eqb}
-use Rattle.format.specs.Bytes.{if◌then◌else◌, is_digit}
+use Rattle.format.specs.Bytes.{is_digit}
 use Rattle.format.specs.Samples.{blank}
 use Rattle.data_text.specs.declared.reader.Digits.TheVariants.{Run}
 use Rattle.data_text.specs.Tokens.{Scan, is_sign, Front, ShortNumber, by_sign, minus, digits_at, bound_token, token_at}

@@ -1,5 +1,6 @@
 -- Laws of several tokens: a walk over n of them, and a list or lent bytes that are filled with their values.
 -- Assumes nothing.
+use Rattle.std.specs.Prelude.{if◌then◌else◌}
 use Prim.Native.Nat.{ℕ, zero, suc, ◌+◌, ◌*◌, ◌-◌, ◌/◌, ◌≤◌, ◌<◌}
 use native.Mathlib.Nat.{zero-add, suc-add, zero-mul, mul-zero, suc-mul}
 use native.Mathlib.Omega.{arith}
@@ -15,7 +16,7 @@ use mir.Syntax.{w64}
 use mir.Val.{SFits, to_z, of_z}
 use mir.Facts.{to_z-of_z}
 use borrow.Author.Tests.{ltb-true, ltb-false}
-use Rattle.format.specs.Bytes.{if◌then◌else◌, over}
+use Rattle.format.specs.Bytes.{over}
 use Rattle.format.specs.Descriptors.{NumberKind, little}
 use Rattle.format.specs.Refusals.{bad_sample, data_ends_early}
 use Rattle.format.specs.Samples.{Decoded, stopped, with_sample, blank, skip_blanks, token, after_token, token_value, lowest, highest, in_type, text_sample, tokens, text_samples, value_bytes}

@@ -1,10 +1,10 @@
 -- Internal to this crate. Text samples as the code reads them: by position, and over the two bounds of a type.
-use Rattle.std.specs.Prelude.{ℕ, zero, suc, ◌+◌, ◌*◌, ◌^◌, ◌≤◌, ◌<◌, min, ◌≡◌, Bool, true, false, ◌||◌, List, [], ◌∷◌, leb, ltb, eqb, ℤ, pos, negsuc, neg_ℤ, length, drop, get_or}
+use Rattle.std.specs.Prelude.{ℕ, zero, suc, ◌+◌, ◌*◌, ◌^◌, ◌≤◌, ◌<◌, min, ◌≡◌, Bool, true, false, ◌||◌, List, [], ◌∷◌, nat_le, nat_lt, ◌==◌, ℤ, pos, negsuc, neg_ℤ, length, drop, slice_index, if◌then◌else◌}
 use Rattle.std.proofs.Math.Option.{Option, none, some}
 use Rattle.std.proofs.lemmas.List.Edits.{sets}
 use Rattle.std.specs.Int.{w64}
 use mir.Val.{SFits, bool_byte}
-use Rattle.format.specs.Bytes.{if◌then◌else◌, is_digit}
+use Rattle.format.specs.Bytes.{is_digit}
 use Rattle.format.specs.Boundary.{samples_lent, lent_samples}
 use Rattle.format.specs.Words.{number, digits_from}
 use Rattle.format.specs.Refusals.{bad_sample, data_ends_early}
@@ -17,8 +17,8 @@ use Rattle.data_text.specs.declared.reader.TokenRead.TheVariants.{NoSample, Samp
 -- ---- samples from -low to high: `text_samples` of a type with these bounds
 
 unfoldable pub in_range : ℕ → ℕ → ℤ → Bool
-in_range low high (pos n) = leb n high
-in_range low high (negsuc n) = ltb n low
+in_range low high (pos n) = nat_le n high
+in_range low high (negsuc n) = nat_lt n low
 
 unfoldable pub ranged : ℕ → ℕ → Option ℤ → Option ℤ
 ranged low high none = none
@@ -63,7 +63,7 @@ minus m = neg_ℤ (pos m)
 -- the value that f makes of digits whose number is at most top
 abbrev pub bound_token : (ℕ → ℤ) → ℕ → Digits → TokenRead
 bound_token f top NoDigits = NoSample
-bound_token f top (Run m e) = if leb m top then Sample (f m) e else NoSample
+bound_token f top (Run m e) = if nat_le m top then Sample (f m) e else NoSample
 
 abbrev pub token_of : Option ℤ → ℕ → TokenRead
 token_of none e = NoSample
@@ -86,18 +86,18 @@ pub record Scan (s : List ℕ) (at i m : ℕ) : Type 0 where
 
 -- + and -
 abbrev pub is_sign : ℕ → Bool
-is_sign b = eqb b 43 || eqb b 45
+is_sign b = b == 43 || b == 45
 
 -- the n bytes from `at` on are a sign or a digit, and then digits
 pub record Front (s : List ℕ) (at n : ℕ) : Type 0 where
   pub few : n ≤ 5
-  pub first : 0 < n → is_sign (get_or s at 0) ≡ false → is_digit (get_or s at 0) ≡ true
-  pub digits : (k : ℕ) → 0 < k → k < n → is_digit (get_or s (at + k) 0) ≡ true
+  pub first : 0 < n → is_sign (slice_index s at) ≡ false → is_digit (slice_index s at) ≡ true
+  pub digits : (k : ℕ) → 0 < k → k < n → is_digit (slice_index s (at + k)) ≡ true
 
 -- m is the number of the digits among the n bytes from `at` on
 pub record ShortNumber (s : List ℕ) (at n m : ℕ) : Type 0 where
   pub small : m < 10 ^ 5
-  pub scan : Scan s (at + bool_byte (is_sign (get_or s at 0))) (at + n) m
+  pub scan : Scan s (at + bool_byte (is_sign (slice_index s at))) (at + n) m
 
 -- a number after a minus, or without one
 abbrev pub by_sign : Bool → ℕ → ℤ

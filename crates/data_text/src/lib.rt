@@ -1,4 +1,6 @@
 // Text samples: checked, and decoded into a lent list or lent bytes.
+#![tactic(auto)]
+
 pub mod list;
 pub mod packed;
 mod reader;

@@ -1,7 +1,6 @@
 // Text samples into lent bytes, 8 for each, the low byte first.
-ghost use Rattle.std.specs.Prelude.{◌≡◌, ◌*◌, ◌/◌, ◌^◌, ◌≤◌, ◌<◌, ltb, length};
+ghost use Rattle.std.specs.Prelude.{◌≡◌, ◌*◌, ◌/◌, ◌^◌, ◌≤◌, ◌<◌, nat_lt, length, if◌then◌else◌};
 ghost use Rattle.std.proofs.lemmas.List.Edits.{sets};
-ghost use Rattle.format.specs.Bytes.{if◌then◌else◌};
 ghost use Rattle.format.specs.Boundary.{samples_lent, lent_samples};
 ghost use Rattle.format.specs.Descriptors.{little};
 ghost use Rattle.format.specs.Samples.{text_samples, value_bytes};
@@ -12,7 +11,7 @@ use crate::reader;
 
 // Writes where there is room.
 fn put(dst: &mut [u8], k: usize, z: i64)
-    ensures { dst.new ≡ (if ltb k (length dst.old / 8) then sets dst.old (8 * k) (value_bytes 8 little z) else dst.old) }
+    ensures { dst.new ≡ (if nat_lt k (length dst.old / 8) then sets dst.old (8 * k) (value_bytes 8 little z) else dst.old) }
 {
     if k < dst.len() / 8 {
         lent_numbers::put_sample(dst, k, z);

@@ -1,6 +1,6 @@
 // Text samples: blanks are skipped and a token is read, in turn, as often as samples are wanted.
-ghost use Rattle.std.specs.Prelude.{◌≡◌, true, false, ◌+◌, ◌*◌, ◌-◌, ◌^◌, ◌≤◌, ◌<◌, min, length, drop};
-ghost use Rattle.format.specs.Bytes.{if◌then◌else◌, is_digit};
+ghost use Rattle.std.specs.Prelude.{◌≡◌, true, false, ◌+◌, ◌*◌, ◌-◌, ◌^◌, ◌≤◌, ◌<◌, min, length, drop, if◌then◌else◌};
+ghost use Rattle.format.specs.Bytes.{is_digit};
 ghost use Rattle.format.specs.Samples.{blank, skip_blanks, lowest, highest};
 ghost use Rattle.data_text.specs.Tokens.{cap, is_sign, by_sign, Skipped, digits_at, bound_token, token_at, Walked};
 ghost use Rattle.lent_numbers.specs.Widths.{Width, kind_by};
@@ -8,14 +8,14 @@ ghost use Rattle.lent_numbers.specs.Widths.{Width, kind_by};
 use crate::short;
 
 // The digits up to the end of a token: their number, 2^63 + 1 where it is larger, and where the token ends.
-#[derive(Drop)]
+#[derive(Clone, Copy)]
 pub(crate) enum Digits {
     NoDigits,
     Run { number: u64, end: usize },
 }
 
 // The value of a token that is a sample, and where the token ends.
-#[derive(Drop)]
+#[derive(Clone, Copy)]
 pub(crate) enum TokenRead {
     NoSample,
     Sample { value: i64, end: usize },

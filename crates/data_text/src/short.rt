@@ -1,7 +1,7 @@
 // Tokens of few digits, read with no branch for a digit: how many there are is what a processor cannot predict.
-ghost use Rattle.std.specs.Prelude.{◌≡◌, true, ◌+◌, ◌*◌, ◌-◌, ◌^◌, ◌≤◌, ◌<◌, length, get_or};
+ghost use Rattle.std.specs.Prelude.{◌≡◌, true, ◌+◌, ◌*◌, ◌-◌, ◌^◌, ◌≤◌, ◌<◌, length, slice_index, if◌then◌else◌};
 ghost use mir.Val.{bool_byte};
-ghost use Rattle.format.specs.Bytes.{if◌then◌else◌, is_digit};
+ghost use Rattle.format.specs.Bytes.{is_digit};
 ghost use Rattle.format.specs.Samples.{blank};
 ghost use Rattle.data_text.specs.Tokens.{is_sign, Front, ShortNumber};
 
@@ -35,7 +35,7 @@ pub(crate) fn front(s: &[u8], at: usize) -> usize
 // Whether these n bytes are a token of digits: one at least is a digit, and a blank follows.
 pub(crate) fn is_token(s: &[u8], at: usize, n: usize) -> bool
     requires { at + n < length s.now }
-    ensures { result ≡ true → (bool_byte (is_sign (get_or s.now at 0)) < n) × (blank (get_or s.now (at + n) 0) ≡ true) }
+    ensures { result ≡ true → (bool_byte (is_sign (slice_index s.now at)) < n) × (blank (slice_index s.now (at + n)) ≡ true) }
 {
     ((reader::is_sign(s[at]) as usize) < n) & reader::is_blank(s[at + n])
 }
@@ -50,7 +50,7 @@ fn with_digit(m: u64, b: u8, more: bool) -> u64
 
 // The number of the digits among the n bytes from `at` on.
 pub(crate) fn number(s: &[u8], at: usize, n: usize) -> u64
-    requires { (at + 5 ≤ length s.now) × (Front s.now at n × (bool_byte (is_sign (get_or s.now at 0)) < n)) }
+    requires { (at + 5 ≤ length s.now) × (Front s.now at n × (bool_byte (is_sign (slice_index s.now at)) < n)) }
     ensures { ShortNumber s.now at n result }
 {
     let b = s[at];

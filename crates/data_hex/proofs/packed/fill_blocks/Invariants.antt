@@ -1,0 +1,13 @@
+-- `fill_blocks` meets its contract. The invariant: the samples before `at` stand in front.
+use Prim.Native.Nat.{◌-◌}
+use mathlib.Core.Path.{◌≡◌}
+use lib.ListN.{length}
+use Rattle.lent_numbers.specs.Widths.{kind_by, endian_by}
+use Rattle.data_hex.proofs.LoopLaws.{in_bytes, Filling}
+use Rattle.data_hex.proofs.packed.fill_blocks.Given as goal
+
+abbrev pub invariant-loop-k : goal.invariant-loop-k
+invariant-loop-k l = Filling in_bytes (kind_by l.signed) l.w (endian_by l.big) l.n l.s l.initial.dst l.dst l.at l.k × ((length l.d ≡ 256) × (length l.bytes ≡ 128))
+
+abbrev pub decreases-loop-k : goal.decreases-loop-k
+decreases-loop-k l = l.n - l.k

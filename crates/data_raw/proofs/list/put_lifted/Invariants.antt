@@ -1,0 +1,11 @@
+-- `list::put_lifted` meets its contract: the samples before j are stored.
+use Rattle.std.proofs.Common.{◌+◌, ◌-◌}
+use Rattle.data_raw.specs.Bits.{lows}
+use Rattle.data_raw.proofs.BlockLaws.{in_list, Run}
+use Rattle.data_raw.proofs.list.put_lifted.Given as goal
+
+abbrev pub invariant-loop-j : goal.invariant-loop-j
+invariant-loop-j l = Run in_list (lows l.signed l.up l.a) l.initial.dst l.k l.dst (l.k + l.j) l.j
+
+abbrev pub decreases-loop-j : goal.decreases-loop-j
+decreases-loop-j l = 64 - l.j
