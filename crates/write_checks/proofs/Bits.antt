@@ -1,13 +1,13 @@
 -- Laws of samples by their 64 bits: where they are read, and their range.
 -- Assumes nothing.
+use Rattle.std.specs.Prelude.{if◌then◌else◌}
 use Rattle.std.proofs.Common.{◌≡◌, ℕ, ◌+◌, ◌-◌, ◌*◌, ◌/◌, ◌%◌, ◌^◌, ◌<◌, ◌≤◌, Bool, true, false, ◌&&◌, ltb, leb, List, length, get_or, take, drop, ℤ, pos, negsuc, sym, refl, ap, ◌∙◌, arith, length-drop, length-take-le, to_z-of_z, w64, to_z, of_z, ltb-false, ltb-true, le-ltb, lt-ltb, le-leb, leb-false, leb-true}
 use lib.Bits.{bit_or, or_lt, or_add_and, and_le_l, and_le_r}
 use borrow.Author.Tests.{lt-leb}
 use lib.Signed.{mag}
-use Rattle.format.specs.Bytes.{if◌then◌else◌}
 use Rattle.format.specs.Samples.{from_bytes, to_signed, from_signed, sample_value}
 use Rattle.format.specs.Boundary.{samples_lent}
-use Rattle.format.proofs.Boundary.{lent_room, sample_at_lem}
+use Rattle.format.proofs.Boundary.{lent_room, sample_at}
 use Rattle.write_checks.specs.Refused.{in_range}
 
 -- a sample that is read from a list is itself
@@ -41,7 +41,7 @@ pub word_sample : (s : List ℕ) (k : ℕ) → k < length s / 8 → to_signed 8 
 unfolding sample_value
 word_sample s k h =
     let l : length (take 8 (drop (8 * k) s)) ≡ 8 = length-take-le 8 (drop (8 * k) s) (omega (arith, length-drop (8 * k) s, lent_room from_bytes 8 s k h)) in
-    sym (sample_at_lem s k (pos 0) h ∙ ap (λ (w : ℕ). to_signed w (from_bytes (take 8 (drop (8 * k) s)))) l)
+    sym (sample_at s k (pos 0) h ∙ ap (λ (w : ℕ). to_signed w (from_bytes (take 8 (drop (8 * k) s)))) l)
 
 module _ (x : ℕ) (l : x < 18446744073709551616) where
   -- ---- the range: low added, samples from -low to high are the numbers up to low + high

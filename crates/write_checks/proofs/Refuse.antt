@@ -1,9 +1,10 @@
 -- Laws of the refusals: the tests of the numbers, the capped product, and the samples in range.
 -- Assumes nothing.
-use Rattle.std.proofs.Common.{◌≡◌, ℕ, ◌+◌, ◌*◌, ◌<◌, ◌≤◌, min, Bool, true, false, not, ◌&&◌, ◌||◌, eqb, ltb, leb, List, [], ◌∷◌, length, get_or, drop, ℤ, pos, negsuc, sym, refl, ap, ◌∙◌, mul_comm, le-mul_of_pos_right, add-one, arith, drop_of_length-le, drop-cons, ltb-false, ltb-true, le-ltb, lt-ltb, eq-eqb, ne_eqb, le-leb}
+use Rattle.std.specs.Prelude.{if◌then◌else◌}
+use Rattle.std.proofs.Common.{◌≡◌, ℕ, ◌+◌, ◌*◌, ◌<◌, ◌≤◌, Bool, true, false, not, ◌&&◌, ◌||◌, eqb, leb, List, [], ◌∷◌, length, get_or, drop, ℤ, pos, negsuc, sym, refl, ap, ◌∙◌, mul_comm, le-mul_of_pos_right, add-one, arith, drop_of_length-le, drop-cons, le-ltb, lt-ltb, eq-eqb, ne_eqb, le-leb}
 use mathlib.Core.Bool.{and_assoc, and-true}
 use borrow.Author.Tests.{lt-leb}
-use Rattle.format.specs.Bytes.{if◌then◌else◌, is_in}
+use Rattle.format.specs.Bytes.{is_in}
 use Rattle.format.specs.Limits.{max_extent}
 use Rattle.format.specs.Refusals.{bad_descriptor, extent_too_large, float_samples, bad_sample, wrong_count}
 use Rattle.format.specs.Descriptors.{NumberKind, type_at, sample_bytes, number_kind, is_floating, is_signed, product, extent, capped}
@@ -148,7 +149,7 @@ module _ {version : ℕ} {sizes : List ℕ} {t e endian : ℕ} (zs : List ℤ) w
           ready h = record {
             numbers = known;
             extent_small = omega (arith, ap (λ (k : ℕ). k * sample_bytes t) (sym em ∙ count ∙ exact), within);
-            in_type_lem = all_is ∙ h;
+            in_type = all_is ∙ h;
           }
 
 -- ---- what is known where none is met

@@ -1,6 +1,5 @@
 -- Internal to the library. The samples of a call, and what is refused, in the words of the contracts. Each is tied to the definitions of `format` by a law of proofs/.
-use Rattle.std.specs.Prelude.{◌≡◌, ℕ, ◌+◌, ◌*◌, ◌^◌, ◌<◌, ◌≤◌, Bool, true, not, ◌&&◌, List, [], ◌∷◌, length, ℤ, pos, negsuc, ◌==◌, nat_le, nat_lt}
-use Rattle.format.specs.Bytes.{if◌then◌else◌}
+use Rattle.std.specs.Prelude.{◌≡◌, ℕ, ◌+◌, ◌*◌, ◌^◌, ◌<◌, ◌≤◌, Bool, true, not, ◌&&◌, List, [], ◌∷◌, length, ℤ, pos, negsuc, ◌==◌, nat_le, nat_lt, if◌then◌else◌}
 use Rattle.format.specs.Limits.{max_file, max_extent}
 use Rattle.format.specs.Refusals.{file_too_long, bad_descriptor, extent_too_large, float_samples, bad_sample, lent_too_short, wrong_count}
 use Rattle.format.specs.Descriptors.{sample_bytes, number_kind, is_floating, product, extent}
@@ -50,4 +49,4 @@ pub record Numbers (version : ℕ) (sizes : List ℕ) (t e endian : ℕ) : Type 
 pub record Ready (version : ℕ) (sizes : List ℕ) (t e endian : ℕ) (zs : List ℤ) : Type 0 where
   pub numbers : Numbers version sizes t e endian
   pub extent_small : length zs * sample_bytes t ≤ max_extent
-  pub in_type_lem : all_in_type (number_kind t) (sample_bytes t) zs ≡ true
+  pub in_type : all_in_type (number_kind t) (sample_bytes t) zs ≡ true

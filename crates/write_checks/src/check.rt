@@ -63,7 +63,7 @@ fn from_lowest(x: u64, low: u64) -> u64
 
 // Whether all samples lie from -low to high. These are as many values as a power of 2: the numbers are all below it where their bits together are.
 fn all_in_range(samples: &[i64], lent: &[u8], packed: bool, low: u64, high: u64) -> bool
-    requires low_bound { (low ≤ 9223372036854775808) × (high < 9223372036854775808) }
+    requires both_small { (low ≤ 9223372036854775808) × (high < 9223372036854775808) }
     requires whole_range { WholeRange low high }
     ensures { result ≡ all_in_range low high (chosen packed samples.now lent.now) }
 {

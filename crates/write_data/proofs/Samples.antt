@@ -1,18 +1,19 @@
 -- Laws of the data: what the loops over the samples store is the data of the definitions.
 -- Assumes nothing.
+use Rattle.std.specs.Prelude.{if◌then◌else◌}
 use mathlib.Core.Path.{◌≡◌, refl, sym, ap, ◌∙◌}
 use mathlib.Core.Bool.{Bool, true, false}
 use mathlib.Core.List.{List, [], ◌∷◌, ◌++◌, flat_map, append_assoc}
 use Prim.Native.Nat.{ℕ, zero, suc, ◌+◌, ◌*◌, ◌-◌, ◌^◌, ◌/◌, ◌%◌, ◌≤◌, ◌<◌}
 use lib.Pow.{pow-add}
-use native.Mathlib.Nat.{pow-suc, one-le-pow, mul-le-mul, mul_assoc, mul-sub, mul-one, mul_comm, mul_left_comm, mul-suc, suc-mul, zero-mul}
+use native.Mathlib.Nat.{le-mul_of_pos_right, pow-suc, one-le-pow, mul-le-mul, mul_assoc, mul-sub, mul-one, mul_comm, mul_left_comm, suc-mul, zero-mul}
 use native.Mathlib.Omega.{arith}
 use lib.Dec.{ltb, lit<}
 use lib.IntN.{ℤ, pos, negsuc}
 use lib.ListN.{length, drop, length-append}
 use lib.Seq.{slice, length-slice}
 use borrow.Author.Tests.{ltb-true, ltb-false, le-ltb, ne_eqb}
-use Rattle.format.specs.Bytes.{if◌then◌else◌, LF}
+use Rattle.format.specs.Bytes.{LF}
 use Rattle.format.specs.Limits.{max_file}
 use Rattle.format.specs.Refusals.{file_too_long, lent_too_short}
 use Rattle.format.specs.Descriptors.{NumberKind, signed, unsigned, floating}
@@ -76,13 +77,10 @@ module _ (w : ℕ) (narrow : w ≤ 8) where
       let p : 256 ^ 8 ≡ 256 ^ w * v = sym (ap (λ (i : ℕ). 256 ^ i) k) ∙ pow-add 256 w (8 - w) in
       let l : 1 ≤ v = one-le-pow (8 - w) 256 (lit< tt) in
       let r : 256 ^ w * (v - 1) ≡ 256 ^ w * v - 256 ^ w = mul-sub (256 ^ w) v 1 ∙ ap (λ (i : ℕ). 256 ^ w * v - i) (mul-one (256 ^ w)) in
-      let g : 256 ^ w ≤ 256 ^ w * v = omega (arith, le_mul (256 ^ w) v l) in
+      let g : 256 ^ w ≤ 256 ^ w * v = omega (arith, le-mul_of_pos_right (256 ^ w) l) in
       let e : 256 ^ 8 - 1 - n ≡ 256 ^ w - 1 - n + 256 ^ w * (v - 1) = split (256 ^ 8) (256 ^ w) (256 ^ w * v) (256 ^ w * (v - 1)) n h p r g in
       ap (to_bytes w) e ∙ low_part w (256 ^ w - 1 - n) (v - 1)
     where
-      le_mul : (a b : ℕ) → 1 ≤ b → a ≤ a * b
-      le_mul a (suc b) h = omega (arith, mul-suc a b)
-
       split : (t a b c n : ℕ) → n < a → t ≡ b → c ≡ b - a → a ≤ b → t - 1 - n ≡ a - 1 - n + c
       split t a b c n h p r g = omega arith
 

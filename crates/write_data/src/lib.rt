@@ -1,4 +1,6 @@
 // The data of the samples in each encoding, and its length.
+#![tactic(auto)]
+
 ghost use Rattle.std.specs.Prelude.{◌≡◌, ℕ, ◌+◌, ◌*◌, ◌-◌, ◌≤◌, ◌<◌, true, length};
 ghost use mathlib.Core.List.{flat_map};
 ghost use Rattle.std.proofs.lemmas.List.Edits.{sets};
@@ -172,7 +174,7 @@ fn put_hex(
 // How many bytes the data takes.
 fn data_length(samples: &[i64], lent: &[u8], packed: bool, encoding: u64, w: usize) -> usize
     requires { (length (chosen packed samples.now lent.now) ≤ max_extent) × (length (chosen packed samples.now lent.now) * w ≤ max_extent) }
-    ensures by_index { (endian : ℕ) → result ≡ length (data_bytes encoding w endian (chosen packed samples.now lent.now)) }
+    ensures value { (endian : ℕ) → result ≡ length (data_bytes encoding w endian (chosen packed samples.now lent.now)) }
     ensures long { result ≤ sample_room * max_extent }
 {
     if encoding == wide::TEXT {
@@ -206,8 +208,8 @@ pub fn file_refusal(
     w: usize,
     room: usize,
 ) -> u32
-    requires start_le_header_room { (start ≤ header_room) × (length (chosen packed samples.now lent.now) ≤ max_extent) × (length (chosen packed samples.now lent.now) * w ≤ max_extent) }
-    requires lent_len_bound { length (text_data (chosen packed samples.now lent.now)) ≤ sample_room * length (chosen packed samples.now lent.now) }
+    requires bounded { (start ≤ header_room) × (length (chosen packed samples.now lent.now) ≤ max_extent) × (length (chosen packed samples.now lent.now) * w ≤ max_extent) }
+    requires lines { length (text_data (chosen packed samples.now lent.now)) ≤ sample_room * length (chosen packed samples.now lent.now) }
     ensures { (endian : ℕ) → result ≡ late_refusal (start + length (data_bytes encoding w endian (chosen packed samples.now lent.now))) room }
 {
     if any_text_fits(
@@ -235,8 +237,8 @@ pub fn put_data(
     w: usize,
     endian: u64,
 ) -> usize
-    requires width { Width w × (endian < 2) × (flat_map (low_bytes w endian) (chosen packed samples.now lent.now) ≡ raw_data w endian (chosen packed samples.now lent.now)) }
-    requires lent_in_bounds { at + length (data_bytes encoding w endian (chosen packed samples.now lent.now)) ≤ length out.old }
+    requires raw_bytes { Width w × (endian < 2) × (flat_map (low_bytes w endian) (chosen packed samples.now lent.now) ≡ raw_data w endian (chosen packed samples.now lent.now)) }
+    requires room { at + length (data_bytes encoding w endian (chosen packed samples.now lent.now)) ≤ length out.old }
     ensures place { result ≡ at + length (data_bytes encoding w endian (chosen packed samples.now lent.now)) }
     ensures stored { out.new ≡ sets out.old at (data_bytes encoding w endian (chosen packed samples.now lent.now)) }
 {

@@ -1,5 +1,6 @@
 -- Laws of the header: the lines that are stored one after the other are the header of the definitions.
 -- Assumes nothing.
+use Rattle.std.specs.Prelude.{if◌then◌else◌}
 use mathlib.Core.Path.{◌≡◌, refl, sym, ap, ◌∙◌}
 use mathlib.Core.Bool.{Bool, true, false, ◌||◌}
 use mathlib.Core.List.{List, [], ◌∷◌, ◌++◌, append_assoc, append-nil, flat_map}
@@ -8,7 +9,7 @@ use native.Mathlib.Omega.{arith}
 use lib.Dec.{eqb}
 use lib.ListN.{length, set, take, drop, length-append}
 use lib.Seq.{sets}
-use Rattle.format.specs.Bytes.{if◌then◌else◌, bytes, LF, SPACE}
+use Rattle.format.specs.Bytes.{bytes, LF, SPACE}
 use Rattle.format.specs.Descriptors.{type_at, type_name, encodings, endians, endian_needed, raw, hex}
 use Rattle.format.specs.Lines.{line, lf, unlines}
 use Rattle.format.specs.Writer.{decimal, spaced, name_at, field_line, endian_lines, header_lines, header_bytes}

@@ -1,5 +1,6 @@
 -- Laws of the whole call: the refusals in two parts, and the file that is stored in two parts.
 -- Assumes nothing.
+use Rattle.std.specs.Prelude.{if◌then◌else◌}
 use mathlib.Core.Path.{◌≡◌, refl, sym, ap, ◌∙◌}
 use mathlib.Core.Bool.{Bool, true, false, not, ◌&&◌, and-false}
 use mathlib.Core.List.{List, ◌++◌}
@@ -11,7 +12,7 @@ use lib.IntN.{ℤ}
 use lib.ListN.{length, take, drop, length-append, length-take}
 use lib.Seq.{sets, sets-eq, take_all, take_at}
 use borrow.Author.Tests.{ne_eqb, ltb-false, lt-leb, leb-true, leb-false}
-use Rattle.format.specs.Bytes.{if◌then◌else◌, between, is_in, over}
+use Rattle.format.specs.Bytes.{between, is_in, over}
 use Rattle.format.specs.Limits.{max_file, max_extent, max_version}
 use Rattle.format.specs.Refusals.{file_too_long, bad_descriptor, extent_too_large, float_samples, bad_sample, lent_too_short, wrong_count}
 use Rattle.format.specs.Descriptors.{sample_bytes, number_kind, is_floating, product, extent}

@@ -1,7 +1,7 @@
 -- Internal to this crate. What the writer's parts store, in the words of their contracts. Each is tied to the definitions of `format` by a law of proofs/.
-use Rattle.std.specs.Prelude.{ℕ}
+use Rattle.std.specs.Prelude.{ℕ, if◌then◌else◌}
 use mathlib.Core.List.{List, [], ◌∷◌, ◌++◌, flat_map}
-use Rattle.format.specs.Bytes.{if◌then◌else◌, bytes, LF, SPACE}
+use Rattle.format.specs.Bytes.{bytes, LF, SPACE}
 use Rattle.format.specs.declared.WriteAnswer.{WriteAnswer}
 use Rattle.format.specs.Refusals.{refusal}
 use Rattle.format.specs.Descriptors.{type_at, type_name, encodings, endians, endian_needed}

@@ -14,7 +14,7 @@ use format::wide;
 // A name with its mark, a value, and LF.
 fn put_line(out: &mut [u8], at: usize, name: &[u8], value: &[u8]) -> usize
     requires { at + length name.now + length value.now + 1 ≤ length out.old }
-    ensures value { (result ≡ at + length (value_line name.now value.now)) × (out.new ≡ sets out.old at (value_line name.now value.now)) }
+    ensures written { (result ≡ at + length (value_line name.now value.now)) × (out.new ≡ sets out.old at (value_line name.now value.now)) }
     ensures long { result ≡ at + length name.now + length value.now + 1 }
 {
     let a = write_parts::bytes::put_bytes(out, at, name);
@@ -26,7 +26,7 @@ fn put_line(out: &mut [u8], at: usize, name: &[u8], value: &[u8]) -> usize
 // A name with its mark, a number, and LF.
 fn put_number(out: &mut [u8], at: usize, name: &[u8], n: u64) -> usize
     requires { at + length name.now + 21 ≤ length out.old }
-    ensures value { (result ≡ at + length (value_line name.now (decimal n))) × (out.new ≡ sets out.old at (value_line name.now (decimal n))) }
+    ensures written { (result ≡ at + length (value_line name.now (decimal n))) × (out.new ≡ sets out.old at (value_line name.now (decimal n))) }
     ensures long { result ≤ at + length name.now + 21 }
 {
     let a = write_parts::bytes::put_bytes(out, at, name);
@@ -38,7 +38,7 @@ fn put_number(out: &mut [u8], at: usize, name: &[u8], n: u64) -> usize
 // A space and a number for each.
 fn put_spaced(out: &mut [u8], at: usize, ns: &[u64]) -> usize
     requires { at + 21 * length ns.now ≤ length out.old }
-    ensures value { (result ≡ at + length (flat_map after_space ns.now)) × (out.new ≡ sets out.old at (flat_map after_space ns.now)) }
+    ensures written { (result ≡ at + length (flat_map after_space ns.now)) × (out.new ≡ sets out.old at (flat_map after_space ns.now)) }
     ensures long { result ≤ at + 21 * length ns.now }
 {
     let mut o = at;
@@ -54,7 +54,7 @@ fn put_spaced(out: &mut [u8], at: usize, ns: &[u64]) -> usize
 // The line of the type.
 fn put_type(out: &mut [u8], at: usize, t: usize) -> usize
     requires { (t < 10) × (at + 13 ≤ length out.old) }
-    ensures value { (result ≡ at + length (value_line (bytes "type: ") (bytes (type_name (type_at t))))) × (out.new ≡ sets out.old at (value_line (bytes "type: ") (bytes (type_name (type_at t))))) }
+    ensures written { (result ≡ at + length (value_line (bytes "type: ") (bytes (type_name (type_at t))))) × (out.new ≡ sets out.old at (value_line (bytes "type: ") (bytes (type_name (type_at t))))) }
     ensures long { result ≤ at + 13 }
 {
     let a = 6 * t;
@@ -65,7 +65,7 @@ fn put_type(out: &mut [u8], at: usize, t: usize) -> usize
 // The line of the encoding.
 fn put_encoding(out: &mut [u8], at: usize, encoding: usize) -> usize
     requires { (encoding < 3) × (at + 14 ≤ length out.old) }
-    ensures value { (result ≡ at + length (value_line (bytes "encoding: ") (name_at encodings encoding))) × (out.new ≡ sets out.old at (value_line (bytes "encoding: ") (name_at encodings encoding))) }
+    ensures written { (result ≡ at + length (value_line (bytes "encoding: ") (name_at encodings encoding))) × (out.new ≡ sets out.old at (value_line (bytes "encoding: ") (name_at encodings encoding))) }
     ensures long { result ≤ at + 14 }
 {
     let a = 3 * encoding;
@@ -87,7 +87,7 @@ fn needs_endian(sampletype: u64, encoding: u64) -> bool
 // The line of the endian, where it is needed.
 fn put_endian(out: &mut [u8], at: usize, sampletype: u64, encoding: u64, endian: u64) -> usize
     requires { (sampletype < 10) × (encoding < 3) × (endian < 2) × (at + 15 ≤ length out.old) }
-    ensures value { (result ≡ at + length (endian_text sampletype encoding endian)) × (out.new ≡ sets out.old at (endian_text sampletype encoding endian)) }
+    ensures written { (result ≡ at + length (endian_text sampletype encoding endian)) × (out.new ≡ sets out.old at (endian_text sampletype encoding endian)) }
     ensures long { result ≤ at + 15 }
 {
     if !needs_endian(sampletype, encoding) {
@@ -102,7 +102,7 @@ fn put_endian(out: &mut [u8], at: usize, sampletype: u64, encoding: u64, endian:
 // The line of the sizes.
 fn put_sizes(out: &mut [u8], at: usize, sizes: &[u64]) -> usize
     requires { at + 7 + 21 * length sizes.now ≤ length out.old }
-    ensures value { (result ≡ at + length (value_line (bytes "sizes:") (flat_map after_space sizes.now))) × (out.new ≡ sets out.old at (value_line (bytes "sizes:") (flat_map after_space sizes.now))) }
+    ensures written { (result ≡ at + length (value_line (bytes "sizes:") (flat_map after_space sizes.now))) × (out.new ≡ sets out.old at (value_line (bytes "sizes:") (flat_map after_space sizes.now))) }
     ensures long { result ≤ at + 7 + 21 * length sizes.now }
 {
     let a = write_parts::bytes::put_bytes(out, at, b"sizes:");
@@ -114,7 +114,7 @@ fn put_sizes(out: &mut [u8], at: usize, sizes: &[u64]) -> usize
 // The lines of the magic, the type and the dimension.
 fn put_top(out: &mut [u8], version: u64, sampletype: u64, dimension: usize) -> usize
     requires { (sampletype < 10) × (73 ≤ length out.old) }
-    ensures value { (result ≡ length (top_text version sampletype dimension)) × (out.new ≡ sets out.old 0 (top_text version sampletype dimension)) }
+    ensures written { (result ≡ length (top_text version sampletype dimension)) × (out.new ≡ sets out.old 0 (top_text version sampletype dimension)) }
     ensures long { result ≤ 73 }
 {
     let a = put_number(out, 0, b"NRRD000", version);
@@ -131,9 +131,9 @@ fn put_rest(
     encoding: u64,
     endian: u64,
 ) -> usize
-    requires sampletype_bound { (sampletype < 10) × (encoding < 3) × (endian < 2) }
-    requires sizes_in_bounds { at + 37 + 21 * length sizes.now ≤ length out.old }
-    ensures value { (result ≡ at + length (rest_text sizes.now sampletype encoding endian)) × (out.new ≡ sets out.old at (rest_text sizes.now sampletype encoding endian)) }
+    requires numbers { (sampletype < 10) × (encoding < 3) × (endian < 2) }
+    requires room { at + 37 + 21 * length sizes.now ≤ length out.old }
+    ensures written { (result ≡ at + length (rest_text sizes.now sampletype encoding endian)) × (out.new ≡ sets out.old at (rest_text sizes.now sampletype encoding endian)) }
     ensures long { result ≤ at + 37 + 21 * length sizes.now }
 {
     let a = put_sizes(out, at, sizes);
@@ -153,7 +153,7 @@ pub fn put_header(
     endian: u64,
 ) -> usize
     requires { Numbers version sizes.now sampletype encoding endian × (header_room ≤ length out.old) }
-    ensures value { (result ≡ length (header_bytes version sizes.now sampletype encoding endian)) × (out.new ≡ sets out.old 0 (header_bytes version sizes.now sampletype encoding endian)) }
+    ensures written { (result ≡ length (header_bytes version sizes.now sampletype encoding endian)) × (out.new ≡ sets out.old 0 (header_bytes version sizes.now sampletype encoding endian)) }
     ensures long { result ≤ header_room }
 {
     let at = put_top(out, version, sampletype, sizes.len());

@@ -1,4 +1,6 @@
 // The writer of attached files. That what it writes is read back is the theorem of crate `theorem_roundtrip`.
+#![tactic(auto)]
+
 ghost use Rattle.std.specs.Prelude.{◌≡◌, List, ℕ, ◌/◌, ◌≤◌, length};
 ghost use Rattle.format.specs.declared.WriteAnswer.{WriteAnswer};
 ghost use Rattle.format.specs.Boundary.{word_bytes, numbers_of, samples_lent};

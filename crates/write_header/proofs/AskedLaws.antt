@@ -1,5 +1,6 @@
 -- Laws of the refusals: those before the text is made, and those of its reading.
 -- Assumes nothing.
+use Rattle.std.specs.Prelude.{if◌then◌else◌}
 use mathlib.Core.Path.{◌≡◌, refl, sym, ap, ◌∙◌}
 use mathlib.Core.Bool.{Bool, true, false, not, ◌&&◌, ◌||◌, and-eq-true_iff}
 use mathlib.Core.List.{List, ◌++◌, map}
@@ -10,12 +11,12 @@ use native.Mathlib.Omega.{arith}
 use lib.Dec.{eqb, leb, ltb}
 use lib.ListN.{length, take, drop}
 use lib.Seq.{sets, sets-eq}
-use borrow.Author.Tests.{ne_eqb, not-true, not-false, lt-ltb, le-ltb, ltb-true, leb-true}
+use borrow.Author.Tests.{ne_eqb, lt-ltb, le-ltb, ltb-true, leb-true}
 use Rattle.format.specs.declared.Decimal.{Decimal}
 use Rattle.format.specs.declared.Shape.{Shape}
 use Rattle.format.specs.declared.ReadAnswer.{ReadAnswer}
 use Rattle.format.specs.declared.WriteAnswer.{WriteAnswer}
-use Rattle.format.specs.Bytes.{if◌then◌else◌, over}
+use Rattle.format.specs.Bytes.{over}
 use Rattle.format.specs.Refusals.{not_in_version, bad_descriptor, lent_too_short, refusal}
 use Rattle.format.specs.Fields.{space, space_dimension, space_origin, space_directions, measurement_frame}
 use Rattle.format.specs.Header.{Outcome, refused, accepted, header}
@@ -107,23 +108,23 @@ fields_fine version given p q r s t = rw (p, q, r, s, t)
 
 -- the three tests in the order of the code
 module _ (version : ℕ) (sizes : List ℕ) (t e endian : ℕ) (s : Shape) {a : Bool} (ea : a ≡ writable version sizes t e endian) where
-  pub asked_writable : not a ≡ true → bad_descriptor ≡ asked_refusal version sizes t e endian s
+  pub asked_writable : a ≡ false → bad_descriptor ≡ asked_refusal version sizes t e endian s
   unfolding asked_refusal
-  asked_writable h = rw (sym ea, not-true a h)
+  asked_writable h = rw (sym ea, h)
 
-  module _ {b : Bool} (eb : b ≡ (shape_fine s && space_fine s)) (ha : not a ≡ false) where
-    pub asked_shaped : not b ≡ true → bad_descriptor ≡ asked_refusal version sizes t e endian s
+  module _ {b : Bool} (eb : b ≡ (shape_fine s && space_fine s)) (ha : a ≡ true) where
+    pub asked_shaped : b ≡ false → bad_descriptor ≡ asked_refusal version sizes t e endian s
     unfolding asked_refusal
-    asked_shaped h = rw (sym ea, not-false a ha, sym eb, not-true b h)
+    asked_shaped h = rw (sym ea, ha, sym eb, h)
 
-    module _ {c : Bool} (ec : c ≡ version_fine version s.given) (hb : not b ≡ false) where
-      pub asked_version : not c ≡ true → not_in_version ≡ asked_refusal version sizes t e endian s
+    module _ {c : Bool} (ec : c ≡ version_fine version s.given) (hb : b ≡ true) where
+      pub asked_version : c ≡ false → not_in_version ≡ asked_refusal version sizes t e endian s
       unfolding asked_refusal
-      asked_version h = rw (sym ea, not-false a ha, sym eb, not-false b hb, sym ec, not-true c h)
+      asked_version h = rw (sym ea, ha, sym eb, hb, sym ec, h)
 
-      pub asked_none : not c ≡ false → 0 ≡ asked_refusal version sizes t e endian s
+      pub asked_none : c ≡ true → 0 ≡ asked_refusal version sizes t e endian s
       unfolding asked_refusal
-      asked_none h = rw (sym ea, not-false a ha, sym eb, not-false b hb, sym ec, not-false c h)
+      asked_none h = rw (sym ea, ha, sym eb, hb, sym ec, h)
 
 -- ---- what the reading says
 

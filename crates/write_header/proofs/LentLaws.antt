@@ -11,7 +11,7 @@ use lib.Seq.{take_all}
 use borrow.Author.Tests.{eq-eqb, ne_eqb, leb-true, leb-false}
 use Rattle.format.specs.declared.Decimal.{Decimal}
 use Rattle.format.specs.declared.Shape.{Shape}
-use Rattle.format.specs.Bytes.{if◌then◌else◌, is_empty}
+use Rattle.format.specs.Bytes.{is_empty}
 use Rattle.format.specs.Refusals.{bad_descriptor, refusal}
 use Rattle.format.specs.HeaderWriter.{Orientation, orientation_of, shape_fine, header_refused, write_header, write_header_call}
 use Rattle.format.specs.Columns.{column, matrix}

@@ -11,7 +11,7 @@ use lib.ListN.{length, set, take, length-append}
 use lib.Seq.{sets}
 use Rattle.format.specs.declared.Decimal.{Decimal}
 use Rattle.format.specs.declared.Shape.{Shape}
-use Rattle.format.specs.Bytes.{if◌then◌else◌, bytes, LF}
+use Rattle.format.specs.Bytes.{bytes, LF}
 use Rattle.format.specs.Lines.{Line, line, lf, unlines}
 use Rattle.format.specs.Descriptors.{type_at, type_name, encodings}
 use Rattle.format.specs.Writer.{decimal, spaced, name_at, field_line, endian_lines, header_lines, header_bytes}

@@ -1,9 +1,9 @@
 -- Internal to this crate. What its parts store and refuse, in the words of their contracts. Each is tied to the definitions of `format` by a law of proofs/.
-use Rattle.std.specs.Prelude.{ℕ, ◌≤◌, ◌<◌, ◌≡◌, Bool, true, not, ◌&&◌, ◌||◌, List, [], ◌++◌, map, eqb, leb, ltb, length, take, drop, replicate}
+use Rattle.std.specs.Prelude.{ℕ, ◌≤◌, ◌<◌, ◌≡◌, Bool, true, not, ◌&&◌, ◌||◌, List, [], ◌++◌, map, ◌==◌, nat_le, nat_lt, length, take, drop, replicate, if◌then◌else◌}
 use Rattle.format.specs.declared.Decimal.{Decimal}
 use Rattle.format.specs.declared.Shape.{Shape}
 use Rattle.format.specs.declared.WriteAnswer.{WriteAnswer}
-use Rattle.format.specs.Bytes.{if◌then◌else◌, bytes, is_empty}
+use Rattle.format.specs.Bytes.{bytes, is_empty}
 use Rattle.format.specs.Refusals.{not_in_version, bad_descriptor, refusal}
 use Rattle.format.specs.Fields.{field_since, space, space_dimension, space_origin, space_directions, measurement_frame}
 use Rattle.format.specs.Spaces.{space_count}
@@ -53,11 +53,11 @@ lines_text s origin directions frame =
 
 -- a space that is given is in the list
 abbrev pub space_fine : Shape → Bool
-space_fine s = not (has s.given 1) || ltb s.space space_count
+space_fine s = not (has s.given 1) || nat_lt s.space space_count
 
 -- the version has the field, where it is given
 abbrev pub field_fine : ℕ → Bool → ℕ → Bool
-field_fine version given f = not given || leb (field_since f) version
+field_fine version given f = not given || nat_le (field_since f) version
 
 abbrev pub version_fine : ℕ → ℕ → Bool
 version_fine version given =
@@ -91,6 +91,6 @@ pub record Asked (version : ℕ) (sizes : List ℕ) (t e endian : ℕ) (s : Shap
 unfoldable pub lent_call : ℕ → List ℕ → ℕ → ℕ → ℕ → List ℕ → List ℕ → WriteAnswer × List ℕ
 lent_call version sizes t e endian lent out =
     if is_empty lent then write_header_call version sizes t e endian no_shape (column []) (replicate 16 (column [])) (matrix []) out
-    else if eqb (length lent) orientation_width then
+    else if length lent == orientation_width then
     write_header_call version sizes t e endian (shape_lent lent) (decimals_lent (take 128 (drop 32 lent))) (columns_lent 16 (drop 160 lent)) (columns_lent 8 (drop 2208 lent)) out
     else header_refused (refusal bad_descriptor) out

@@ -1,4 +1,6 @@
 // The writer of headers with an orientation. It reads its text before it answers: what a reading of the text refuses, the writer refuses.
+#![tactic(auto)]
+
 ghost use Rattle.std.specs.Prelude.{◌≡◌, List, [], ℕ, ◌≤◌, length, replicate};
 ghost use Rattle.format.specs.declared.WriteAnswer.{WriteAnswer};
 ghost use Rattle.format.specs.Header.{header};

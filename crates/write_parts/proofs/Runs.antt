@@ -1,5 +1,6 @@
 -- Laws of `sets l i vs`, the list l with vs stored from index i, and of the loops that store: what is left to store after each turn.
 -- Assumes nothing.
+use Rattle.std.specs.Prelude.{if◌then◌else◌}
 use mathlib.Core.Path.{◌≡◌, refl, sym, ap, ◌∙◌}
 use mathlib.Core.Bool.{Bool, true, false}
 use mathlib.Core.List.{List, [], ◌∷◌, ◌++◌, reverse, reverse-cons}
@@ -10,7 +11,6 @@ use native.Mathlib.Omega.{arith}
 use lib.Dec.{eqb}
 use lib.ListN.{length, get_or, set, take, drop, length-append, length-set, length-reverse}
 use lib.Seq.{sets, sets-eq, take_at, length-sets, set-set, drop-cons}
-use Rattle.format.specs.Bytes.{if◌then◌else◌}
 use Rattle.format.specs.Descriptors.{big}
 use Rattle.format.specs.Samples.{to_bytes, ordered}
 use Rattle.format.proofs.Samples.{length_to_bytes}

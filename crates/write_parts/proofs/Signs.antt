@@ -1,5 +1,6 @@
 -- Laws of samples as text: from their bits come the sign and the value without it.
 -- Assumes nothing.
+use Rattle.std.specs.Prelude.{if◌then◌else◌}
 use mathlib.Core.Path.{◌≡◌}
 use mathlib.Core.Bool.{Bool, true, false}
 use mathlib.Core.List.{List, [], ◌∷◌}
@@ -10,7 +11,7 @@ use native.Mathlib.Omega.{arith}
 use lib.ListN.{length, set, length-append}
 use lib.Seq.{sets}
 use lib.IntN.{ℤ, pos, negsuc}
-use Rattle.format.specs.Bytes.{if◌then◌else◌, LF}
+use Rattle.format.specs.Bytes.{LF}
 use Rattle.format.specs.Samples.{to_signed}
 use Rattle.format.specs.Writer.{decimal, signed_decimal}
 use Rattle.format.proofs.Writer.{decimal_not_empty}

@@ -1,7 +1,6 @@
 // Bytes, the bytes of a sample, and bytes in hex.
-ghost use Rattle.std.specs.Prelude.{◌≡◌, ◌+◌, ◌*◌, ◌-◌, ◌≤◌, ◌<◌, eqb, length};
+ghost use Rattle.std.specs.Prelude.{◌≡◌, ◌+◌, ◌*◌, ◌-◌, ◌≤◌, ◌<◌, ◌==◌, length, if◌then◌else◌};
 ghost use Rattle.std.proofs.lemmas.List.Edits.{sets};
-ghost use Rattle.format.specs.Bytes.{if◌then◌else◌};
 ghost use Rattle.format.specs.Descriptors.{big};
 ghost use Rattle.format.specs.Samples.{to_bytes, ordered};
 ghost use Rattle.format.specs.Writer.{hex_letter, hex_text};
@@ -25,7 +24,7 @@ pub fn put_bytes(out: &mut [u8], at: usize, s: &[u8]) -> usize
 // Where byte j of w stands, byte 0 the least.
 fn spot(j: usize, w: usize, endian: u64) -> usize
     requires { j < w }
-    ensures { result ≡ (if eqb endian big then w - 1 - j else j) }
+    ensures { result ≡ (if endian == big then w - 1 - j else j) }
 {
     if endian == wide::BIG { w - 1 - j } else { j }
 }

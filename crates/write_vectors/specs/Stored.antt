@@ -1,6 +1,6 @@
 -- Internal to the library. What the functions store, in the words of their contracts.
-use Rattle.std.specs.Prelude.{ℕ, ◌+◌, ◌*◌, Bool, List, [], ◌∷◌, eqb}
-use Rattle.format.specs.Bytes.{if◌then◌else◌, bytes, MINUS}
+use Rattle.std.specs.Prelude.{ℕ, ◌+◌, ◌*◌, Bool, List, [], ◌∷◌, ◌==◌, if◌then◌else◌}
+use Rattle.format.specs.Bytes.{bytes, MINUS}
 use Rattle.format.specs.Decimals.{nan, inf, minus_inf}
 use Rattle.format.specs.Writer.{decimal}
 
@@ -13,14 +13,14 @@ sized_text minus n = if minus then MINUS ∷ decimal n else decimal n
 -- a component that is no number
 abbrev pub mark_text : ℕ → List ℕ
 mark_text k =
-    if eqb k nan then bytes "nan"
-    else if eqb k inf then bytes "inf"
-    else if eqb k minus_inf then bytes "-inf"
+    if k == nan then bytes "nan"
+    else if k == inf then bytes "inf"
+    else if k == minus_inf then bytes "-inf"
     else bytes "none"
 
 -- what stands before entry i of texts with a byte between each two
 abbrev pub gap_text : ℕ → ℕ → List ℕ
-gap_text b i = if eqb i 0 then [] else b ∷ []
+gap_text b i = if i == 0 then [] else b ∷ []
 
 -- ---- the most bytes that the texts take
 

@@ -12,7 +12,7 @@ use format::Decimal;
 // How many components stand before the first that is none.
 fn count_components(v: [Decimal; 8], n: usize) -> usize
     requires { n ≤ 8 }
-    ensures v_value { vector_of n v ≡ take result v }
+    ensures counted { vector_of n v ≡ take result v }
     ensures few { result ≤ n }
 {
     let mut i: usize = 0;

@@ -1,0 +1,27 @@
+-- `write_file::head::put_line` meets its contract. Assumes nothing.
+use Prim.Native.Nat.{ℕ}
+use mathlib.Core.Path.{ap, ◌∙◌}
+use mathlib.Core.List.{List}
+use native.Mathlib.Omega.{arith}
+use lib.ListN.{set, length-set}
+use lib.Seq.{sets}
+use Rattle.write_file.proofs.Header.{value_length, value_stored}
+use Rattle.write_file.proofs.head.put_line.Goals as goal
+
+pub shape_of-out : goal.shape_of-out
+shape_of-out c = simp length-set (c.put_bytes-e.auto.out ∙ c.put_bytes-a.auto.out)
+
+pub returns : goal.returns
+returns c =
+    let a = c.args in
+    let p = c.put_bytes-a in
+    let q = c.put_bytes-e in
+    let name = a.name.now in
+    let value = a.value.now in (record {
+      written = (
+        omega (arith, p.ensures.place, q.ensures.place, value_length name value),
+        ap (λ (d : List ℕ). set d q.result 10) (q.ensures.stored ∙ ap (λ (d : List ℕ). sets d p.result value) p.ensures.stored)
+            ∙ value_stored a.out.now name value a.at p.result q.result p.ensures.place q.ensures.place,
+      );
+      long = omega (arith, p.ensures.place, q.ensures.place);
+    })
