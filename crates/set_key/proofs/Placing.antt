@@ -1,5 +1,6 @@
 -- The place of a key's line: the pair's text put there makes the new lines of the old ones.
 -- Assumes nothing.
+use Rattle.std.specs.Prelude.{if◌then◌else◌}
 use mathlib.Core.Path.{◌≡◌, refl, sym, ap, ◌∙◌, subst}
 use mathlib.Core.Bool.{Bool, true, false, false≢true}
 use mathlib.Core.List.{List, [], ◌∷◌, ◌++◌, map, append_assoc}
@@ -10,9 +11,9 @@ use native.Mathlib.Omega.{arith}
 use lib.ListN.{length, take, drop, length-append, length-map}
 use lib.Seq.{take-append-add, drop-append-add, take-append_seam, drop-append_seam, length-take-le}
 use Rattle.format.specs.declared.FindAnswer.{FindAnswer}
-use Rattle.format.specs.Bytes.{if◌then◌else◌, same, is_some, or_else}
+use Rattle.format.specs.Bytes.{same, is_some, or_else}
 use Rattle.format.specs.Limits.{max_header}
-use Rattle.format.specs.Lines.{Ending, Line, line, text, ending, ending_bytes, line_bytes, size, lines, unlines, starts}
+use Rattle.format.specs.Lines.{Ending, Line, line, text, ending_bytes, line_bytes, size, lines, unlines, starts}
 use Rattle.format.specs.Pairs.{escape}
 use Rattle.format.specs.Fields.{Given}
 use Rattle.format.specs.Header.{Item, magic, pair_of, Entry, entry, line_of, lines_of, right, accepted, after_item, header, header_length, value_for, value_in, value_of}
@@ -20,7 +21,7 @@ use Rattle.format.specs.Settings.{pair_text, has_key, replaced, new_lines}
 use Rattle.format.specs.Calls.{found_at, value_place, key_place, find_key_in, find_key_call}
 use Rattle.format.specs.Found.{Finds, escaped, FindsKey}
 use Rattle.format.proofs.Bytes.{same_true}
-use Rattle.format.proofs.Lines.{size_line_lem}
+use Rattle.format.proofs.Lines.{size_line}
 use Rattle.format.proofs.Judged.{is_pair}
 use Rattle.format.proofs.Pairs.{pair_line, length_pair}
 use Rattle.format.proofs.Header.{Fine, fine_cases, header_sound, magic_line}
@@ -106,8 +107,8 @@ here k at t e i es w q h g p =
       table = λ r.
           let x : ℕ = at + (0 + length (pair_text k w)) in
           let y : ℕ = at + 0 + length r in
-          let c = size_line_lem t e in
-          let d = size_line_lem r e in
+          let c = size_line t e in
+          let d = size_line r e in
           rw (h, g)
           (cons (sym (moved_below x y at (omega (arith, length_pair k w))))
           (starts_moved (lines_of es) x y (at + size (line t e)) (at + size (line r e)) (omega (arith, ap length q)) (omega (arith, ap length q))));
@@ -223,8 +224,8 @@ placed_first k (line t e) n es h =
       bytes = λ v. rw (h, take-append_seam (t ++ b) u, append_assoc t b u, drop-append_seam t (b ++ u), append_assoc (pair_text k v) b u);
       table = λ v.
           let r : List ℕ = pair_text k v in
-          let c = size_line_lem t e in
-          let d = size_line_lem r e in
+          let c = size_line t e in
+          let d = size_line r e in
           rw h
           (cons refl
           (cons (zero-add (size (line t e)))

@@ -1,5 +1,6 @@
 -- The refusals of a setting in order, and the edit where there is none.
 -- Assumes nothing.
+use Rattle.std.specs.Prelude.{if◌then◌else◌}
 use Prim.Native.Nat.{ℕ, ◌+◌, ◌-◌, ◌≤◌, ◌<◌, min}
 use native.Mathlib.Omega.{arith}
 use mathlib.Core.Path.{◌≡◌, refl, sym, ap, ◌∙◌, subst}
@@ -10,7 +11,7 @@ use lib.ListN.{length, take, get_or, length-append, length-map}
 use lib.Seq.{take-append-le, drop-append-le, get_or-take}
 use borrow.Author.Tests.{lt-ltb, ltb-true, ltb-false}
 use Rattle.format.specs.declared.ReadAnswer.{ReadAnswer}
-use Rattle.format.specs.Bytes.{if◌then◌else◌, over}
+use Rattle.format.specs.Bytes.{over}
 use Rattle.format.specs.Limits.{max_file, max_header, max_lines}
 use Rattle.format.specs.Refusals.{file_too_long, header_too_long, too_many_lines, not_in_version, lent_too_short, bad_key, bad_value, wrong_table, refusal, fine}
 use Rattle.format.specs.Lines.{Line, unlines, starts}
@@ -42,7 +43,7 @@ pub record Read (file : List ℕ) (a : ReadAnswer) : Type 0 where
   pub is : header file ≡ accepted entries fields after
   pub version : a.reading.version ≡ version_of entries
   pub lines : a.reading.lines ≡ length entries
-  pub before_names_lem : a.reading.fieldlines ≡ field_lines entries
+  pub before_names : a.reading.fieldlines ≡ field_lines entries
   pub bytes : a.reading.length ≡ header_length entries
 
 module _ (file : List ℕ) (a : ReadAnswer) (is : a ≡ read_header_call file) where
@@ -58,7 +59,7 @@ module _ (file : List ℕ) (a : ReadAnswer) (is : a ≡ read_header_call file) w
         is = w.is;
         version = ap (λ x. x.reading.version) q;
         lines = ap (λ x. x.reading.lines) q;
-        before_names_lem = w.many;
+        before_names = w.many;
         bytes = ap (λ x. x.reading.length) q;
       }
 
@@ -71,7 +72,7 @@ module _ (file : List ℕ) (a : ReadAnswer) (is : a ≡ read_header_call file) w
       record { refuses = λ h buf used q. rw e; ready = λ h. absurd (omega (arith, n)) }
 
 pub fielded : {file : List ℕ} {a : ReadAnswer} → Read file a → Fielded file a.reading.fieldlines
-fielded r = record { entries = r.entries; fields = r.fields; after = r.after; is = r.is; many = r.before_names_lem }
+fielded r = record { entries = r.entries; fields = r.fields; after = r.after; is = r.is; many = r.before_names }
 
 -- its lines are there, and their starts are its table
 module _ {file : List ℕ} {a : ReadAnswer} (r : Read file a) where
@@ -181,11 +182,11 @@ module _ (file k v : List ℕ) {es : List Entry} {gs : List Given} {ls : List Li
   to_in : q.to ≤ length file
   to_in = omega (arith, w.to, file_length)
 
-  header_bytes_lem : length (unlines new) ≡ q.from + length (pair_text k v) + (header_length es - q.to)
-  header_bytes_lem = ap length (w.bytes v) ∙ length_edited (unlines (lines_of es)) (pair_text k v) q.from q.to w.from w.to
+  header_bytes : length (unlines new) ≡ q.from + length (pair_text k v) + (header_length es - q.to)
+  header_bytes = ap length (w.bytes v) ∙ length_edited (unlines (lines_of es)) (pair_text k v) q.from q.to w.from w.to
 
-  file_bytes_lem : length (unlines new ++ unlines ls) ≡ q.from + length (pair_text k v) + (length file - q.to)
-  file_bytes_lem = ap length new_file ∙ length_edited file (pair_text k v) q.from q.to from_in to_in
+  file_bytes : length (unlines new ++ unlines ls) ≡ q.from + length (pair_text k v) + (length file - q.to)
+  file_bytes = ap length new_file ∙ length_edited file (pair_text k v) q.from q.to from_in to_in
 
   -- the numbers fit their types
   pub numbers_small : (m : ℕ) → m ≡ min (length (pair_text k v)) (max_header + 1) → (b c : ℕ) → b ≡ header_length es → c ≡ length es
@@ -224,7 +225,7 @@ module _ (file k v : List ℕ) {es : List Entry} {gs : List Given} {ls : List Li
     unfolding store
     too_long h =
         record {
-          refuses = λ n buf used b. read_is buf used ∙ rw (lt-ltb max_header (length (unlines new)) (omega (arith, header_bytes_lem)));
+          refuses = λ n buf used b. read_is buf used ∙ rw (lt-ltb max_header (length (unlines new)) (omega (arith, header_bytes)));
           ready = λ n. absurd (omega arith);
         }
 
@@ -239,9 +240,9 @@ module _ (file k v : List ℕ) {es : List Entry} {gs : List Given} {ls : List Li
       store_is : (buf : List ℕ) (used : ℕ) → length buf ≡ room → store buf used table new (unlines ls) ≡ tests (store_by (done buf used) plan')
       unfolding store
       store_is buf used b =
-          let h₁ : length (unlines new) ≡ bytes' = rw exact at header_bytes_lem in
+          let h₁ : length (unlines new) ≡ bytes' = rw exact at header_bytes in
           let h₂ : length new ≡ count' = w.count v in
-          let h₃ : length (unlines new ++ unlines ls) ≡ length' = rw exact at file_bytes_lem in
+          let h₃ : length (unlines new ++ unlines ls) ≡ length' = rw exact at file_bytes in
           rw (h₁, h₂, h₃, b, new_file)
 
       module _ (r : Plan) (fit : r ≡ fit_by (done [] 0) plan' (ltb max_header bytes') (ltb max_lines count') (ltb max_file length') (ltb room length' || ltb (length table) count')) where

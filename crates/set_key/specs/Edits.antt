@@ -1,8 +1,8 @@
 -- Internal to this crate. One setting as an edit of the file's bytes: where the line goes, the numbers of the new file, and what `prepare` and `set_into` answer.
-use Rattle.std.specs.Prelude.{ℕ, ◌+◌, ◌-◌, ◌≤◌, ◌≡◌, Bool, not, ◌||◌, List, ◌∷◌, ltb, length, take}
+use Rattle.std.specs.Prelude.{ℕ, ◌+◌, ◌-◌, ◌≤◌, ◌≡◌, Bool, not, ◌||◌, List, ◌∷◌, nat_lt, length, take, if◌then◌else◌}
 use Rattle.format.specs.declared.Refusal.{Refusal}
 use Rattle.format.specs.declared.SetAnswer.{SetAnswer}
-use Rattle.format.specs.Bytes.{if◌then◌else◌, over}
+use Rattle.format.specs.Bytes.{over}
 use Rattle.format.specs.Limits.{max_file, max_header, max_lines}
 use Rattle.format.specs.Refusals.{file_too_long, header_too_long, too_many_lines, not_in_version, lent_too_short, bad_key, bad_value, wrong_table, refusal, fine}
 use Rattle.format.specs.Lines.{Line, text, size, lines, unlines, starts}
@@ -45,7 +45,7 @@ pub record Small (p : Place) (m bytes count used : ℕ) : Type 0 where
 -- 8, 24, 25, 26, or 0
 unfoldable pub asked_number : ℕ → Bool → Bool → Bool → ℕ
 asked_number version key value table =
-    if ltb version pairs_since then not_in_version
+    if nat_lt version pairs_since then not_in_version
     else if not key then bad_key
     else if not value then bad_value
     else if not table then wrong_table
@@ -57,10 +57,10 @@ no_plan r = record { refusal = r; from = 0; to = 0; front = 0; more = 0; length 
 -- 3, 4, 1, 22 of a text of m bytes at the place, or the plan: a file of so many bytes, `bytes` and `count` of them the header's
 unfoldable pub fitted : Place → ℕ → ℕ → ℕ → ℕ → ℕ → ℕ → Plan
 fitted p m bytes count used room slots =
-    if ltb max_header (p.from + m + (bytes - p.to)) then no_plan (refusal header_too_long)
-    else if ltb max_lines (count + p.more) then no_plan (refusal too_many_lines)
-    else if ltb max_file (p.from + m + (used - p.to)) then no_plan (refusal file_too_long)
-    else if ltb room (p.from + m + (used - p.to)) || ltb slots (count + p.more) then no_plan (refusal lent_too_short)
+    if nat_lt max_header (p.from + m + (bytes - p.to)) then no_plan (refusal header_too_long)
+    else if nat_lt max_lines (count + p.more) then no_plan (refusal too_many_lines)
+    else if nat_lt max_file (p.from + m + (used - p.to)) then no_plan (refusal file_too_long)
+    else if nat_lt room (p.from + m + (used - p.to)) || nat_lt slots (count + p.more) then no_plan (refusal lent_too_short)
     else record { refusal = fine; from = p.from; to = p.to; front = p.from + m; more = p.more; length = p.from + m + (used - p.to); count = count + p.more }
 
 -- ---- the plan

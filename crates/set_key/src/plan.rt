@@ -11,7 +11,7 @@ use format_values::refusals;
 
 // A refusal, or the edit: the pair's text between `from` and `to`, where it ends, how many lines more there are, and the new file's bytes and
 // header lines.
-#[derive(Drop)]
+#[derive(Clone, Copy)]
 pub struct Plan {
     pub refusal: Refusal,
     pub from: usize,

@@ -1,5 +1,6 @@
 -- Keys and values as lines hold them: escaped byte by byte, how long that is, and whether a key has a mark.
 -- Assumes nothing.
+use Rattle.std.specs.Prelude.{if◌then◌else◌}
 use mathlib.Core.Path.{◌≡◌, refl, sym, ap, ◌∙◌}
 use mathlib.Core.Bool.{Bool, true, false, not, ◌&&◌, ◌||◌}
 use mathlib.Core.List.{List, [], ◌∷◌, ◌++◌, append_assoc}
@@ -9,7 +10,7 @@ use lib.Dec.{eqb}
 use lib.ListN.{length, take, drop, get_or, set, length-append, take-append-drop}
 use lib.Seq.{sets}
 use borrow.Author.Tests.{eqb-true, eq-eqb, ne_eqb}
-use Rattle.format.specs.Bytes.{if◌then◌else◌, bytes, every, LF, HASH, COLON, SPACE, EQUALS, BACKSLASH}
+use Rattle.format.specs.Bytes.{bytes, every, LF, HASH, COLON, SPACE, EQUALS, BACKSLASH}
 use Rattle.format.specs.Pairs.{plain, Marked, unmarked, field_mark, pair_mark, after_colon, more_before, first_mark, mark, has_mark, comment_line, other_line, kind_of, is_unmarked, escape}
 use Rattle.format.specs.Settings.{settable, key_fine, value_fine, pair_text}
 use Rattle.format.proofs.Stores.{sets_then, take_more}

@@ -1,4 +1,6 @@
 // Keys and values as the text of a line: whether a line can hold them, how long the text is, and the text written.
+#![tactic(auto)]
+
 ghost use Rattle.std.specs.Prelude.{◌≡◌, [], ◌∷◌, ◌+◌, ◌≤◌, min, length};
 ghost use Rattle.std.proofs.lemmas.List.Edits.{sets};
 ghost use Rattle.format.specs.Limits.{max_header};
@@ -87,8 +89,8 @@ pub fn pair_length(key: &[u8], value: &[u8]) -> usize
 // Writes a byte at o as a line holds it, and returns the place after it.
 fn put_escaped(d: &mut [u8], o: usize, c: u8) -> usize
     requires { o + length (escape (c ∷ [])) ≤ length d.old }
-    ensures value { result ≡ o + length (escape (c ∷ [])) }
-    ensures d_after { d.new ≡ sets d.old o (escape (c ∷ [])) }
+    ensures place { result ≡ o + length (escape (c ∷ [])) }
+    ensures stored { d.new ≡ sets d.old o (escape (c ∷ [])) }
 {
     if c == b'\n' {
         d[o] = b'\\';
@@ -107,8 +109,8 @@ fn put_escaped(d: &mut [u8], o: usize, c: u8) -> usize
 // Writes a text at `at` as a line holds it, and returns the place after it.
 fn escape_into(buf: &mut [u8], at: usize, s: &[u8]) -> usize
     requires { at + length (escape s.now) ≤ length buf.old }
-    ensures value { result ≡ at + length (escape s.now) }
-    ensures buf_after { buf.new ≡ sets buf.old at (escape s.now) }
+    ensures place { result ≡ at + length (escape s.now) }
+    ensures stored { buf.new ≡ sets buf.old at (escape s.now) }
 {
     let mut o = at;
     let mut i: usize = 0;

@@ -1,4 +1,6 @@
 // One edit of a file in a buffer: a pair's text put into it.
+#![tactic(auto)]
+
 ghost use Rattle.std.specs.Prelude.{◌≡◌, ◌+◌, ◌-◌, ◌≤◌, length, take};
 ghost use Rattle.format.specs.Settings.{pair_text, refilled};
 ghost use Rattle.set_splice.specs.Edited.{edited};
@@ -15,8 +17,8 @@ pub fn splice_pair(
     key: &[u8],
     value: &[u8],
 )
-    requires from_le_used { (from ≤ used) × (to ≤ used) × (used ≤ length buf.old) × (end ≤ length buf.old) }
-    requires end_value { end ≡ from + length (pair_text key.now value.now) + (used - to) }
+    requires places_within { (from ≤ used) × (to ≤ used) × (used ≤ length buf.old) × (end ≤ length buf.old) }
+    requires end_after { end ≡ from + length (pair_text key.now value.now) + (used - to) }
     ensures { buf.new ≡ refilled buf.old used (edited (take used buf.old) from to (pair_text key.now value.now)) }
 {
     let n = used - to;

@@ -1,0 +1,21 @@
+-- `set_splice::moves::zero` meets its contract. The loop's invariant: j zeros are written.
+use mathlib.Core.Path.{◌≡◌, refl}
+use native.Mathlib.Omega.{arith}
+use lib.ListN.{length-set}
+use Rattle.set_splice.proofs.Sets.{fill_turn}
+use Rattle.set_splice.proofs.moves.zero.Goals as goal
+
+pub loop-j-init : goal.loop-j-init
+loop-j-init c = (omega arith, refl, refl)
+
+pub loop-j-preserved : goal.loop-j-preserved
+loop-j-preserved c = (
+  omega arith,
+  simp length-set (omega arith),
+  fill_turn _ _ _ _ _ c.loop-j.invariant.2,
+)
+
+pub returns : goal.returns
+returns c =
+    let e : c.args.n ≡ c.loop-j.j = omega arith in
+    rw e c.loop-j.invariant.2
