@@ -1,4 +1,6 @@
 // The roof rig's entry point for C, in an archive of its own: numbers and lent bytes in, an answer by value out.
+#![tactic(auto)]
+
 ghost use Rattle.std.specs.Prelude.{◌≡◌, List, ℕ};
 ghost use Rattle.roof_sweep.specs.declared.SweepAnswer.{SweepAnswer};
 ghost use Rattle.roof_sweep.specs.Sweeps.{sweep_entry};

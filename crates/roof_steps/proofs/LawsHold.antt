@@ -1,8 +1,8 @@
 -- The trials and the laws of stamps and steps hold: both sides of each trial are computed, and each part of the laws is shown.
 -- Assumes nothing.
+use Rattle.std.specs.Prelude.{if◌then◌else◌}
 use Rattle.std.proofs.Common.{◌≡◌, ℕ, zero, suc, ◌+◌, ◌*◌, ◌%◌, ◌<◌, Bool, true, false, List, [], ◌∷◌, length, get_or, drop, ℤ, pos, refl, ap, ◌∙◌, suc-add, arith, get_or-drop}
 use mathlib.Core.Option.{Option, none, some}
-use Rattle.format.specs.Bytes.{if◌then◌else◌}
 use Rattle.roof_steps.specs.Steps.{counter_values, stamp_of, step_of, is_right, stamps, wrong_from, first_wrong}
 use Rattle.roof_steps.specs.StepLaws.{step_after, Says, StepLaws}
 use Rattle.roof_steps.specs.StepTrials.{StepTrials}
@@ -88,15 +88,15 @@ unfolding stamps
 as_many zero m zs = refl
 as_many (suc rows) m zs = ap suc (as_many rows m (drop m zs))
 
-stamp_at_lem : (rows m : ℕ) (zs : List ℤ) (r : ℕ) → r < rows → get_or (stamps rows m zs) r 0 ≡ stamp_of (get_or zs (r * m) (pos 0))
+stamp_at : (rows m : ℕ) (zs : List ℤ) (r : ℕ) → r < rows → get_or (stamps rows m zs) r 0 ≡ stamp_of (get_or zs (r * m) (pos 0))
 unfolding stamps
-stamp_at_lem zero m zs r l = absurd (omega arith)
-stamp_at_lem (suc rows) m zs zero l = ap (λ (j : ℕ). stamp_of (get_or zs j (pos 0))) (omega arith)
-stamp_at_lem (suc rows) m zs (suc r) l =
+stamp_at zero m zs r l = absurd (omega arith)
+stamp_at (suc rows) m zs zero l = ap (λ (j : ℕ). stamp_of (get_or zs j (pos 0))) (omega arith)
+stamp_at (suc rows) m zs (suc r) l =
     let e : m + r * m ≡ suc r * m = omega arith in
-    stamp_at_lem rows m (drop m zs) r (omega arith)
+    stamp_at rows m (drop m zs) r (omega arith)
     ∙ ap stamp_of (get_or-drop m zs (r * m) (pos 0))
     ∙ ap (λ (j : ℕ). stamp_of (get_or zs j (pos 0))) e
 
 pub steps_hold : StepLaws
-steps_hold = record { says = says; adds = adds; below = below; stamp_is = stamp_is; as_many = as_many; stamp_at_lem = stamp_at_lem }
+steps_hold = record { says = says; adds = adds; below = below; stamp_is = stamp_is; as_many = as_many; stamp_at = stamp_at }

@@ -1,12 +1,12 @@
 -- Laws of stamps: a sample that is read and its stamp, the stamps from a row on, and the search for the first wrong row.
 -- Assumes nothing.
+use Rattle.std.specs.Prelude.{if◌then◌else◌}
 use Rattle.std.proofs.Common.{◌≡◌, ℕ, zero, suc, ◌+◌, ◌-◌, ◌*◌, ◌/◌, ◌%◌, ◌<◌, ◌≤◌, Bool, true, false, ltb, List, ◌∷◌, length, get_or, take, drop, ℤ, pos, negsuc, sym, refl, ap, ◌∙◌, add-zero, mul-le-mul_right, mul-le-mul_left, arith, length-drop, length-take-le, get_or-drop, drop-drop, to_z-of_z, w64, to_z, of_z}
 use mathlib.Core.Option.{none, some}
 use lib.Signed.{mag}
-use Rattle.format.specs.Bytes.{if◌then◌else◌}
 use Rattle.format.specs.Samples.{from_bytes, to_signed, from_signed, sample_value}
 use Rattle.format.specs.Boundary.{samples_lent}
-use Rattle.format.proofs.Boundary.{lent_room, length_samples, sample_at_lem}
+use Rattle.format.proofs.Boundary.{lent_room, length_samples, sample_at}
 use Rattle.roof_steps.specs.Steps.{counter_values, stamp_of, step_of, is_right, stamps, wrong_from, first_wrong, wrong_left, chosen}
 
 -- ---- samples that are read
@@ -34,7 +34,7 @@ stamp_lent s k x h f e =
     let l : length (take 8 (drop (8 * k) s)) ≡ 8 = length-take-le 8 (drop (8 * k) s) (omega (arith, length-drop (8 * k) s, lent_room from_bytes 8 s k h)) in
     stamp_bits x f
     ∙ ap (λ (n : ℕ). stamp_of (to_signed 8 n)) e
-    ∙ sym (ap stamp_of (sample_at_lem s k (pos 0) h ∙ ap (λ (w : ℕ). to_signed w (from_bytes (take 8 (drop (8 * k) s)))) l))
+    ∙ sym (ap stamp_of (sample_at s k (pos 0) h ∙ ap (λ (w : ℕ). to_signed w (from_bytes (take 8 (drop (8 * k) s)))) l))
 
 -- what counts of a list and lent bytes is no longer than both may be
 pub chosen_within : (packed : Bool) (samples : List ℤ) (lent : List ℕ) (most : ℕ) → length samples < most → length lent < most → length (chosen packed samples lent) < most

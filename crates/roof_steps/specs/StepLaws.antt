@@ -32,4 +32,4 @@ pub record StepLaws : Type 0 where
   -- there is one stamp for each row
   pub as_many : (rows m : ℕ) (zs : List ℤ) → length (stamps rows m zs) ≡ rows
   -- the stamp of row r is that of its first sample, which stands after r rows of m samples
-  pub stamp_at_lem : (rows m : ℕ) (zs : List ℤ) (r : ℕ) → r < rows → slice_index (stamps rows m zs) r ≡ stamp_of (slice_index_or zs (r * m) (pos 0))
+  pub stamp_at : (rows m : ℕ) (zs : List ℤ) (r : ℕ) → r < rows → slice_index (stamps rows m zs) r ≡ stamp_of (slice_index_or zs (r * m) (pos 0))

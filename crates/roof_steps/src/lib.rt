@@ -1,11 +1,13 @@
 // Steps of a counter of 32 bits that wraps, over rows of samples, each of which begins with a stamp of the counter.
+#![tactic(auto)]
+
 ghost use Rattle.std.specs.Prelude.{◌≡◌, ℕ, ◌+◌, ◌*◌, ◌<◌, ◌≤◌, true, length, pos, slice_index_or};
 ghost use Rattle.roof_steps.specs.Steps.{stamp_of, step_of, is_right, stamps, first_wrong, told, wrong_left, chosen};
 ghost use Rattle.roof_steps.specs.StepLaws.{StepLaws};
 ghost use Rattle.roof_steps.specs.StepTrials.{StepTrials};
 
 // The first row, from 0, whose step from the row before it is wrong, or that none has.
-#[derive(Drop)]
+#[derive(Clone, Copy)]
 pub struct WrongRow {
     pub wrong: bool,
     pub row: u64,
@@ -40,7 +42,7 @@ fn stamp_at(samples: &[i64], lent: &[u8], packed: bool, k: usize) -> u32
 const BLOCK: usize = 8;
 
 // Whether the steps to all rows of a block are right, and the stamp of its last row.
-#[derive(Drop)]
+#[derive(Clone, Copy)]
 struct Passed {
     right: bool,
     last: u32,
@@ -56,8 +58,8 @@ fn pass_block(
     from: usize,
     before: u32,
 ) -> Passed
-    requires le_m { 1 ≤ m }
-    requires m_in_bounds { (from + 8) * m ≤ length (chosen packed samples.now lent.now) }
+    requires m_positive { 1 ≤ m }
+    requires samples_there { (from + 8) * m ≤ length (chosen packed samples.now lent.now) }
     ensures { (rows : ℕ) → from + 8 ≤ rows → result.right ≡ true → let zs = chosen packed samples.now lent.now in wrong_left largest rows m zs from before ≡ wrong_left largest rows m zs (from + 8) result.last }
 {
     let mut right = true;
@@ -86,9 +88,9 @@ fn wrong_from(
     from: usize,
     stamp: u32,
 ) -> WrongRow
-    requires le_m { 1 ≤ m }
-    requires m_in_bounds { rows * m ≤ length (chosen packed samples.now lent.now) }
-    requires from_le_rows { from ≤ rows }
+    requires m_positive { 1 ≤ m }
+    requires samples_there { rows * m ≤ length (chosen packed samples.now lent.now) }
+    requires from_within { from ≤ rows }
     ensures { result ≡ told (wrong_left largest rows m (chosen packed samples.now lent.now) from stamp) }
 {
     let mut before = stamp;
@@ -119,8 +121,8 @@ pub fn wrong_row(
     m: usize,
     largest: u32,
 ) -> WrongRow
-    requires le_rows { (1 ≤ rows) × (1 ≤ m) }
-    requires m_in_bounds { rows * m ≤ length (chosen packed samples.now lent.now) }
+    requires positive { (1 ≤ rows) × (1 ≤ m) }
+    requires samples_there { rows * m ≤ length (chosen packed samples.now lent.now) }
     ensures { result ≡ told (first_wrong largest (stamps rows m (chosen packed samples.now lent.now))) }
 {
     let mut before = stamp_at(samples, lent, packed, 0);

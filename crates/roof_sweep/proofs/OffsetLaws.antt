@@ -1,5 +1,6 @@
 -- Laws of the offset: the number that digits write, digit by digit and cut at 256, and what the number answered tells of it.
 -- Assumes nothing.
+use Rattle.std.specs.Prelude.{if◌then◌else◌}
 use Prim.Native.Nat.{ℕ, ◌+◌, ◌-◌, ◌*◌, ◌≤◌, ◌<◌, min}
 use native.Mathlib.Numerals.{add-one}
 use native.Mathlib.Omega.{arith}
@@ -13,7 +14,7 @@ use lib.Seq.{drop-cons}
 use borrow.Author.Tests.{leb-true, leb-false, le-leb, lt-leb}
 use Rattle.format.specs.declared.Reading.{Reading}
 use Rattle.format.specs.declared.FindAnswer.{FindAnswer}
-use Rattle.format.specs.Bytes.{if◌then◌else◌, is_digit, or_default, between}
+use Rattle.format.specs.Bytes.{is_digit, or_default, between}
 use Rattle.format.specs.Words.{digits_from, number, within}
 use Rattle.format.specs.Header.{Outcome, refused, accepted, header, value_of}
 use Rattle.format.specs.Calls.{read_header_call, find_key_call}

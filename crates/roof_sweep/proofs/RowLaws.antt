@@ -1,5 +1,6 @@
 -- The rows of a sweep: where its samples are not refused there is a row, each has a sample, and the list has room for all.
 -- Assumes nothing.
+use Rattle.std.specs.Prelude.{if◌then◌else◌}
 use Prim.Native.Nat.{ℕ, ◌*◌, ◌≤◌}
 use native.Mathlib.Nat.{mul-one, mul_comm}
 use native.Mathlib.Omega.{arith}
@@ -12,7 +13,7 @@ use lib.ListN.{length, get_or}
 use borrow.Author.Tests.{eqb-true, leb-true, ltb-false}
 use Rattle.format.specs.declared.Reading.{Reading}
 use Rattle.format.specs.declared.CountAnswer.{CountAnswer}
-use Rattle.format.specs.Bytes.{if◌then◌else◌, is_some, or_default, between}
+use Rattle.format.specs.Bytes.{is_some, or_default, between}
 use Rattle.format.specs.Limits.{max_size}
 use Rattle.format.specs.Refusals.{lent_too_short, refusal}
 use Rattle.format.specs.Words.{number, within, number_in, numbers_in, words, value_of_number}

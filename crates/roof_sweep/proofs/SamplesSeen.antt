@@ -1,5 +1,6 @@
 -- Samples that are decoded: each one that is seen is of its type, and where none is refused there are as many as are wanted.
 -- Assumes nothing.
+use Rattle.std.specs.Prelude.{if◌then◌else◌}
 use Prim.Native.Nat.{ℕ, zero, suc, ◌<◌}
 use native.Mathlib.Omega.{arith}
 use mathlib.Core.Path.{◌≡◌, refl, ap}
@@ -9,7 +10,6 @@ use mathlib.Core.Option.{Option, none, some}
 use lib.Dec.{eqb}
 use lib.IntN.{ℤ}
 use lib.ListN.{length, get_or, take, drop}
-use Rattle.format.specs.Bytes.{if◌then◌else◌}
 use Rattle.format.specs.Refusals.{bad_sample, data_ends_early}
 use Rattle.format.specs.Descriptors.{NumberKind, raw, as_text}
 use Rattle.format.specs.Samples.{Decoded, stopped, with_sample, then_samples, in_type, sample_value, raw_samples, without_blanks, hex_digit, HexRun, no_hex, hex_run, hex_pair, hex_alone, hex_bytes, hex_sample, hex_samples, skip_blanks, token, after_token, token_value, text_sample, tokens, text_samples, samples_of}

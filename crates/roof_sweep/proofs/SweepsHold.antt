@@ -1,6 +1,7 @@
 -- The laws of the call for a sweep.
 -- Assumes nothing.
-use Prim.Native.Nat.{ℕ, suc, ◌+◌, ◌*◌, ◌-◌, ◌%◌, ◌≤◌, ◌<◌}
+use Rattle.std.specs.Prelude.{if◌then◌else◌}
+use Prim.Native.Nat.{ℕ, ◌+◌, ◌*◌, ◌-◌, ◌%◌, ◌≤◌, ◌<◌}
 use native.Mathlib.Omega.{arith}
 use mathlib.Core.Path.{◌≡◌, refl, sym, ap, ◌∙◌, subst}
 use mathlib.Core.Bool.{Bool, true, false, not, ◌&&◌, false≢true}
@@ -14,7 +15,7 @@ use Rattle.roof_sweep.specs.declared.SweepAnswer.{SweepAnswer}
 use Rattle.format.specs.declared.Refusal.{Refusal}
 use Rattle.format.specs.declared.Reading.{Reading}
 use Rattle.format.specs.declared.FindAnswer.{FindAnswer}
-use Rattle.format.specs.Bytes.{if◌then◌else◌, bytes, over, LF, BACKSLASH}
+use Rattle.format.specs.Bytes.{bytes, over, LF, BACKSLASH}
 use Rattle.format.specs.Refusals.{lent_too_short, no_sweep, refusal, fine}
 use Rattle.format.specs.Words.{digits_from, number}
 use Rattle.format.specs.Lines.{Line}
@@ -174,7 +175,7 @@ module _ (file : List ℕ) (list : List ℤ) where
       here : (offset : ℕ) → (checked file list largest).number ≡ 0 → offset_for file largest ≡ some offset → Stamped (over (seen_in file [] (header file)) list)
       here offset c q row l =
           let zs = over (seen_in file [] (header file)) list in
-          ap pos (steps_hold.stamp_at_lem (row_count r) (row_length r) zs row l)
+          ap pos (steps_hold.stamp_at (row_count r) (row_length r) zs row l)
           ∙ own_stamp (get_or zs (row * row_length r) (pos 0)) (first_in_type (header file) refl (offset_sweep file largest q) c row l)
 
 -- ---- the first wrong row

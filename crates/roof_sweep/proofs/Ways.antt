@@ -1,5 +1,6 @@
 -- The three ways in which an answer and the lent list are those of the call for a sweep: 28 or a refusal before it, a refusal of the samples, and found.
 -- Assumes nothing.
+use Rattle.std.specs.Prelude.{if◌then◌else◌}
 use Prim.Native.Nat.{ℕ, ◌-◌, ◌*◌, ◌/◌, ◌≤◌, ◌<◌}
 use native.Mathlib.Omega.{arith}
 use mathlib.Core.Path.{◌≡◌, refl, sym, ap, ◌∙◌}
@@ -15,7 +16,7 @@ use Rattle.roof_sweep.specs.declared.SweepAnswer.{SweepAnswer}
 use Rattle.format.specs.declared.Refusal.{Refusal}
 use Rattle.format.specs.declared.Reading.{Reading}
 use Rattle.format.specs.declared.CountAnswer.{CountAnswer}
-use Rattle.format.specs.Bytes.{if◌then◌else◌, over}
+use Rattle.format.specs.Bytes.{over}
 use Rattle.format.specs.Refusals.{no_sweep, refusal}
 use Rattle.format.specs.Header.{header}
 use Rattle.format.specs.Boundary.{words_of_samples, samples_lent, lent_samples}
@@ -158,15 +159,15 @@ module _ (file list : List ℕ) (largest : ℕ) where
           (λ i. (tells n largest (s i), bytes_left i)) ∙ ap held (sweep_found_lem file (samples_lent list) largest a zs listed z o)
 
       module _ (r : Reading) (q : r ≡ (read_header_call file).reading) where
-        whole_bytes_lem : chosen true [] (take (length list - 0) after) ≡ samples_lent after
+        whole_bytes : chosen true [] (take (length list - 0) after) ≡ samples_lent after
         unfolding chosen
-        whole_bytes_lem = ap samples_lent (take_all (length list - 0) after (omega arith))
+        whole_bytes = ap samples_lent (take_all (length list - 0) after (omega arith))
 
         pub lent_rows : Rows r (length (chosen true [] (take (length list - 0) after)))
-        lent_rows = rw (whole_bytes_lem, q) bytes_rows
+        lent_rows = rw (whole_bytes, q) bytes_rows
 
         pub lent_found : {x : SweepAnswer} → x ≡ tells n largest (stamps_in r (chosen true [] (take (length list - 0) after)))
             → ◌≡◌ {A = SweepAnswer × List ℕ} (x, after) (sweep_entry file list largest)
         lent_found p =
-            let s : stamps_in r (chosen true [] (take (length list - 0) after)) ≡ stamps_in (read_header_call file).reading (samples_lent after) = rw (whole_bytes_lem, q) in
+            let s : stamps_in r (chosen true [] (take (length list - 0) after)) ≡ stamps_in (read_header_call file).reading (samples_lent after) = rw (whole_bytes, q) in
             (λ i. (p i, after)) ∙ (λ i. (tells n largest (s i), after)) ∙ bytes_found

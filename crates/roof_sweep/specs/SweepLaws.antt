@@ -1,5 +1,5 @@
 -- What the call for a sweep says of every file, beyond its definition, as one statement: `SweepLaws`.
-use Rattle.std.specs.Prelude.{ℕ, ◌*◌, ◌≤◌, ◌<◌, ◌≡◌, List, [], ℤ, pos, length, get_or}
+use Rattle.std.specs.Prelude.{ℕ, ◌*◌, ◌≤◌, ◌<◌, ◌≡◌, List, [], ℤ, pos, length, slice_index, slice_index_or, if◌then◌else◌}
 use Rattle.std.proofs.Math.Option.{Option, none, some}
 use Rattle.format.specs.declared.Refusal.{Refusal}
 use Rattle.format.specs.Lines.{Line}
@@ -8,7 +8,6 @@ use Rattle.format.specs.Header.{Entry, accepted, header, value_of}
 use Rattle.format.specs.Room.{Enough, samples_room}
 use Rattle.format.specs.Calls.{read_header_call, samples_call}
 use Rattle.format.specs.Laws.{AllBytes}
-use Rattle.format.specs.Bytes.{if◌then◌else◌}
 use Rattle.roof_steps.specs.StepLaws.{Says}
 use Rattle.roof_sweep.specs.Sweeps.{utc_offset, offset_said, offset_of, row_length, row_count, stamps_in, sweep_call, sweep_entry}
 
@@ -35,7 +34,7 @@ pub record SweepLaws : Type 0 where
   -- the stamp of each row is its first sample
   pub stamp_is : (file : List ℕ) (list : List ℤ) (largest : ℕ) → NotRefused (sweep_call file list largest).0.refusal
       → let r = (read_header_call file).reading in let zs = (sweep_call file list largest).1 in
-      (row : ℕ) → row < row_count r → pos (get_or (stamps_in r zs) row 0) ≡ get_or zs (row * row_length r) (pos 0)
+      (row : ℕ) → row < row_count r → pos (slice_index (stamps_in r zs) row) ≡ slice_index_or zs (row * row_length r) (pos 0)
   -- the answer tells the first row with a wrong step, or that none has (roof_steps/specs/StepLaws)
   pub row_is : (file : List ℕ) (list : List ℤ) (largest : ℕ) → NotRefused (sweep_call file list largest).0.refusal
       → let a = sweep_call file list largest in Says largest (stamps_in (read_header_call file).reading a.1) (if a.0.wrong then some a.0.row else none)

@@ -1,7 +1,7 @@
 -- The roof rig's call for a sweep (document 02, W4): the samples of a file that has to be a sweep, the offset that its key says, and the first row with a
 -- wrong step. It is said by the definitions of the library's calls (format/specs/Calls), of numbers in a text and in lent bytes (Words, Boundary), and of
 -- the steps (roof_steps/specs/Steps).
-use Rattle.std.specs.Prelude.{ℕ, Bool, not, false, ◌&&◌, List, [], eqb, ℤ, length, get_or, take, drop}
+use Rattle.std.specs.Prelude.{ℕ, Bool, not, false, ◌&&◌, List, [], ◌==◌, ℤ, length, slice_index, take, drop, if◌then◌else◌}
 use Rattle.std.proofs.Math.Option.{Option, none, some}
 use Rattle.roof_sweep.specs.declared.SweepAnswer.{SweepAnswer}
 use Rattle.roof_steps.specs.declared.WrongRow.{WrongRow}
@@ -9,7 +9,7 @@ use Rattle.roof_steps.specs.Steps.{stamps, first_wrong, told}
 use Rattle.format.specs.declared.Refusal.{Refusal}
 use Rattle.format.specs.declared.Reading.{Reading}
 use Rattle.format.specs.declared.FindAnswer.{FindAnswer}
-use Rattle.format.specs.Bytes.{if◌then◌else◌, bytes, between}
+use Rattle.format.specs.Bytes.{bytes, between}
 use Rattle.format.specs.Refusals.{no_sweep, refusal, fine}
 use Rattle.format.specs.Words.{number, number_in}
 use Rattle.format.specs.Boundary.{samples_lent, lent_samples}
@@ -26,14 +26,14 @@ uint32 = 5
 
 -- attached, uint32, of two axes. A detached header does not get this far: its data is in several files, or in the second one, which is empty, and the sample call refuses either
 abbrev pub is_sweep : Reading → Bool
-is_sweep r = eqb r.form attached && (eqb r.sampletype uint32 && eqb r.dimension 2)
+is_sweep r = r.form == attached && (r.sampletype == uint32 && r.dimension == 2)
 
 -- axis 0 is fastest: a row has as many samples as the size of axis 0, and there are as many rows as the size of axis 1
 abbrev pub row_length : Reading → ℕ
-row_length r = get_or r.sizes 0 0
+row_length r = slice_index r.sizes 0
 
 abbrev pub row_count : Reading → ℕ
-row_count r = get_or r.sizes 1 0
+row_count r = slice_index r.sizes 1
 
 -- ---- the offset
 
@@ -87,7 +87,7 @@ sweep_found (some offset) file list largest =
 unfoldable pub sweep_call : List ℕ → List ℤ → ℕ → SweepAnswer × List ℤ
 sweep_call file list largest =
     let a = check_samples_call file [] (length list) in
-    if not (eqb a.refusal.number 0) then (refused_sweep a.refusal, list)
+    if not (a.refusal.number == 0) then (refused_sweep a.refusal, list)
     else sweep_found (offset_for file largest) file list largest
 
 -- the same for a caller that lends the list as bytes, 8 for each sample; a rest too short for one stays

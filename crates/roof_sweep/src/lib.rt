@@ -1,8 +1,10 @@
 // The roof rig's call for a sweep. It stands above the library and knows of it only what its calls claim.
+#![tactic(auto)]
+
 mod offset;
 
-ghost use Rattle.std.specs.Prelude.{◌≡◌, List, ℕ, ◌≤◌, eqb, ℤ, length};
-ghost use Rattle.format.specs.Bytes.{if◌then◌else◌, or_default};
+ghost use Rattle.std.specs.Prelude.{◌≡◌, List, ℕ, ◌≤◌, ◌==◌, ℤ, length, if◌then◌else◌};
+ghost use Rattle.format.specs.Bytes.{or_default};
 ghost use Rattle.format.specs.Refusals.{no_sweep, refusal};
 ghost use Rattle.format.specs.Calls.{read_header_call};
 ghost use Rattle.roof_steps.specs.Steps.{first_wrong, told, chosen};
@@ -26,7 +28,7 @@ const MAX_STEP: u64 = 2147483647;
 
 // The answer: the offset that the key says, and whether a row has a wrong step from the row before it, with the first such row, from 0. All but the refusal are zero where the call is refused.
 #[repr(C)]
-#[derive(Drop)]
+#[derive(Clone, Copy)]
 pub struct SweepAnswer {
     pub refusal: Refusal,
     pub offset: u32,
@@ -71,7 +73,7 @@ fn refuse(refusal: Refusal) -> SweepAnswer
 
 // The refusal of the sample call, or 28 where that has none.
 fn refuse_sweep(samples: Refusal) -> SweepAnswer
-    ensures { result ≡ refused_sweep (if eqb samples.number 0 then refusal no_sweep else samples) }
+    ensures { result ≡ refused_sweep (if samples.number == 0 then refusal no_sweep else samples) }
 {
     if samples.number == 0 {
         return refuse(refusals::refusal(format::NO_SWEEP));
@@ -89,7 +91,7 @@ fn found(
     largest: u64,
 ) -> SweepAnswer
     requires rows { Rows reading (length (chosen packed samples.now lent.now)) }
-    requires largest_le_max_step { largest ≤ max_step }
+    requires largest_allowed { largest ≤ max_step }
     ensures { result ≡ sweep_answer offset (told (first_wrong largest (stamps_in reading (chosen packed samples.now lent.now)))) }
 {
     let sizes = reading.sizes;
