@@ -1,4 +1,6 @@
 // The entry points for C: numbers and lent bytes in, an answer by value out. Each is a call of a function of the library.
+#![tactic(auto)]
+
 ghost use Rattle.std.specs.Prelude.{◌≡◌, List, ℕ, ◌/◌, ◌≤◌, length};
 ghost use Rattle.format.specs.declared.ReadAnswer.{ReadAnswer};
 ghost use Rattle.format.specs.declared.ValueAnswer.{ValueAnswer};

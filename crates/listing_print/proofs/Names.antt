@@ -1,5 +1,6 @@
 -- Laws of the lines of a reading: names by their numbers, and sizes one after the other.
 -- Assumes nothing.
+use Rattle.std.specs.Prelude.{if◌then◌else◌}
 use Prim.Native.Nat.{ℕ, zero, suc, ◌+◌, ◌*◌, ◌-◌, ◌≤◌, ◌<◌}
 use native.Mathlib.Numerals.{add-one}
 use native.Mathlib.Omega.{arith}
@@ -10,7 +11,7 @@ use lib.Dec.{ltb, lit≤}
 use lib.ListN.{length, take, drop, get_or, length-drop, get_or-eq_default}
 use lib.Seq.{drop-cons}
 use borrow.Author.Tests.{lt-ltb, le-ltb, ltb-true, ltb-false, ne_eqb}
-use Rattle.format.specs.Bytes.{if◌then◌else◌, bytes, SPACE}
+use Rattle.format.specs.Bytes.{bytes, SPACE}
 use Rattle.format.specs.Descriptors.{types, sample_type, signed, type_at, encodings}
 use Rattle.format.specs.Writer.{decimal, spaced, name_at}
 use Rattle.listing_print.specs.Lines.{row_for, form_text, type_text, endian_text}

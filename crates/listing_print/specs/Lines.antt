@@ -1,23 +1,23 @@
 -- Internal to the library. The lines of a reading, all but those of its keys, by its numbers.
-use Rattle.std.specs.Prelude.{ℕ, List, ◌++◌, eqb, ltb, take}
+use Rattle.std.specs.Prelude.{ℕ, List, ◌++◌, ◌==◌, nat_lt, take, if◌then◌else◌}
 use Rattle.format.specs.declared.Reading.{Reading}
-use Rattle.format.specs.Bytes.{if◌then◌else◌, bytes}
+use Rattle.format.specs.Bytes.{bytes}
 use Rattle.format.specs.Descriptors.{type_at, type_name, encodings, endians, no_endian}
 use Rattle.format.specs.Writer.{decimal, spaced, name_at}
 use Rattle.format.specs.Listing.{shown}
 
 -- the row of a table for a number, and a row for the numbers that have none
 abbrev pub row_for : ℕ → ℕ → ℕ → ℕ
-row_for n rows past = if ltb n rows then n else past
+row_for n rows past = if nat_lt n rows then n else past
 
 abbrev pub form_text : ℕ → List ℕ
-form_text form = if eqb form 1 then bytes "detached" else bytes "attached"
+form_text form = if form == 1 then bytes "detached" else bytes "attached"
 
 abbrev pub type_text : ℕ → List ℕ
 type_text t = bytes (type_name (type_at t))
 
 abbrev pub endian_text : ℕ → List ℕ
-endian_text e = if eqb e no_endian then bytes "none" else name_at endians e
+endian_text e = if e == no_endian then bytes "none" else name_at endians e
 
 -- version, form and type
 unfoldable pub top_text : Reading → List ℕ

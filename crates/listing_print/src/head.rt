@@ -1,6 +1,6 @@
 // The lines of a reading, all but those of its keys. Each function returns the place after its lines.
-ghost use Rattle.std.specs.Prelude.{◌≡◌, ◌++◌, ◌∷◌, [], ◌+◌, ◌*◌, ◌≤◌, ◌<◌, length};
-ghost use Rattle.format.specs.Bytes.{if◌then◌else◌, SPACE};
+ghost use Rattle.std.specs.Prelude.{◌≡◌, ◌++◌, ◌∷◌, [], ◌+◌, ◌*◌, ◌≤◌, ◌<◌, length, if◌then◌else◌};
+ghost use Rattle.format.specs.Bytes.{SPACE};
 ghost use Rattle.format.specs.Limits.{max_axes, max_listing};
 ghost use Rattle.format.specs.Descriptors.{encodings};
 ghost use Rattle.format.specs.Writer.{decimal, spaced, name_at};
@@ -14,7 +14,7 @@ use format::Reading;
 // The row of a table for a number, and the row `past` for a number that the table does not have.
 fn row(number: u32, rows: u32, past: usize) -> usize
     requires { past < rows }
-    ensures value { result ≡ row_for number rows past }
+    ensures is { result ≡ row_for number rows past }
     ensures within { result < rows }
 {
     if number < rows { number as usize } else { past }

@@ -1,5 +1,6 @@
 -- The listing of a file: what the lines of its header show are its keys, and each way to its end prints what the definition says.
 -- Assumes nothing.
+use Rattle.std.specs.Prelude.{if◌then◌else◌}
 use Prim.Native.Nat.{ℕ, ◌≤◌, ◌<◌}
 use native.Mathlib.Nat.{zero-add}
 use native.Mathlib.Omega.{arith}
@@ -14,7 +15,7 @@ use Rattle.format.specs.declared.Reading.{Reading}
 use Rattle.format.specs.declared.ReadAnswer.{ReadAnswer}
 use Rattle.format.specs.declared.DataAnswer.{DataAnswer}
 use Rattle.format.specs.declared.WriteAnswer.{WriteAnswer}
-use Rattle.format.specs.Bytes.{if◌then◌else◌, bytes, same, is_some, or_else}
+use Rattle.format.specs.Bytes.{bytes, same, is_some, or_else}
 use Rattle.format.specs.Limits.{max_lines, max_listed}
 use Rattle.format.specs.Refusals.{lent_too_short, refusal, fine}
 use Rattle.format.specs.Lines.{Line, line, lf, crlf, eof, text, lines, unlines}
@@ -152,8 +153,8 @@ module _ (file : List ℕ) {es : List Entry} {gs : List Given} {ls : List Line} 
   header_split : lines file ≡ lines_of (before_names es) ++ (lines_of (from_names es) ++ ls)
   header_split = (header_sound file e).split ∙ ap (λ (x : List Line). x ++ ls) (before_lines es) ∙ append_assoc (lines_of (before_names es)) (lines_of (from_names es)) ls
 
-  header_lines_lem : lines_from file 0 (field_lines es) ≡ lines_of (before_names es)
-  header_lines_lem =
+  header_lines : lines_from file 0 (field_lines es) ≡ lines_of (before_names es)
+  header_lines =
       ap (take (field_lines es)) header_split
       ∙ take_at (lines_of (before_names es)) (lines_of (from_names es) ++ ls) (field_lines es) (length-map (before_names es) line_of)
 
@@ -164,7 +165,7 @@ module _ (file : List ℕ) {es : List Entry} {gs : List Given} {ls : List Line} 
       record {
         inside = omega arith;
         there = omega (arith, ap length header_split, length-append (lines_of (before_names es)) (lines_of (from_names es) ++ ls), length-map (before_names es) line_of);
-        short = rw header_lines_lem (omega (arith, x.short, n, length_unlines_append (lines_of (before_names es)) (lines_of (from_names es))));
+        short = rw header_lines (omega (arith, x.short, n, length_unlines_append (lines_of (before_names es)) (lines_of (from_names es))));
       }
 
   header_shown : shown_lines (lines_from file 0 (field_lines es)) ≡ shown_keys es
@@ -173,7 +174,7 @@ module _ (file : List ℕ) {es : List Entry} {gs : List Given} {ls : List Line} 
       let x = header_sound file e in
       let rest = before_names x.rest in
       let n = ap (λ (o : Option (List ℕ × List ℕ)). shown_texts o (lines_of rest)) (first_unmarked x.first x.magical) in
-      ap shown_lines header_lines_lem
+      ap shown_lines header_lines
       ∙ ap (λ (y : List Entry). shown_lines (lines_of y)) (before_first x)
       ∙ ap (λ (s : List ℕ). s ++ shown_lines (lines_of rest)) n
       ∙ lines_shown rest (header_items x)

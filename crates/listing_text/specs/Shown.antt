@@ -1,8 +1,8 @@
 -- Internal to this crate. The parts of a listing: the lines of keys by the lines of the header, and all lines of a reading.
-use Rattle.std.specs.Prelude.{ℕ, ◌+◌, ◌≤◌, Bool, false, ◌||◌, List, [], ◌∷◌, ◌++◌, length, take, drop}
+use Rattle.std.specs.Prelude.{ℕ, ◌+◌, ◌≤◌, Bool, false, ◌||◌, List, [], ◌∷◌, ◌++◌, length, take, drop, if◌then◌else◌}
 use Rattle.std.proofs.Math.Option.{Option, none, some}
 use Rattle.format.specs.declared.Reading.{Reading}
-use Rattle.format.specs.Bytes.{if◌then◌else◌, same, EQUALS}
+use Rattle.format.specs.Bytes.{same, EQUALS}
 use Rattle.format.specs.Limits.{max_header}
 use Rattle.format.specs.Lines.{Line, text, lines, unlines}
 use Rattle.format.specs.Pairs.{kind_of, pair_texts}

@@ -1,4 +1,6 @@
 // The listing of a file: what its header says, where its data starts, or why it is refused.
+#![tactic(auto)]
+
 mod keys;
 
 ghost use Rattle.std.specs.Prelude.{◌≡◌, List, ℕ, ◌≤◌, length};
