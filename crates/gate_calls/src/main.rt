@@ -24,12 +24,15 @@
 //
 // The parts of a case: 1 the answer, 2 the list, the buffer or the bytes of the data, 3 the answer of `check_samples`, 4 what is read back.
 // Where the input does not fit the frame the run ends with the line `malformed`.
+#![tactic(auto)]
+
 use format::{CountAnswer, DataAnswer, Refusal, WriteAnswer};
 use format_values::refusals;
 use gate_frames::parts::{
     number_at, part, refusal_at, rest, run_at, run_end, same_refusal, wide_at,
 };
 use gate_frames::report::MALFORMED;
+use std::io;
 
 // The most bytes of a case, entries of a list of samples, and bytes of a written file.
 const CASE: usize = 131072;
@@ -55,10 +58,8 @@ fn signed(bits: u64) -> i64 {
 // The wide numbers of a run, 0 past its end.
 fn wides_of(s: &[u8]) -> [u64; 32] {
     let mut list = [0u64; 32];
-    let mut i: usize = 0;
-    while i < 32 {
+    for i in 0..32 {
         list[i] = wide_at(s, 8 * i);
-        i += 1;
     }
     list
 }
@@ -66,10 +67,8 @@ fn wides_of(s: &[u8]) -> [u64; 32] {
 // The samples of a run, 0 past its end.
 fn samples_of(s: &[u8]) -> [i64; SAMPLES] {
     let mut list = [0i64; SAMPLES];
-    let mut i: usize = 0;
-    while i < SAMPLES {
+    for i in 0..SAMPLES {
         list[i] = signed(wide_at(s, 8 * i));
-        i += 1;
     }
     list
 }
@@ -119,10 +118,7 @@ fn data_fault(s: &[u8]) -> u32 {
     if !place_right(data_place::place::data_place(file, second), s) {
         return 1;
     }
-    if !check::same(
-        data_place::place::data(file, second),
-        part_of(s, file, second),
-    ) {
+    if data_place::place::data(file, second) != part_of(s, file, second) {
         return 2;
     }
     0
@@ -139,10 +135,8 @@ fn entry_at(s: &[u8], i: usize) -> i64 {
 // Whether the list has the samples of the run at its front, and every other entry is as it was before the call.
 fn list_right(list: &[i64; SAMPLES], s: &[u8]) -> bool {
     let mut right = true;
-    let mut i: usize = 0;
-    while i < SAMPLES {
+    for i in 0..SAMPLES {
         right = right & (list[i] == entry_at(s, i));
-        i += 1;
     }
     right
 }
@@ -240,7 +234,7 @@ fn written(s: &[u8], sizes: &[u8], samples: &[u8], out: &mut [u8]) -> WriteAnswe
 fn holds(out: &[u8; ROOM], file: &[u8]) -> bool {
     let before = [UNTOUCHED; ROOM];
     let n = file.len();
-    check::same(part(out, 0, n), file) & check::same(rest(out, n), rest(&before, n))
+    (part(out, 0, n) == file) & (rest(out, n) == rest(&before, n))
 }
 
 // Whether the samples of the file are those of the run. There is nothing to read back where nothing was written.
@@ -298,18 +292,20 @@ fn fault_in(buffer: &[u8; CASE], n: usize) -> u32 {
 }
 
 // The part that is wrong of the next case of the input.
-fn next_fault() -> u32 {
-    let n = gate_frames::input::next_number() as usize;
+fn next_fault(rt: &impl Input) -> io::Result<u32> {
+    let n = gate_frames::input::next_number(rt)? as usize;
     let mut buffer = [0u8; CASE];
-    if !gate_frames::input::fill(&mut buffer, n) {
-        return MALFORMED;
+    if !gate_frames::input::fill(rt, &mut buffer, n)? {
+        return Ok(MALFORMED);
     }
-    fault_in(&buffer, n)
+    Ok(fault_in(&buffer, n))
 }
 
-fn main() {
-    let mut walk = gate_frames::walk::start();
+fn main(rt: HostRuntime) -> io::Result<()> {
+    let mut walk = gate_frames::walk::start(&rt)?;
     while 0 < walk.left {
-        walk = gate_frames::walk::next(walk, next_fault());
+        let fault = next_fault(&rt)?;
+        walk = gate_frames::walk::next(&rt, walk, fault)?;
     }
+    Ok(())
 }

@@ -1,12 +1,16 @@
 // The input, read piece by piece.
-use libc::STDIN_FILENO;
+use std::io::{self, ErrorKind, Read};
 
 // Reads so many bytes of the input to the front of the buffer; whether they fit and the input has them.
-pub fn fill(buffer: &mut [u8], n: usize) -> bool {
+pub fn fill(rt: &impl Input, buffer: &mut [u8], n: usize) -> io::Result<bool> {
     if buffer.len() < n {
-        return false;
+        return Ok(false);
     }
-    io::read_full(STDIN_FILENO, &mut buffer[..n]) == n
+    match rt.reader().read_exact(&mut buffer[..n]) {
+        Ok(()) => Ok(true),
+        Err(e) if e.kind() == ErrorKind::UnexpectedEof => Ok(false),
+        Err(e) => Err(e),
+    }
 }
 
 fn first_number(bytes: &[u8; 4]) -> u32 {
@@ -14,16 +18,16 @@ fn first_number(bytes: &[u8; 4]) -> u32 {
 }
 
 // The next number of the input, the largest one at its end.
-pub fn next_number() -> u32 {
+pub fn next_number(rt: &impl Input) -> io::Result<u32> {
     let mut bytes = [0u8; 4];
-    if !fill(&mut bytes, 4) {
-        return u32::MAX;
+    if !fill(rt, &mut bytes, 4)? {
+        return Ok(u32::MAX);
     }
-    first_number(&bytes)
+    Ok(first_number(&bytes))
 }
 
 // Whether the input has no more bytes.
-pub fn ended() -> bool {
+pub fn ended(rt: &impl Input) -> io::Result<bool> {
     let mut byte = [0u8; 1];
-    !fill(&mut byte, 1)
+    Ok(!fill(rt, &mut byte, 1)?)
 }

@@ -7,6 +7,8 @@
 //
 // Each group prints a line `NAME: RIGHT of ALL`; each case that is not right prints a line before it, with its number in the group (from 1)
 // and the part that is wrong.
+#![tactic(auto)]
+
 pub mod input;
 pub mod parts;
 pub mod report;

@@ -1,5 +1,5 @@
 // What is counted and printed of cases and groups.
-use libc::STDOUT_FILENO;
+use std::io;
 
 // The number of a case whose bytes do not fit the frame.
 pub const MALFORMED: u32 = 9;
@@ -13,27 +13,26 @@ pub fn score(fault: u32) -> usize {
 }
 
 // Prints the number of a case that is not right, and the part.
-pub fn tell(n: u32, fault: u32) {
+pub fn tell(rt: &impl Print, n: u32, fault: u32) -> io::Result<()> {
     if fault != 0 {
-        io::write_all(STDOUT_FILENO, b"case ");
-        io::print_decimal(STDOUT_FILENO, n as u64);
-        io::write_all(STDOUT_FILENO, b" is wrong in part ");
-        io::print_decimal(STDOUT_FILENO, fault as u64);
-        io::write_all(STDOUT_FILENO, b"\n");
+        println!(rt; "case {n} is wrong in part {fault}")?;
     }
+    Ok(())
 }
 
 // Prints the line of a group, whose name is the first `n` bytes.
-pub fn tell_group(name: &[u8; 256], n: usize, right: u64, count: u32) {
-    io::write_all(STDOUT_FILENO, crate::parts::part(name, 0, n));
-    io::write_all(STDOUT_FILENO, b": ");
-    io::print_decimal(STDOUT_FILENO, right);
-    io::write_all(STDOUT_FILENO, b" of ");
-    io::print_decimal(STDOUT_FILENO, count as u64);
-    io::write_all(STDOUT_FILENO, b"\n");
+pub fn tell_group(
+    rt: &impl Print,
+    name: &[u8; 256],
+    n: usize,
+    right: u64,
+    count: u32,
+) -> io::Result<()> {
+    rt.write_all(crate::parts::part(name, 0, n))?;
+    println!(rt; ": {right} of {count}")
 }
 
 // Prints that the input does not fit the frame.
-pub fn tell_malformed() {
-    io::write_all(STDOUT_FILENO, b"malformed\n");
+pub fn tell_malformed(rt: &impl Print) -> io::Result<()> {
+    println!(rt; "malformed")
 }

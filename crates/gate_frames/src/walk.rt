@@ -1,11 +1,12 @@
 // The walk through the groups and cases of the input. While `left` is not 0 the program runs the next case and hands `next` the part that is
 // wrong; each call lowers the number with the digits `groups` and `left`, so the walk ends.
-ghost use Rattle.std.specs.Prelude.{◌+◌, ◌-◌, ◌*◌, ◌<◌, ◌≤◌, ◌≡◌};
+ghost use Rattle.std.specs.Prelude.{◌+◌, ◌-◌, ◌*◌, ◌<◌, ◌≤◌, ◌≡◌, IfOk};
 
 use crate::report::MALFORMED;
+use std::io;
 
 // The groups after the open one; the cases left of the open one, how many it has, how many are right, and its name.
-#[derive(Drop)]
+#[derive(Clone, Copy)]
 pub struct Walk {
     pub groups: u32,
     pub left: u32,
@@ -16,89 +17,96 @@ pub struct Walk {
 }
 
 // The walk at its end. Prints it where the input does not fit the frame.
-fn stopped(fits: bool) -> Walk
-    ensures { (result.groups ≤ 0) × (result.left ≤ 0) }
+fn stopped(rt: &impl Print, fits: bool) -> io::Result<Walk>
+    ensures { IfOk result (λ walk. (walk.groups ≤ 0) × (walk.left ≤ 0)) }
 {
     if !fits {
-        crate::report::tell_malformed();
+        crate::report::tell_malformed(rt)?;
     }
-    Walk {
+    Ok(Walk {
         groups: 0,
         left: 0,
         count: 0,
         right: 0,
         length: 0,
         name: [0u8; 256],
-    }
+    })
 }
 
 // Opens the next group of the input; so many follow it.
-fn open(groups: u32) -> Walk
-    ensures { (result.groups ≤ groups) × (result.left < 4294967296) }
+fn open(rt: &(impl Input + Print), groups: u32) -> io::Result<Walk>
+    ensures { IfOk result (λ walk. (walk.groups ≤ groups) × (walk.left < 4294967296)) }
 {
-    let length = crate::input::next_number() as usize;
+    let length = crate::input::next_number(rt)? as usize;
     let mut name = [0u8; 256];
-    if !crate::input::fill(&mut name, length) {
-        return stopped(false);
+    if !crate::input::fill(rt, &mut name, length)? {
+        return stopped(rt, false);
     }
-    let count = crate::input::next_number();
+    let count = crate::input::next_number(rt)?;
     if count == 0 {
-        return stopped(false);
+        return stopped(rt, false);
     }
-    Walk {
+    Ok(Walk {
         groups: groups,
         left: count,
         count: count,
         right: 0,
         length: length,
         name: name,
-    }
+    })
 }
 
 // Opens the next of so many groups, or ends the walk where there is none.
-fn go_on(groups: u32) -> Walk
-    ensures { 4294967296 * result.groups + result.left ≤ 4294967296 * groups }
+fn go_on(rt: &(impl Input + Print), groups: u32) -> io::Result<Walk>
+    ensures { IfOk result (λ walk. 4294967296 * walk.groups + walk.left ≤ 4294967296 * groups) }
 {
     if groups == 0 {
-        return stopped(crate::input::ended());
+        let fits = crate::input::ended(rt)?;
+        return stopped(rt, fits);
     }
-    open(groups - 1)
+    open(rt, groups - 1)
 }
 
 // Opens the first group of the input.
-pub fn start() -> Walk {
-    go_on(crate::input::next_number())
+pub fn start(rt: &(impl Input + Print)) -> io::Result<Walk> {
+    let groups = crate::input::next_number(rt)?;
+    go_on(rt, groups)
 }
 
 // Prints and counts the next case.
-fn counted(walk: Walk, fault: u32) -> Walk
-    ensures { (result.groups ≡ walk.groups) × (result.left ≡ walk.left - 1) }
+fn counted(rt: &impl Print, walk: Walk, fault: u32) -> io::Result<Walk>
+    ensures { IfOk result (λ after. (after.groups ≡ walk.groups) × (after.left ≡ walk.left - 1)) }
 {
     let name = walk.name;
     let left = crate::parts::less(walk.left, 1);
-    crate::report::tell(crate::parts::less(walk.count, left), fault);
-    Walk {
+    crate::report::tell(rt, crate::parts::less(walk.count, left), fault)?;
+    Ok(Walk {
         groups: walk.groups,
         left: left,
         count: walk.count,
         right: crate::parts::plus(walk.right, crate::report::score(fault)),
         length: walk.length,
         name: name,
-    }
+    })
 }
 
 // Goes on after the next case; `fault` is its part that is wrong, 0 for none.
-pub fn next(walk: Walk, fault: u32) -> Walk
-    ensures { 4294967296 * result.groups + result.left ≤ 4294967296 * walk.groups + (walk.left - 1) }
+pub fn next(rt: &(impl Input + Print), walk: Walk, fault: u32) -> io::Result<Walk>
+    ensures { IfOk result (λ after. 4294967296 * after.groups + after.left ≤ 4294967296 * walk.groups + (walk.left - 1)) }
 {
     if fault == MALFORMED {
-        return stopped(false);
+        return stopped(rt, false);
     }
-    let after = counted(walk, fault);
+    let after = counted(rt, walk, fault)?;
     if 0 < after.left {
-        return after;
+        return Ok(after);
     }
-    let name = after.name;
-    crate::report::tell_group(&name, after.length, after.right as u64, after.count);
-    go_on(after.groups)
+    crate::report::tell_group(
+        rt,
+        &after.name,
+        after.length,
+        after.right as u64,
+        after.count,
+    )?;
+    go_on(rt, after.groups)
 }

@@ -9,9 +9,12 @@
 //
 // The parts of a case: 1 the answer, 2 the buffer.
 // Where the input does not fit the frame the run ends with the line `malformed`.
+#![tactic(auto)]
+
 use format::WriteAnswer;
 use gate_frames::parts::{number_at, part, refusal_at, rest, run_at, run_end, same_refusal};
 use gate_frames::report::MALFORMED;
+use std::io;
 
 // The most bytes of a case.
 const CASE: usize = 147456;
@@ -34,7 +37,7 @@ fn list_to(file: &[u8], out: &mut [u8], room: usize) -> WriteAnswer {
 fn holds(out: &[u8; ROOM], text: &[u8]) -> bool {
     let before = [UNTOUCHED; ROOM];
     let n = text.len();
-    check::same(part(out, 0, n), text) & check::same(rest(out, n), rest(&before, n))
+    (part(out, 0, n) == text) & (rest(out, n) == rest(&before, n))
 }
 
 // The part of a case that is wrong, 0 for none.
@@ -62,18 +65,20 @@ fn fault_in(buffer: &[u8; CASE], n: usize) -> u32 {
 }
 
 // The part that is wrong of the next case of the input.
-fn next_fault() -> u32 {
-    let n = gate_frames::input::next_number() as usize;
+fn next_fault(rt: &impl Input) -> io::Result<u32> {
+    let n = gate_frames::input::next_number(rt)? as usize;
     let mut buffer = [0u8; CASE];
-    if !gate_frames::input::fill(&mut buffer, n) {
-        return MALFORMED;
+    if !gate_frames::input::fill(rt, &mut buffer, n)? {
+        return Ok(MALFORMED);
     }
-    fault_in(&buffer, n)
+    Ok(fault_in(&buffer, n))
 }
 
-fn main() {
-    let mut walk = gate_frames::walk::start();
+fn main(rt: HostRuntime) -> io::Result<()> {
+    let mut walk = gate_frames::walk::start(&rt)?;
     while 0 < walk.left {
-        walk = gate_frames::walk::next(walk, next_fault());
+        let fault = next_fault(&rt)?;
+        walk = gate_frames::walk::next(&rt, walk, fault)?;
     }
+    Ok(())
 }

@@ -15,6 +15,8 @@
 //
 // The parts of a case: 1 the answer of `read`, 2 the table, 3 the answer of `read_header`, 4 fields, 5 keys and values.
 // Where the input does not fit the frame the run ends with the line `malformed`.
+#![tactic(auto)]
+
 use format::{FindAnswer, ReadAnswer, Reading, Refusal, ValueAnswer};
 use format_values::refusals;
 use gate_frames::parts::{
@@ -22,6 +24,7 @@ use gate_frames::parts::{
     text_given,
 };
 use gate_frames::report::MALFORMED;
+use std::io;
 
 // The most bytes of a case.
 const CASE: usize = 131072;
@@ -33,7 +36,7 @@ const ROOM: usize = 65536;
 const UNTOUCHED: u8 = 165;
 
 // A place in a frame, and whether all up to there is right.
-#[derive(Drop)]
+#[derive(Clone, Copy)]
 struct Step {
     at: usize,
     right: bool,
@@ -73,10 +76,8 @@ fn files_right(r: Reading, s: &[u8]) -> bool {
 // Whether the sizes are those of the frame.
 fn sizes_right(sizes: &[u64; 16], s: &[u8]) -> bool {
     let mut right = true;
-    let mut i: usize = 0;
-    while i < 16 {
+    for i in 0..16 {
         right = right & (sizes[i] == number_at(s, 24 + 4 * i) as u64);
-        i += 1;
     }
     right
 }
@@ -113,10 +114,8 @@ fn entry_at(s: &[u8], i: usize) -> u32 {
 // Whether the table has the frame's entries at its front, and 7 at every other place.
 fn table_right(table: &[u32; 16384], s: &[u8]) -> bool {
     let mut right = true;
-    let mut i: usize = 0;
-    while i < 16384 {
+    for i in 0..16384 {
         right = right & (table[i] == entry_at(s, i));
-        i += 1;
     }
     right
 }
@@ -129,19 +128,17 @@ fn place_right(a: FindAnswer, refusal: Refusal, file: &[u8], s: &[u8], at: usize
     let text = text_at(s, at);
     let found = (a.found == text_given(s, at)) & (a.found | (start == 0));
     let within = (plus(start, length) <= file.len()) & (length == text.len());
-    same_refusal(told, refusal) & found & within & check::same(part(file, start, length), text)
+    same_refusal(told, refusal) & found & within & (part(file, start, length) == text)
 }
 
 // Whether the 30 fields are those of the frame.
 fn fields_right(file: &[u8], refusal: Refusal, s: &[u8], from: usize) -> Step {
     let mut at = from;
     let mut right = true;
-    let mut field: u32 = 0;
-    while field < 30 {
+    for field in 0..30 {
         let a = read_lookup::descriptors::find_field(file, field);
         right = right & place_right(a, refusal, file, s, at);
         at = text_end(s, at);
-        field += 1;
     }
     Step {
         at: at,
@@ -153,7 +150,7 @@ fn fields_right(file: &[u8], refusal: Refusal, s: &[u8], from: usize) -> Step {
 fn holds(out: &[u8; ROOM], value: &[u8]) -> bool {
     let before = [UNTOUCHED; ROOM];
     let n = value.len();
-    check::same(part(out, 0, n), value) & check::same(rest(out, n), rest(&before, n))
+    (part(out, 0, n) == value) & (rest(out, n) == rest(&before, n))
 }
 
 // The answer of `copy_value` where the first `room` bytes of the buffer are lent, all where it has fewer.
@@ -213,10 +210,9 @@ fn key_end(s: &[u8], at: usize) -> usize {
 
 // Whether the keys have the values of the frame.
 fn keys_right(file: &[u8], refusal: Refusal, s: &[u8], from: usize) -> Step {
-    let mut left = number_at(s, from);
     let mut at = plus(from, 4);
     let mut right = true;
-    while 0 < left {
+    for _ in 0..number_at(s, from) {
         if s.len() < at {
             return Step {
                 at: at,
@@ -225,7 +221,6 @@ fn keys_right(file: &[u8], refusal: Refusal, s: &[u8], from: usize) -> Step {
         }
         right = right & key_right(file, refusal, s, at);
         at = key_end(s, at);
-        left -= 1;
     }
     Step {
         at: at,
@@ -288,18 +283,20 @@ fn fault_in(buffer: &[u8; CASE], n: usize) -> u32 {
 }
 
 // The part that is wrong of the next case of the input.
-fn next_fault() -> u32 {
-    let n = gate_frames::input::next_number() as usize;
+fn next_fault(rt: &impl Input) -> io::Result<u32> {
+    let n = gate_frames::input::next_number(rt)? as usize;
     let mut buffer = [0u8; CASE];
-    if !gate_frames::input::fill(&mut buffer, n) {
-        return MALFORMED;
+    if !gate_frames::input::fill(rt, &mut buffer, n)? {
+        return Ok(MALFORMED);
     }
-    fault_in(&buffer, n)
+    Ok(fault_in(&buffer, n))
 }
 
-fn main() {
-    let mut walk = gate_frames::walk::start();
+fn main(rt: HostRuntime) -> io::Result<()> {
+    let mut walk = gate_frames::walk::start(&rt)?;
     while 0 < walk.left {
-        walk = gate_frames::walk::next(walk, next_fault());
+        let fault = next_fault(&rt)?;
+        walk = gate_frames::walk::next(&rt, walk, fault)?;
     }
+    Ok(())
 }

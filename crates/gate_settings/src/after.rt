@@ -6,7 +6,7 @@ use format::{Reading, ValueAnswer};
 use gate_frames::parts::{number_at, part, run_at, run_end, wide_at};
 
 fn same_buffers(a: &[u8; BUFFER], b: &[u8; BUFFER]) -> bool {
-    check::same(a, b)
+    a == b
 }
 
 // Whether the buffer is the one that is packed.
@@ -19,10 +19,8 @@ fn buffer_right(buf: &[u8; BUFFER], s: &[u8]) -> bool {
 // Whether the table has the entries of the run.
 fn table_right(table: &[u32; TABLE], s: &[u8]) -> bool {
     let mut right = true;
-    let mut i: usize = 0;
-    while i < TABLE {
+    for i in 0..TABLE {
         right = right & (table[i] == packed::entry_at(s, i));
-        i += 1;
     }
     right
 }
@@ -30,10 +28,8 @@ fn table_right(table: &[u32; TABLE], s: &[u8]) -> bool {
 // Whether the first `n` entries are the same.
 fn same_entries(a: &[u32; TABLE], b: &[u32; TABLE], n: usize) -> bool {
     let mut right = true;
-    let mut i: usize = 0;
-    while i < TABLE {
+    for i in 0..TABLE {
         right = right & ((n <= i) | (a[i] == b[i]));
-        i += 1;
     }
     right
 }
@@ -48,18 +44,16 @@ fn lines_right(file: &[u8], table: &[u32; TABLE], count: usize) -> bool {
 
 fn same_sizes(a: &[u64; 16], b: &[u64; 16]) -> bool {
     let mut right = true;
-    let mut i: usize = 0;
-    while i < 16 {
+    for i in 0..16 {
         right = right & (a[i] == b[i]);
-        i += 1;
     }
     right
 }
 
 // Whether two readings have as many data files, and as many lines from the first name under LIST on.
 fn same_files(a: Reading, b: Reading) -> bool {
-    let before = std::num::wrapping_sub_u32(a.lines, a.fieldlines);
-    let after = std::num::wrapping_sub_u32(b.lines, b.fieldlines);
+    let before = a.lines.wrapping_sub(a.fieldlines);
+    let after = b.lines.wrapping_sub(b.fieldlines);
     (a.files == b.files) & (before == after)
 }
 
@@ -89,7 +83,7 @@ fn rest<'a>(file: &'a [u8], n: usize) -> &'a [u8] {
 // Whether the answer is the value, which stands at the front of the buffer.
 fn holds(out: &[u8; VALUE], a: ValueAnswer, value: &[u8]) -> bool {
     let found = (a.refusal.number == 0) & a.found & (a.length == value.len() as u64);
-    found & check::same(part(out, 0, value.len()), value)
+    found & (part(out, 0, value.len()) == value)
 }
 
 // Whether the value of the key is the one given.
@@ -101,14 +95,12 @@ fn value_right(file: &[u8], key: &[u8], value: &[u8]) -> bool {
 
 // Whether the keys of a run have their values.
 fn keys_right(file: &[u8], s: &[u8]) -> bool {
-    let mut left = number_at(s, 0);
     let mut at: usize = 4;
     let mut right = true;
-    while 0 < left {
+    for _ in 0..number_at(s, 0) {
         let value = run_end(s, at);
         right = right & value_right(file, run_at(s, at), run_at(s, value));
         at = run_end(s, value);
-        left -= 1;
     }
     right
 }
@@ -124,7 +116,7 @@ fn reading_fault(first: &[u8], file: &[u8], keys: &[u8]) -> u32 {
         return 6;
     }
     let before = rest(first, old.length as usize);
-    if !check::same(before, rest(file, new.length as usize)) {
+    if before != rest(file, new.length as usize) {
         return 7;
     }
     0

@@ -2,7 +2,7 @@
 use gate_frames::parts::{number_at, plus, run_at, run_end, wide_at};
 
 // What the settings up to a place in their run leave: the used length and the count, and whether all answers were right.
-#[derive(Drop)]
+#[derive(Clone, Copy)]
 pub struct Left {
     pub at: usize,
     pub used: usize,
@@ -44,10 +44,8 @@ fn start(used: usize, count: usize, right: bool) -> Left {
 // Runs the settings of a run.
 fn set_all(buf: &mut [u8], table: &mut [u32], s: &[u8], used: usize, count: usize) -> Left {
     let mut now = start(used, count, true);
-    let mut left = number_at(s, 0);
-    while 0 < left {
+    for _ in 0..number_at(s, 0) {
         now = set_next(buf, table, s, now);
-        left -= 1;
     }
     now
 }

@@ -49,10 +49,8 @@ pub const END: u32 = 7;
 // Where the run with this number starts.
 pub fn place(s: &[u8], number: u32) -> usize {
     let mut at: usize = 28;
-    let mut left = number;
-    while 0 < left {
+    for _ in 0..number {
         at = run_end(s, at);
-        left -= 1;
     }
     at
 }
@@ -71,10 +69,8 @@ fn store(out: &mut [u8], at: usize, b: u8) {
 
 // Stores bytes from `at` on, and returns the place after them.
 fn put(out: &mut [u8], at: usize, s: &[u8]) -> usize {
-    let mut j: usize = 0;
-    while j < s.len() {
+    for j in 0..s.len() {
         store(out, plus(at, j), s[j]);
-        j += 1;
     }
     plus(at, s.len())
 }
@@ -82,24 +78,20 @@ fn put(out: &mut [u8], at: usize, s: &[u8]) -> usize {
 // Stores bytes so many times from `at` on, and returns the place after them.
 fn put_times(out: &mut [u8], at: usize, times: u32, s: &[u8]) -> usize {
     let mut o = at;
-    let mut left = times;
-    while 0 < left {
+    for _ in 0..times {
         o = put(out, o, s);
-        left -= 1;
     }
     o
 }
 
 // Stores packed bytes at the front of the buffer.
 pub fn unpack(out: &mut [u8], s: &[u8]) {
-    let mut left = number_at(s, 0);
     let mut at: usize = 4;
     let mut o: usize = 0;
-    while 0 < left {
+    for _ in 0..number_at(s, 0) {
         let run = plus(at, 4);
         o = put_times(out, o, number_at(s, at), run_at(s, run));
         at = run_end(s, run);
-        left -= 1;
     }
 }
 
@@ -121,9 +113,7 @@ fn store_entry(table: &mut [u32], i: usize, s: &[u8]) {
 // Stores the entries of a run.
 pub fn put_entries(table: &mut [u32], s: &[u8]) {
     let n = s.len() / 4;
-    let mut i: usize = 0;
-    while i < n {
+    for i in 0..n {
         store_entry(table, i, s);
-        i += 1;
     }
 }
