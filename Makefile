@@ -1,4 +1,4 @@
-# make            proves the library and makes its archives, libcraneholt.a and, for the roof rig, libcraneholt_roof.a, in target/staticlib
+# make            proves the library and makes its archives, libcraneholt.a and, for the roof rig, libcraneholt_roof.a, each in the folder out of its crate
 # make list FILE=examples/sweep.nrrd   lists a file
 # make check      the tests from C, over the archives
 # make inputs     makes the input of the programs that the gate runs, and what they must print
@@ -17,27 +17,27 @@ RUNS    ?= 1
 ONLY    ?=
 
 VERSION = $(shell sed -n 's/^.define CRANEHOLT_VERSION "\(.*\)"/\1/p' include/craneholt.h)
-ARCHIVE = target/staticlib/libcraneholt.a
-ROOF    = target/staticlib/libcraneholt_roof.a
+ARCHIVE = crates/craneholt/out/libcraneholt.a
+ROOF    = crates/craneholt_roof/out/libcraneholt_roof.a
 ARCHIVES = $(ROOF) $(ARCHIVE)
-LISTING = target/bin/listing
+LISTING = crates/listing/out/listing
 BUILD   = build
 STRICT  = -std=c99 -Wall -Wextra -pedantic -Werror
 SANITIZE = -O1 -g -fsanitize=address,undefined -fno-sanitize-recover=all
-SOURCES = crates.txt $(shell find crates -name '*.rt' -o -name '*.antt')
+SOURCES = crates.txt $(shell find crates -name out -prune -o \( -name '*.rt' -o -name '*.antt' \) -print)
 
 .PHONY: all list check inputs peers teem-unu install uninstall size bench clean
 all: $(ARCHIVES)
 
 $(ARCHIVE): $(SOURCES)
-	@sh tools/prove.sh $(BUILD) staticlib craneholt
+	@sh tools/prove.sh $(BUILD) lib craneholt
 
-# after the library's, since rt works in one folder
+# one after the other, since they prove the same crates
 $(ROOF): $(SOURCES) | $(ARCHIVE)
-	@sh tools/prove.sh $(BUILD) staticlib craneholt_roof
+	@sh tools/prove.sh $(BUILD) lib craneholt_roof
 
 $(LISTING): $(SOURCES)
-	@sh tools/prove.sh $(BUILD) check listing
+	@sh tools/prove.sh $(BUILD) run listing
 
 list: $(LISTING)
 	@test -n "$(FILE)" || { echo "usage: make list FILE=examples/sweep.nrrd" >&2; exit 2; }

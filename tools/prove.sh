@@ -1,6 +1,7 @@
-# prove.sh FOLDER COMMAND CRATE: runs `rt COMMAND CRATE`. It tells on stderr each crate that is proved, and of how many: the crate and all that it
-# depends on by crates.txt. What rt says goes to FOLDER/CRATE.log, and is shown where rt fails.
-log=$1/$3.log
+# prove.sh FOLDER COMMAND CRATE: runs `rt COMMAND` in the crate's folder, with an empty standard input. It tells on stderr each crate that is proved;
+# one whose proof is kept from before is not named. What rt says goes to FOLDER/CRATE.log, and is shown where rt fails.
+mkdir -p "$1" || exit 2
+log=$(cd "$1" && pwd)/$3.log
 total=$(awk -v wanted="$3" '
     function reach(name, list, i, n) {
         if (name in reached || !(name in uses))
@@ -10,25 +11,20 @@ total=$(awk -v wanted="$3" '
         for (i = 1; i <= n; i++)
             reach(list[i])
     }
-    /^[a-z_0-9]+:/ { name = $1; $1 = ""; sub(":", "", name); uses[name] = $0 }
+    /^[a-z_0-9]+( staticlib)?:/ { name = $1; sub(":", "", name); sub("^[^:]*:", ""); uses[name] = $0 }
     END { reach(wanted); print count }' crates.txt) || exit 2
 echo "proving $3 and what it depends on, $total crates: minutes the first time" >&2
-mkdir -p "$1" || exit 2
+cd "crates/$3" || exit 2
 # the last line carries the exit status of rt over the pipe
-{ rt "$2" "$3" 2>&1; echo "rt ended with $?"; } | {
-    n=0
+{ rt "$2" < /dev/null 2>&1; echo "rt ended with $?"; } | {
+    name=
     while IFS= read -r line; do
         last=$line
         printf '%s\n' "$line" >&3
         case $line in
-        "rt: "*" proved (unchanged"*) n=$((n + 1)); continue ;;
-        "rt: "*" proved ("*) name=${line#rt: } ;;
-        # an archive: its crate is proved
-        "rt: target/staticlib/"*) name=$3 ;;
-        *) continue ;;
+        "crate "*": modules "*) name=${line#crate } name=${name%%:*} ;;
+        "logic=proved "*) echo "proved $name" >&2 ;;
         esac
-        n=$((n + 1))
-        echo "proved ${name%% *} ($n of $total)" >&2
     done
     test "$last" = "rt ended with 0"
 } 3> "$log" || { cat "$log" >&2; exit 1; }
