@@ -144,7 +144,7 @@ fn lifted(x: u64, w: usize, up: u16) -> u16
 // The 64 numbers from a place on, lifted.
 pub(crate) fn lift(s: &[u8], at: usize, w: usize, up: u16, big: bool) -> [u16; 64]
     requires width { Width w }
-    requires both_narrow { (w ≤ 2) × (up < range w) }
+    requires narrow_shift { (w ≤ 2) × (up < range w) }
     requires bytes_there { at + 64 * w ≤ length s.now }
     ensures { result ≡ lifts big w up 64 (drop at s.now) }
 {

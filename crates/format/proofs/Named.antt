@@ -1,4 +1,4 @@
--- Names under LIST, and the number of files (document 02, W5).
+-- Names under LIST, and the number of files (W5).
 -- Once LIST is given every line is a name or closes the header (`under_cases`): no pair and no field stands there, so keys and fields are looked up in the lines before the names.
 -- Assumes nothing.
 use Rattle.std.specs.Prelude.{if◌then◌else◌}

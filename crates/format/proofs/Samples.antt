@@ -92,7 +92,7 @@ module _ (endian : ℕ) (s : List ℕ) where
 
 -- ---- values and their bytes
 
--- `valueBytes w` gives w bytes
+-- `value_bytes w` gives w bytes
 pub length_value_bytes : (w endian : ℕ) (z : ℤ) → length (value_bytes w endian z) ≡ w
 unfolding value_bytes
 length_value_bytes w endian z = length_ordered endian (to_bytes w (from_signed w z)) ∙ length_to_bytes w (from_signed w z)

@@ -99,7 +99,7 @@ digits_few = of_decimal (λ n s. (k : ℕ) → n < 10 ^ suc k → length s ≤ s
     more n s h p zero l = absurd (omega (arith, pow-suc 10 0))
     more n s h p (suc k) l = simp length-append (omega (arith, p k (omega (arith, pow-suc 10 (suc k)))))
 
--- of a text that is not empty, `number` is `digitsFrom 0`
+-- of a text that is not empty, `number` is `digits_from 0`
 pub number_from : (s : List ℕ) → 1 ≤ length s → number s ≡ digits_from 0 s
 unfolding number
 number_from [] h = absurd (omega arith)

@@ -1,5 +1,5 @@
 -- Further trials of the reader by computation, beside the starred ones, as one list under one statement: `AcceptanceTrials`.
--- What they answer follows from document 01, "Lines and headers", "Understood fields", "Versions", "Order" and "Data and samples".
+-- What they answer follows from the rules, "Lines and headers", "Understood fields", "Versions", "Order" and "Data and samples".
 use Rattle.std.specs.Prelude.{ℕ, ◌+◌, ◌-◌, true, false, List, [], ◌∷◌, ◌++◌, replicate}
 use Prim.Native.String.{String}
 use Rattle.format.specs.declared.Refusal.{Refusal}
@@ -75,7 +75,7 @@ acceptance_trials =
     -- the first mark decides: a field with `:=` in its descriptor, and a pair, which version 1 does not have
     ∷ trial Refusal (with_lines 1 ("content: a:=b" ∷ [])) fine
     ∷ trial Refusal (with_lines 1 ("content:=a: b" ∷ [])) (at_line 8 6)
-    -- what is no name of one data file is not in this version (document 02, W5); in small letters `list` is a name
+    -- what is no name of one data file is not in this version (W5); in small letters `list` is a name
     ∷ trial Refusal (with_lines 1 ("data file: LIST" ∷ [])) (at_line 8 6)
     ∷ trial Refusal (with_lines 1 ("data file: LIST 2" ∷ [])) (at_line 8 6)
     ∷ trial Refusal (with_lines 1 ("data file: sweep%02d.raw" ∷ [])) (at_line 8 6)

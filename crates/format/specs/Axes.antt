@@ -1,4 +1,4 @@
--- The number of a sample from its coordinates (document 01, "Data and samples", the third paragraph; refusal 23).
+-- The number of a sample from its coordinates (rules, "Data and samples", the third paragraph; refusal 23).
 -- Axis 0 is fastest: c0 + s0 × (c1 + s1 × (...)), worked out from the slowest axis down.
 use Rattle.std.specs.Prelude.{ℕ, ◌+◌, ◌*◌, Bool, true, false, ◌&&◌, List, [], ◌∷◌, nat_lt}
 

@@ -1,4 +1,4 @@
--- Axis records (document 02, W6): what a header says of each axis, and the calls that hand the records over, the whole answer and the whole lent list, refused or not.
+-- Axis records (W6): what a header says of each axis, and the calls that hand the records over, the whole answer and the whole lent list, refused or not.
 use Rattle.std.specs.Prelude.{ℕ, zero, suc, ◌+◌, ◌/◌, List, [], ◌∷◌, ◌++◌, nat_lt, length, slice_index, replicate, if◌then◌else◌}
 use Rattle.format.specs.declared.Axis.{Axis}
 use Rattle.format.specs.declared.Axes.{Axes}

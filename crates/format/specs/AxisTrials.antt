@@ -1,4 +1,4 @@
--- Trials of strings, of the words of centers and kinds, and of axis records (document 02, W6; source 000, section 6) by computation, as one list under one statement: `AxisTrials`.
+-- Trials of strings, of the words of centers and kinds, and of axis records (W6; format, section 6) by computation, as one list under one statement: `AxisTrials`.
 use Rattle.std.specs.Prelude.{ℕ, List, [], ◌∷◌, map, replicate}
 use Prim.Native.String.{String}
 use Rattle.std.proofs.Math.Option.{Option, none, some}

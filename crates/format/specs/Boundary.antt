@@ -1,5 +1,5 @@
--- Numbers as callers in C lend them (document 01, "What is read, written and corrected"): in a table 4 bytes each, as samples, sizes and
--- coordinates 8, the low byte first. Decimals (document 02, W2) have 16 bytes each: the number 8, the power 4 and the kind 4.
+-- Numbers as callers in C lend them (rules, "What is read, written and corrected"): in a table 4 bytes each, as samples, sizes and
+-- coordinates 8, the low byte first. Decimals (W2) have 16 bytes each: the number 8, the power 4 and the kind 4.
 use Rattle.std.specs.Prelude.{ℕ, zero, suc, ◌/◌, List, [], ◌∷◌, ◌++◌, map, ℤ, length, take, drop}
 use Rattle.format.specs.declared.Decimal.{Decimal}
 use Rattle.format.specs.Bytes.{over}

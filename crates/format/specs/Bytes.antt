@@ -6,7 +6,7 @@
 -- An `Option` is `none` or `some` value. `λ x. ..` is a function of x, `map f s` is the list of what f gives for each entry of s. `(a, b)` is a pair, of the type
 -- `A × B`, `p.0` and `p.1` are its parts; `r.name` is a part of a record, `record { name = a; .. }` one with these parts. `data` lists the cases that a value may be.
 -- Numbers are whole and unbounded, `zero` or one more than another (`suc n`); `a - b` is 0 where b is larger. Of the signed ones `pos n` is n and `negsuc n` is -(n + 1).
--- `==`, `nat_lt` and `nat_le` test for equal, less, and less or equal; `not`, `&&` and `||` join tests.
+-- `==`, `nat_lt` and `nat_le` test for equal, less, and less or equal; `not`, `&&` and `||` join tests; `if t then a else b` is a where t is true, and b where it is false.
 -- `slice_index s i` is the number at place i of a list s, counted from 0, and 0 past its end; `slice_index_or s i d` the same of any list, with d past its end.
 -- A claim is a type: `a ≡ b` says that a and b are equal, `(n : ℕ) → n < 256 → a ≡ b` that they are for every n below 256; a record of claims says that all of them hold.
 -- `abbrev` and `unfoldable` say how proofs see a definition and change nothing of what it means.

@@ -268,7 +268,7 @@ set_answer buf used table count (changed (lent buf' used' table' count')) =
 abbrev pub set_key_call : List ℕ → ℕ → List ℕ → ℕ → List ℕ → List ℕ → SetAnswer × (List ℕ × List ℕ)
 set_key_call buf used table count k v = set_answer buf used table count (set_key (lent buf used table count) (setting k v))
 
--- ---- lists of settings (document 01, "Lists of settings"): each setting is lent what the one before it left
+-- ---- lists of settings (rules, "Lists of settings"): each setting is lent what the one before it left
 
 -- a call that sets a key: buffer, used length, table, count, key, value
 abbrev pub SetCall : Type 0

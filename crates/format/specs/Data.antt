@@ -1,5 +1,5 @@
--- The place of the data (document 01, "Data and samples", the first paragraph; a byte skip of -1: document 02, W1).
--- After the reading its refusals are tried in this order: 33 (more than one file: document 02, W5), 1 (a detached header's second file), 19 (where samples are wanted), 16, 17, 18.
+-- The place of the data (rules, "Data and samples", the first paragraph; a byte skip of -1: W1).
+-- After the reading its refusals are tried in this order: 33 (more than one file: W5), 1 (a detached header's second file), 19 (where samples are wanted), 16, 17, 18.
 use Rattle.std.specs.Prelude.{ℕ, zero, suc, ◌+◌, ◌-◌, ◌^◌, Bool, true, false, ◌&&◌, List, [], ◌∷◌, ◌==◌, nat_lt, nat_le, length, take, drop, if◌then◌else◌}
 use Rattle.std.proofs.Math.Option.{Option, none, some}
 use Rattle.format.specs.Bytes.{and_then, LF}

@@ -1,4 +1,4 @@
--- What a data file descriptor says (document 02, W5; source 000, section 3; document 01, "Understood fields", the last sentence).
+-- What a data file descriptor says (W5; format, section 3; rules, "Understood fields", the last sentence).
 -- It has one of three forms, told apart in this order: LIST, after which names stand on lines of their own; a pattern, which holds a `%`,
 -- with the numbers that go into it; and else, if it is not empty, the name of one file. The text is a descriptor: no space or tab stands at its ends.
 use Rattle.std.specs.Prelude.{ℕ, ◌+◌, ◌-◌, ◌/◌, Bool, true, false, not, ◌&&◌, ◌||◌, List, [], ◌∷◌, ◌==◌, nat_lt, drop, if◌then◌else◌}

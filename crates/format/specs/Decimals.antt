@@ -1,4 +1,4 @@
--- Exact decimals (document 02, W2): what the text of a component says.
+-- Exact decimals (W2): what the text of a component says.
 -- A component is what strtod of C takes as a decimal: a sign or none; digits with or without a point, at least one digit; an exponent or none, which is `e` in
 -- either case, a sign or none, and a digit or more. Or one of the words nan, inf, infinity after a sign or none, in any case. Hex is not taken, nor brackets after nan;
 -- what is too large or too small for a double is. The text is the component alone: blanks beside it are dropped before (`component_in`, Vectors).

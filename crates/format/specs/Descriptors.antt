@@ -1,5 +1,5 @@
--- Descriptors and what they mean (document 01, "Lines and headers", point 5; "Understood fields", "Needed", "Types";
--- "Data and samples", extent; document 02, W1, byte skips, W2, orientation, W5, data files, and W6, what is said of axes).
+-- Descriptors and what they mean (rules, "Lines and headers", point 5; "Understood fields", "Needed", "Types";
+-- "Data and samples", extent; W1, byte skips, W2, orientation, W5, data files, and W6, what is said of axes).
 use Rattle.std.specs.Prelude.{ℕ, ◌+◌, ◌-◌, ◌*◌, ◌%◌, min, Bool, true, false, not, ◌&&◌, ◌||◌, List, [], ◌∷◌, map, ◌==◌, nat_lt, length, drop, slice_index, slice_index_or, if◌then◌else◌}
 use Prim.Native.String.{String}
 use Rattle.std.proofs.Math.Option.{Option, none, some}
@@ -23,7 +23,7 @@ from_descriptor f rest = if is_understood f then trim_front rest else rest
 unfoldable pub descriptor : ℕ → List ℕ → List ℕ
 descriptor f rest = trim_end (from_descriptor f rest)
 
--- ---- byte skips (-1: document 02, W1)
+-- ---- byte skips (-1: W1)
 
 -- so many bytes are skipped; or, for -1, the data is the last bytes of what the line skip leaves
 pub data ByteSkip : Type 0 where
@@ -213,7 +213,7 @@ sizes_of gs = meaning [] sizes_said (descriptor_of sizes gs)
 abbrev pub is_detached : List Given → Bool
 is_detached gs = is_given data_file gs
 
--- ---- data files (document 02, W5; source 000, section 3)
+-- ---- data files (W5; format, section 3)
 
 -- what the data file field says, if it is given
 abbrev pub data_file_of : List Given → Option DataFile

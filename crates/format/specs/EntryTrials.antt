@@ -1,4 +1,4 @@
--- What the entry points answer on lent bytes, byte by byte, so that widths and the order of bytes are seen: S and the trials of document 01,
+-- What the entry points answer on lent bytes, byte by byte, so that widths and the order of bytes are seen: S and the trials of the rules,
 -- called as from C; and decimals in lent bytes. `EntryTrials` is the statement; proofs/ computes it.
 use Rattle.std.specs.Prelude.{ℕ, List, [], ◌∷◌, ◌++◌, pos, negsuc, replicate}
 use Rattle.format.specs.declared.ReadAnswer.{ReadAnswer}

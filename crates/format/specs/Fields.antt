@@ -1,5 +1,5 @@
 -- The 30 fields: their names in either spelling, first versions and order
--- (document 01, "Understood fields", "Carried fields", "Versions", "Order"; document 02, W2 and W6, those that became understood).
+-- (rules, "Understood fields", "Carried fields", "Versions", "Order"; W2 and W6, those that became understood).
 -- A field is a number from 0: its row in the table. The numbers are those that callers in C use: they stay when a field becomes understood.
 use Rattle.std.specs.Prelude.{ℕ, Bool, true, false, not, ◌&&◌, ◌||◌, List, [], ◌∷◌, ◌++◌, map, ◌==◌, length, slice_index_or, if◌then◌else◌}
 use Prim.Native.String.{String}
@@ -170,7 +170,7 @@ kinds = 29
 abbrev pub pairs_since : ℕ
 pairs_since = 2
 
--- data files by a pattern or under LIST are there from version 4 (document 02, W5)
+-- data files by a pattern or under LIST are there from version 4 (W5)
 abbrev pub many_files_since : ℕ
 many_files_since = 4
 
@@ -179,7 +179,7 @@ many_files_since = 4
 pub data Given : Type 0 where
   -- a field and its descriptor
   given : ℕ → List ℕ → Given
-  -- a file's name under LIST (document 02, W5)
+  -- a file's name under LIST (W5)
   named : List ℕ → Given
 
 -- the descriptor of a field, if it is given
@@ -199,7 +199,7 @@ file_names (named t ∷ gs) = file_names gs ++ (t ∷ [])
 
 -- ---- repeated fields
 
--- space and space dimension say the same: each counts as the other (document 02, W2)
+-- space and space dimension say the same: each counts as the other (W2)
 abbrev pub other_field : ℕ → ℕ
 other_field f = if f == space then space_dimension else if f == space_dimension then space else f
 

@@ -1,4 +1,4 @@
--- The names of data files, and the shares of the samples in them (document 02, W5; source 000, section 3).
+-- The names of data files, and the shares of the samples in them (W5; format, section 3).
 use Rattle.std.specs.Prelude.{ℕ, ◌+◌, ◌-◌, ◌*◌, ◌/◌, ◌%◌, Bool, true, false, List, [], ◌∷◌, ◌++◌, length, slice_index_or, replicate, if◌then◌else◌}
 use Rattle.std.proofs.Math.Option.{Option, none, some}
 use Rattle.format.specs.Bytes.{SPACE}

@@ -1,4 +1,4 @@
--- The calls for data in several files (document 02, W5): how many files there are, the name of one, and which of them a sample is in.
+-- The calls for data in several files (W5): how many files there are, the name of one, and which of them a sample is in.
 -- What is refused beside the reading: a file that there is not (29), then a buffer too short for its name (22); a sample that there is not (23).
 use Rattle.std.specs.Prelude.{ℕ, List, nat_lt, nat_le, length, if◌then◌else◌}
 use Rattle.format.specs.declared.Refusal.{Refusal}

@@ -1,4 +1,4 @@
--- Trials of data file descriptors, names of files and shares (document 02, W5; source 000, section 3) by computation, as one list under one statement: `FilesTrials`.
+-- Trials of data file descriptors, names of files and shares (W5; format, section 3) by computation, as one list under one statement: `FilesTrials`.
 use Rattle.std.specs.Prelude.{ℕ, zero, suc, true, false, List, [], ◌∷◌, ◌++◌, map, length}
 use Prim.Native.String.{String}
 use Rattle.std.proofs.Math.Option.{Option, none, some}

@@ -1,4 +1,4 @@
--- What the look-ups find, said by the reading instead of by lines and places (document 01, "Lines and headers", the reading):
+-- What the look-ups find, said by the reading instead of by lines and places (rules, "Lines and headers", the reading):
 -- the descriptor of a field (`descriptor_of`), and the value of a key (`value_of`) as it is written in the file.
 use Rattle.std.specs.Prelude.{ℕ, ◌+◌, ◌≤◌, ◌≡◌, true, List, length, take, drop}
 use Rattle.std.proofs.Math.Option.{Option, none, some}

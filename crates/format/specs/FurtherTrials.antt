@@ -1,5 +1,5 @@
--- Trials beside the starred ones, as one statement: `FurtherTrials`. They show rules of document 01 that the starred trials do not: which headers are
--- accepted, what the look-ups find, what is listed, which bytes are written, and the bytes of numbers that callers in C lend; the byte skip of -1 (document 02, W1); decimals,
+-- Trials beside the starred ones, as one statement: `FurtherTrials`. They show rules that the starred trials do not: which headers are
+-- accepted, what the look-ups find, what is listed, which bytes are written, and the bytes of numbers that callers in C lend; the byte skip of -1 (W1); decimals,
 -- vectors, spaces and headers with them (W2); data in several files (W5); and axis records (W6).
 use Rattle.format.specs.AcceptanceTrials.{AcceptanceTrials}
 use Rattle.format.specs.FindTrials.{FindTrials}

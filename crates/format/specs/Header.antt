@@ -1,5 +1,5 @@
 -- The header: what each line is, the walk over the lines with its refusals in order, the reading and the line table
--- (document 01, "Lines and headers", "Numbers of refusal", order for reading; document 02: the 11 with line 0, after 14, W1; names under LIST, the 11 after 13 and after 15, W5).
+-- (rules, "Lines and headers", "Numbers of refusal", order for reading; the requests: the 11 with line 0, after 14, W1; names under LIST, the 11 after 13 and after 15, W5).
 -- The refusals of a reading in their order: 1, 2, then for each line 3, 4 and 5 to 12, then 13, 11 (an empty LIST), 14, 11 (-1 without raw), 15, 11 (the number of files or of axes).
 use Rattle.std.specs.Prelude.{ℕ, ◌+◌, ◌-◌, Bool, true, false, not, List, [], ◌∷◌, map, nat_lt, length, if◌then◌else◌}
 use Rattle.std.proofs.Math.Option.{Option, none, some}

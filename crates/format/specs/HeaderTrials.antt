@@ -1,4 +1,4 @@
--- Trials of headers with an orientation by computation (document 02, W2; source 000, section 4), as one list under one statement: `HeaderTrials`.
+-- Trials of headers with an orientation by computation (W2; format, section 4), as one list under one statement: `HeaderTrials`.
 use Rattle.std.specs.Prelude.{ℕ, true, false, List, [], ◌∷◌, ◌++◌, pos, negsuc, length, replicate}
 use Prim.Native.String.{String}
 use Rattle.std.proofs.Math.Option.{Option, none, some}

@@ -1,4 +1,4 @@
--- The header writer (document 02, W2): the text of a header with its orientation, and the whole answer of the call.
+-- The header writer (W2): the text of a header with its orientation, and the whole answer of the call.
 use Rattle.std.specs.Prelude.{ℕ, ◌/◌, ◌%◌, Bool, true, false, not, ◌&&◌, List, [], ◌∷◌, ◌++◌, map, ◌==◌, nat_lt, nat_le, ℤ, length, take, if◌then◌else◌}
 use Prim.Native.String.{String}
 use Rattle.std.proofs.Math.Option.{Option, none, some}

@@ -1,4 +1,4 @@
--- Hex digits over all 256 bytes (document 02, W3): what the three ranges of `Samples.hex_digit` say of each byte, compared with the digits as text.
+-- Hex digits over all 256 bytes (W3): what the three ranges of `Samples.hex_digit` say of each byte, compared with the digits as text.
 use Rattle.std.specs.Prelude.{ℕ, ◌+◌, ◌<◌, ◌≡◌, Bool, true, false, List, [], ◌∷◌, ◌==◌, if◌then◌else◌}
 use Rattle.std.proofs.Math.Option.{Option, none, some}
 use Rattle.format.specs.Bytes.{bytes, every_below, or_else}

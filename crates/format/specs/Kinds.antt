@@ -1,4 +1,4 @@
--- The centring and the kind of an axis (source 000, section 6; document 02, W6): words that ignore case. A record has the number of a word's row: 0 is unknown.
+-- The centring and the kind of an axis (format, section 6; W6): words that ignore case. A record has the number of a word's row: 0 is unknown.
 use Rattle.std.specs.Prelude.{ℕ, List, [], ◌∷◌}
 use Prim.Native.String.{String}
 use Rattle.std.proofs.Math.Option.{Option}
@@ -6,7 +6,7 @@ use Rattle.format.specs.Bytes.{row_of}
 use Rattle.format.specs.Words.{words}
 use Rattle.format.specs.Vectors.{said_by}
 
--- document 02 lists these itself: `none` is not one of them
+-- request W6 lists these itself: `none` is not one of them
 abbrev pub centring_words : List (List String)
 centring_words = ("???" ∷ []) ∷ ("cell" ∷ []) ∷ ("node" ∷ []) ∷ []
 

@@ -23,7 +23,7 @@ use Rattle.format.specs.AxisRecords.{strings_of, string_place_of}
 use Rattle.format.specs.Trials.{AtLimits}
 use Rattle.format.specs.Boundary.{word_bytes, numbers_of, samples_lent, lent_numbers, lent_samples, decimal_bytes, decimal_of}
 
--- ---- the line rule (document 01, "Lines and headers", the first point), said of lines instead of computed
+-- ---- the line rule (rules, "Lines and headers", the first point), said of lines instead of computed
 
 abbrev pub not_lf : ℕ → Bool
 not_lf b = not (b == LF)
@@ -65,7 +65,7 @@ AllBytes s = AllBelow 256 s
 abbrev pub FitsBytes : Decimal → Type 0
 FitsBytes d = (in_type signed 8 d.number ≡ true) × (in_type signed 4 d.power ≡ true) × (d.kind < 256 ^ 4)
 
--- ---- a descriptor of strings (source 000, section 6; document 02, W6), said of its strings instead of read byte by byte
+-- ---- a descriptor of strings (format, section 6; W6), said of its strings instead of read byte by byte
 
 -- a string of a descriptor: the blanks before it, and its text
 pub data Piece : Type 0 where

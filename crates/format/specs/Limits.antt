@@ -1,4 +1,4 @@
--- The limits of document 01, and those of document 02 on spaces and file names, each named once.
+-- The limits of the rules, and those of the requests on spaces and file names, each named once.
 use Rattle.std.specs.Prelude.{ℕ, ◌+◌, ◌*◌, min}
 use Rattle.format.specs.declared.Limits.{Limits}
 
@@ -38,15 +38,15 @@ past_extent = max_extent + 1
 abbrev pub max_version : ℕ
 max_version = 5
 
--- the largest dimension of a space, as the field space dimension says it (document 02, W2)
+-- the largest dimension of a space, as the field space dimension says it (W2)
 abbrev pub max_space : ℕ
 max_space = 8
 
--- the largest first and last number of a file name pattern, and the largest size of its step (document 02, W5)
+-- the largest first and last number of a file name pattern, and the largest size of its step (W5)
 abbrev pub max_file_number : ℕ
 max_file_number = 4_294_967_295
 
--- the largest width of a number in such a pattern (document 02, W5)
+-- the largest width of a number in such a pattern (W5)
 abbrev pub max_width : ℕ
 max_width = 99
 

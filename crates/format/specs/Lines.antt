@@ -1,4 +1,4 @@
--- Lines, their endings and their places (document 01, "Lines and headers", the first point; "line table").
+-- Lines, their endings and their places (rules, "Lines and headers", the first point; "line table").
 -- A file is a list of lines. `unlines` gives the bytes back, and `lines` is the only split by the rule: proofs/Lines.antt.
 use Rattle.std.specs.Prelude.{ℕ, ◌+◌, List, [], ◌∷◌, ◌++◌, ◌==◌, length, if◌then◌else◌}
 use Rattle.format.specs.Bytes.{LF, CR}

@@ -1,4 +1,4 @@
--- Trials of whole headers with data in several files, and of the calls for them (document 02, W5) by computation, as one list under one statement: `ListTrials`.
+-- Trials of whole headers with data in several files, and of the calls for them (W5) by computation, as one list under one statement: `ListTrials`.
 use Rattle.std.specs.Prelude.{ℕ, zero, suc, ◌+◌, ◌-◌, true, List, [], ◌∷◌, ◌++◌, length, take, replicate}
 use Prim.Native.String.{String}
 use Rattle.format.specs.declared.Refusal.{Refusal}

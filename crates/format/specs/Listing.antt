@@ -1,4 +1,4 @@
--- What the listing program prints (document 01, "Trials", the listing program), and the call that lists a file.
+-- What the listing program prints (rules, "Trials", the listing program), and the call that lists a file.
 use Rattle.std.specs.Prelude.{ℕ, false, List, [], ◌∷◌, ◌++◌, ◌==◌, nat_lt, length, if◌then◌else◌}
 use Prim.Native.String.{String}
 use Rattle.std.proofs.Math.Option.{Option, none, some}

@@ -1,4 +1,4 @@
--- What the listing program prints for S (document 01, "Trials"), and for files that show its order of keys, its escapes and its refusals.
+-- What the listing program prints for S (rules, "Trials"), and for files that show its order of keys, its escapes and its refusals.
 -- `ListingTrials` is the statement; proofs/ computes it.
 use Rattle.std.specs.Prelude.{List, [], ◌∷◌, ◌++◌, ℕ}
 use Prim.Native.String.{String}

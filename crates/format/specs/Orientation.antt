@@ -1,4 +1,4 @@
--- The orientation that a header says, and the calls for it (document 02, W2): the whole answer of each, refused or not.
+-- The orientation that a header says, and the calls for it (W2): the whole answer of each, refused or not.
 use Rattle.std.specs.Prelude.{ℕ, ◌-◌, ◌/◌, Bool, true, false, nat_lt, length, slice_index_or, replicate, if◌then◌else◌}
 use mathlib.Core.List.{List, [], ◌∷◌, ◌++◌, flat_map}
 use Rattle.std.proofs.Math.Option.{Option, none, some}

@@ -1,4 +1,4 @@
--- Trials of decimals, vectors, spaces and their text (document 02, W2; source 000, section 4) by computation, as one list under one statement: `OrientationTrials`.
+-- Trials of decimals, vectors, spaces and their text (W2; format, section 4) by computation, as one list under one statement: `OrientationTrials`.
 use Rattle.std.specs.Prelude.{ℕ, List, [], ◌∷◌, map, pos, negsuc}
 use Prim.Native.String.{String}
 use Rattle.std.proofs.Math.Option.{Option, none, some}

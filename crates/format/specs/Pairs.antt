@@ -1,4 +1,4 @@
--- What a line is by its text, and the escapes of key pairs (document 01, "Lines and headers", points 3 and 6).
+-- What a line is by its text, and the escapes of key pairs (rules, "Lines and headers", points 3 and 6).
 use Rattle.std.specs.Prelude.{ℕ, Bool, true, false, not, ◌||◌, List, [], ◌∷◌, ◌++◌, ◌==◌, if◌then◌else◌}
 use Rattle.std.proofs.Math.Option.{Option, none, some}
 use Rattle.format.specs.Bytes.{bytes, between, TAB, LF, SPACE, HASH, COLON, EQUALS, BACKSLASH, onto}

@@ -1,6 +1,6 @@
--- The numbers of refusal by name, in the order of document 01 ("Numbers of refusal") and of document 02.
+-- The numbers of refusal by name, in the order of the rules ("Numbers of refusal") and of the requests.
 -- A refusal is one record: its number, and the line at which the reader met it (numbers 2 to 12); 0 where no line is meant,
--- as for the 11 of a byte skip of -1 with text or hex (document 02, W1), and of the number of files or of the axes that one covers (W5).
+-- as for the 11 of a byte skip of -1 with text or hex (W1), and of the number of files or of the axes that one covers (W5).
 use Rattle.std.specs.Prelude.{ℕ}
 use Rattle.format.specs.declared.Refusal.{Refusal}
 use Rattle.format.specs.declared.RefusalNumbers.{RefusalNumbers}
@@ -113,15 +113,15 @@ wrong_table = 26
 abbrev pub wrong_count : ℕ
 wrong_count = 27
 
--- the file is no sweep of the roof rig, its key `utc offset` is wrong, or the largest step is outside its range (document 02, W4)
+-- the file is no sweep of the roof rig, its key `utc offset` is wrong, or the largest step is outside its range (W4)
 abbrev pub no_sweep : ℕ
 no_sweep = 28
 
--- a file number past the last (document 02, W5)
+-- a file number past the last (W5)
 abbrev pub no_such_file : ℕ
 no_such_file = 29
 
--- the data is in more than one file (document 02, W5)
+-- the data is in more than one file (W5)
 abbrev pub several_files : ℕ
 several_files = 33
 

@@ -1,4 +1,4 @@
--- How much room is always enough for what a call stores: the manual promises it (include/craneholt.h), and document 01 asks for refusal 22 only where
+-- How much room is always enough for what a call stores: the manual promises it (include/craneholt.h), and the rules ask for refusal 22 only where
 -- what is lent is too short ("Numbers of refusal"). That it is enough is the theorem of `theorem_room`; each call's contract says its own part, but for those of the
 -- orientation and that of `read_records::list::axes`. The room of a listing is `Limits.max_listing`.
 use Rattle.std.specs.Prelude.{ℕ, ◌+◌, ◌*◌, ◌≤◌, ◌≡◌, List, length, take}
@@ -57,7 +57,7 @@ pub record Copied (p : FindAnswer) (a : ValueAnswer) : Type 0 where
 
 -- ---- the name of a data file
 
--- bytes for the name of any file of a header (document 02, W5): it stands in the header, or a pattern does, whose number takes at most as many bytes as the largest width
+-- bytes for the name of any file of a header (W5): it stands in the header, or a pattern does, whose number takes at most as many bytes as the largest width
 abbrev pub name_room : ℕ
 name_room = max_header + max_width
 
@@ -94,7 +94,7 @@ frame_room = max_space * max_space * decimal_width
 
 -- ---- axis records
 
--- records for the axes of a header (document 02, W6): there are never more
+-- records for the axes of a header (W6): there are never more
 abbrev pub axis_records : ℕ
 axis_records = max_axes
 

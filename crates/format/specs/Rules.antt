@@ -1,4 +1,4 @@
--- When a header keeps the rules of document 01, with requests W1, W2, W5 and W6 of document 02: `KeepsRules`.
+-- When a header keeps the rules, with those of the requests W1, W2, W5 and W6: `KeepsRules`.
 -- It is said of all lines at once, each with the lines before it, and not by a walk over them.
 -- Headers are accepted exactly when they keep the rules: the laws `accepted_keeps` and `keeps_accepted` (specs/Laws.antt).
 -- At each rule stand its heading, where that is not "Lines and headers", and the number of the refusal where it is broken.
@@ -20,7 +20,7 @@ is_comment [] = false
 is_comment (b ∷ t) = b == HASH
 
 -- a line that is neither empty nor a comment: each of its bytes is a tab or from 32 to 126 ("Numbers of refusal"; 5).
--- It stands after no LIST: there it would be a name (document 02, W5).
+-- It stands after no LIST: there it would be a name (W5).
 pub record OtherLine (gs : List Given) (t : List ℕ) : Type 0 where
   pub no_names : names_follow gs ≡ false
   pub filled : is_empty t ≡ false
@@ -41,11 +41,11 @@ pub record FieldLine (version : ℕ) (gs : List Given) (t : List ℕ) (f : ℕ) 
   -- its first mark is `: ` (6), and the text before it is a name of the field ("Understood fields", "Carried fields"; 7)
   pub marked : FirstMark t name (bytes ": ") rest
   pub named : field_named name ≡ some f
-  -- this version has the field ("Versions"), and a data file by a pattern or LIST (document 02, W5; 8)
+  -- this version has the field ("Versions"), and a data file by a pattern or LIST (W5; 8)
   pub in_version : since f d ≤ version
   -- no line before gives it, in either spelling ("Numbers of refusal"; 9)
   pub new : is_given f gs ≡ false
-  -- of space and space dimension no line before gives the other (document 02, W2; 9)
+  -- of space and space dimension no line before gives the other (W2; 9)
   pub other_new : is_given (other_field f) gs ≡ false
   -- a per-axis field comes after dimension, and a field that lies in a space after space or space dimension ("Order"; 10)
   pub after_dimension : needs_dimension f ≡ true → is_given dimension gs ≡ true
@@ -68,7 +68,7 @@ pub record PairLine (version : ℕ) (gs : List Given) (t k v : List ℕ) : Type 
   pub key_is : unescape key ≡ some k
   pub value_is : unescape value ≡ some v
 
--- a line with the text t is the name n of a file: it stands after LIST, is not empty, and is the name whole; each of its bytes is one that a field may hold (document 02, W5; 5)
+-- a line with the text t is the name n of a file: it stands after LIST, is not empty, and is the name whole; each of its bytes is one that a field may hold (W5; 5)
 pub record NameLine (gs : List Given) (t n : List ℕ) : Type 0 where
   pub follows : names_follow gs ≡ true
   pub filled : is_empty t ≡ false
@@ -112,7 +112,7 @@ pub record Needed (gs : List Given) : Type 0 where
   pub has_sizes : is_given sizes gs ≡ true
   pub has_endian : endian_needed (type_of gs) (encoding_of gs) ≡ true → is_given endian gs ≡ true
 
--- Each of k files covers the c fastest of n axes with the sizes ns (document 02, W5; source 000, section 3; 11).
+-- Each of k files covers the c fastest of n axes with the sizes ns (W5; format, section 3; 11).
 pub record Covers (n : ℕ) (ns : List ℕ) (k c : ℕ) : Type 0 where
   pub least : 1 ≤ c
   pub most : c ≤ n
@@ -141,16 +141,16 @@ pub record KeepsRules (file : List ℕ) (es : List Entry) (gs : List Given) (r :
       → (has_ending (ending l) ≡ true) × (after ≡ [])
   -- without that line the header closes at the end of the bytes, and has a data file field (13)
   pub unclosed : closed others ≡ false → (r ≡ []) × (is_given data_file gs ≡ true)
-  -- its fields and names are those that its lines give, and the needed fields are among them; at least one name follows LIST (document 02, W5; 11)
+  -- its fields and names are those that its lines give, and the needed fields are among them; at least one name follows LIST (W5; 11)
   pub fields : gs ≡ fields_of others
   pub needed : Needed gs
   pub list_filled : names_follow gs ≡ true → 1 ≤ length (file_names gs)
-  -- a byte skip of -1 stands with raw alone (document 02, W1; 11)
+  -- a byte skip of -1 stands with raw alone (W1; 11)
   pub end_is_raw : byte_skip_of gs ≡ from_end → encoding_of gs ≡ raw
   -- the limits of the file, the header's bytes and lines, and the extent ("Numbers of refusal"; 1, 3, 4, 15)
   pub file_bytes : length file ≤ max_file
   pub header_bytes : header_length es ≤ max_header
   pub header_lines : length es ≤ max_lines
   pub extent_bytes : extent_of gs ≤ max_extent
-  -- where a pattern or LIST names the files: their number, and that of the axes that one covers, one less than the dimension where it is left open (document 02, W5; 11)
+  -- where a pattern or LIST names the files: their number, and that of the axes that one covers, one less than the dimension where it is left open (W5; 11)
   pub files_cover : (axes : Option ℕ) → cover_of gs ≡ some axes → Covers (dimension_of gs) (sizes_of gs) (file_count_of gs) (or_default (dimension_of gs - 1) axes)

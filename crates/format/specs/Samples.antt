@@ -1,4 +1,4 @@
--- Integer samples in raw, hex and text (document 01, "Data and samples", the second paragraph).
+-- Integer samples in raw, hex and text (rules, "Data and samples", the second paragraph).
 -- Of 20 and 21 the one that comes first in the data is told: samples are judged one after the other, each when it is whole.
 use Rattle.std.specs.Prelude.{ℕ, zero, suc, ◌+◌, ◌*◌, ◌-◌, ◌^◌, ◌/◌, ◌%◌, min, Bool, ◌||◌, List, [], ◌∷◌, reverse, ◌==◌, nat_le, nat_lt, ℤ, pos, negsuc, neg_ℤ, length, take, drop, if◌then◌else◌}
 use Rattle.std.proofs.Math.Option.{Option, none, some}

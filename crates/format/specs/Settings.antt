@@ -1,4 +1,4 @@
--- Setting a key (document 01, "Setting a key"); lists of settings are in Calls.antt.
+-- Setting a key (rules, "Setting a key"); lists of settings are in Calls.antt.
 -- A setting's refusals in order: 22 (the used length), the reading's, 8, 24, 25, 26, and of the new file 3, 4, 1, 22.
 use Rattle.std.specs.Prelude.{ℕ, ◌-◌, max, Bool, not, ◌&&◌, ◌||◌, List, [], ◌∷◌, ◌++◌, ◌==◌, nat_lt, nat_le, length, take, drop, replicate, if◌then◌else◌}
 use Rattle.format.specs.declared.Refusal.{Refusal}

@@ -1,4 +1,4 @@
--- Trials of a byte skip of -1 (document 02, W1) by computation, as one list under one statement: `SkipTrials`.
+-- Trials of a byte skip of -1 (W1) by computation, as one list under one statement: `SkipTrials`.
 use Rattle.std.specs.Prelude.{ℕ, true, false, List, [], ◌∷◌, ◌++◌, ℤ, pos, replicate}
 use Prim.Native.String.{String}
 use Rattle.format.specs.declared.Refusal.{Refusal}

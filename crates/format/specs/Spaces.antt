@@ -1,5 +1,5 @@
--- The spaces that a header may name, and their dimensions (source 000, section 4; document 02, W2).
--- A space is a number from 0: its row in the table. Names and abbreviations ignore case (document 01, "Understood fields").
+-- The spaces that a header may name, and their dimensions (format, section 4; W2).
+-- A space is a number from 0: its row in the table. Names and abbreviations ignore case (rules, "Understood fields").
 use Rattle.std.specs.Prelude.{ℕ, List, [], ◌∷◌, map, length, slice_index_or}
 use Prim.Native.String.{String}
 use Rattle.std.proofs.Math.Option.{Option}

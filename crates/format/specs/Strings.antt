@@ -1,4 +1,4 @@
--- Strings in double quotes, as labels and units have them (source 000, section 6; document 02, W6): one for each axis, parted by spaces and tabs.
+-- Strings in double quotes, as labels and units have them (format, section 6; W6): one for each axis, parted by spaces and tabs.
 -- A quote right after a backslash is inside of its string, also where that backslash follows another. The text is what stands between the quotes, backslashes kept.
 -- No other blank than these is in such a line: one with another is refused before (5).
 use Rattle.std.specs.Prelude.{ℕ, ◌+◌, Bool, false, not, ◌&&◌, List, [], ◌∷◌, ◌==◌, length, if◌then◌else◌}

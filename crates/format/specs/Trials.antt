@@ -1,5 +1,5 @@
--- The starred trials (document 01, "Trials"), as one list under one statement: `StarredTrials`.
--- Each trial is what a call answers, beside what document 01 says it answers; proofs/ computes them all.
+-- The starred trials (rules, "Trials"), as one list under one statement: `StarredTrials`.
+-- Each trial is what a call answers, beside what the rules say that it answers; proofs/ computes them all.
 use Rattle.std.specs.Prelude.{ℕ, zero, suc, ◌+◌, ◌-◌, ◌≡◌, true, false, List, [], ◌∷◌, ◌++◌, ℤ, pos, negsuc, replicate}
 use Prim.Native.String.{String}
 use Rattle.format.specs.declared.Refusal.{Refusal}
@@ -124,7 +124,7 @@ sample_of type encoding content =
 abbrev pub set_in_s : String → String → SetAnswer × (List ℕ × List ℕ)
 set_in_s k v = set_key_call (file_s ++ replicate 8 9) 122 (table_s ++ replicate 2 7) 10 (bytes k) (bytes v)
 
--- ---- the trials, by document 01's numbers
+-- ---- the trials, by the rules' numbers
 
 abbrev pub starred_trials : List Trial
 starred_trials =

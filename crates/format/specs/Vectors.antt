@@ -1,4 +1,4 @@
--- Vectors (source 000, section 4; document 02, W2): round brackets with commas, and `none` for an axis without a direction.
+-- Vectors (format, section 4; W2): round brackets with commas, and `none` for an axis without a direction.
 -- Blanks part them outside of brackets; between brackets they may stand beside a component. They are spaces and tabs: a line with another blank is refused before (5).
 use Rattle.std.specs.Prelude.{ℕ, Bool, true, false, not, ◌&&◌, List, [], ◌∷◌, ◌==◌, length, if◌then◌else◌}
 use Rattle.std.proofs.Math.Option.{Option, none, some}

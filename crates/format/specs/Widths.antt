@@ -1,4 +1,4 @@
--- The width, kind and endian of samples as the code carries them (document 01, "Types").
+-- The width, kind and endian of samples as the code carries them (rules, "Types").
 use Rattle.std.specs.Prelude.{ℕ, ◌≡◌, ◌⊎◌, Bool, true, false, ◌||◌, ◌==◌, if◌then◌else◌}
 use Rattle.format.specs.Descriptors.{NumberKind, signed, unsigned, little, big}
 

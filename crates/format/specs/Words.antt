@@ -1,5 +1,5 @@
 -- Texts in a header: blanks left out at both ends, numbers, and what blanks part
--- (document 01, "Lines and headers", point 5; "Understood fields").
+-- (rules, "Lines and headers", point 5; "Understood fields").
 use Rattle.std.specs.Prelude.{ℕ, ◌+◌, ◌-◌, ◌*◌, Bool, true, false, ◌&&◌, List, [], ◌∷◌, if◌then◌else◌}
 use Rattle.std.proofs.Math.Option.{Option, none, some}
 use Rattle.format.specs.Bytes.{between, space_or_tab, is_digit, is_empty, or_default}

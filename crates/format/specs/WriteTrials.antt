@@ -1,4 +1,4 @@
--- What the writer writes, byte by byte, and what it refuses (document 01, "What is read, written and corrected", "Numbers of refusal"):
+-- What the writer writes, byte by byte, and what it refuses (rules, "What is read, written and corrected", "Numbers of refusal"):
 -- `WriteTrials` is the statement; proofs/ computes it.
 use Rattle.std.specs.Prelude.{ℕ, List, [], ◌∷◌, ◌++◌, ℤ, pos, negsuc, replicate}
 use Rattle.format.specs.declared.WriteAnswer.{WriteAnswer}

@@ -1,4 +1,4 @@
--- The bytes of a written file, and the writer's refusals in order (document 01, "Writer"; order 11, 15, 19, 27, 20, 1, 22).
+-- The bytes of a written file, and the writer's refusals in order (rules, "Writer"; order 11, 15, 19, 27, 20, 1, 22).
 use Rattle.std.specs.Prelude.{ℕ, zero, suc, ◌+◌, ◌-◌, ◌/◌, ◌%◌, Bool, true, false, not, ◌&&◌, List, [], ◌∷◌, ◌++◌, ◌==◌, nat_lt, ℤ, pos, negsuc, length, slice_index_or, if◌then◌else◌}
 use Prim.Native.String.{String}
 use Rattle.format.specs.Bytes.{bytes, between, is_in, LF, SPACE, MINUS}

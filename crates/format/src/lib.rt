@@ -13,7 +13,7 @@ ghost use Rattle.format.specs.Trials.{StarredTrials};
 pub mod field;
 pub mod wide;
 
-// The limits of document 01.
+// The limits of the rules.
 pub const MAX_FILE: usize = 4294967295;
 
 pub const MAX_HEADER: usize = 65535;
@@ -125,7 +125,7 @@ pub const NO_SUCH_FILE: u32 = 29;
 
 pub const SEVERAL_FILES: u32 = 33;
 
-// Encodings and endians are numbered from 0 as document 01 lists them: those that the code asks for. The types are in `format_values::types`.
+// Encodings and endians are numbered from 0 as the rules list them: those that the code asks for. The types are in `format_values::types`.
 pub const RAW: u32 = 0;
 
 pub const TEXT: u32 = 1;
@@ -253,7 +253,7 @@ pub struct Axis {
     pub size: u64,
     // 0 unknown, 1 cell, 2 node
     pub centring: u32,
-    // 0 unknown, else from 1 as section 6 of source 000 lists them
+    // 0 unknown, else from 1 as section 6 of the format's definition lists them
     pub kind: u32,
     // where the text of the label lies in the file, without its quotes; both 0 where the field is not given
     pub labelplace: u32,
@@ -280,7 +280,7 @@ pub struct Reading {
     pub form: u32,
     // 1 to `MAX_AXES`
     pub dimension: u32,
-    // numbered from 0 as document 01 lists them: int8, uint8, int16, .. double
+    // numbered from 0 as the rules list them: int8, uint8, int16, .. double
     pub sampletype: u32,
     // 0 raw, 1 text, 2 hex
     pub encoding: u32,
@@ -301,7 +301,7 @@ pub struct Reading {
     pub origin: bool,
     pub directions: bool,
     pub frame: bool,
-    // the space, numbered from 0 as section 4 of source 000 lists them, `NO_SPACE` where none is named
+    // the space, numbered from 0 as section 4 of the format's definition lists them, `NO_SPACE` where none is named
     pub space: u32,
     // the dimension of the space, by its name or as given, 1 to `MAX_SPACE`; 0 where there is none
     pub spacedimension: u32,
@@ -450,7 +450,7 @@ pub fn refusal_numbers() -> RefusalNumbers
     }
 }
 
-// The starred trials of document 01 hold of the definitions.
+// The starred trials of the rules hold of the definitions.
 pub fn starred_trials() -> u64
     ensures { StarredTrials }
 {

@@ -4,7 +4,7 @@ ghost use Rattle.format.specs.Descriptors.{sample_bytes, number_kind, is_signed,
 ghost use Rattle.format.specs.Samples.{lowest, highest};
 ghost use Rattle.format.specs.Widths.{kind_by, width_by};
 
-// Types are numbered from 0 as document 01 lists them: first the integer ones, signed and unsigned by turns, then float and double.
+// Types are numbered from 0 as the rules list them: first the integer ones, signed and unsigned by turns, then float and double.
 pub const FLOAT: u64 = 8;
 
 pub const COUNT: u64 = 10;

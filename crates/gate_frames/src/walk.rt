@@ -1,5 +1,6 @@
 // The walk through the groups and cases of the input. While `left` is not 0 the program runs the next case and hands `next` the part that is
 // wrong; each call lowers the number with the digits `groups` and `left`, so the walk ends.
+// An error is that of a read or a write of the standard streams; the caller's walk is then as it was.
 ghost use Rattle.std.specs.Prelude.{◌+◌, ◌-◌, ◌*◌, ◌<◌, ◌≤◌, ◌≡◌, IfOk};
 
 use crate::report::MALFORMED;

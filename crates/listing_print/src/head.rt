@@ -14,7 +14,7 @@ use format::Reading;
 // The row of a table for a number, and the row `past` for a number that the table does not have.
 fn row(number: u32, rows: u32, past: usize) -> usize
     requires { past < rows }
-    ensures is { result ≡ row_for number rows past }
+    ensures row { result ≡ row_for number rows past }
     ensures within { result < rows }
 {
     if number < rows { number as usize } else { past }

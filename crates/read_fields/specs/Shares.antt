@@ -1,5 +1,5 @@
 -- Internal to this crate. Whether data files fit the sizes, as the code asks it: by products that stop at the least number that is no extent, and without the test
--- that their number divides that of the samples, which follows (`Sharing.fits-is`).
+-- that their number divides that of the samples, which follows (`Sharing.fits_is`).
 use Rattle.std.specs.Prelude.{ℕ, ◌-◌, ◌%◌, Bool, true, false, List, ◌==◌, nat_lt, drop, slice_index, if◌then◌else◌}
 use Rattle.format.specs.Descriptors.{product, capped}
 

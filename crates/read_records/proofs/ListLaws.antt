@@ -1,7 +1,7 @@
 -- The records worked out by value, once they lie at the front of the lent list, are what the call for the list hands over.
 --     few, within     as many records as are handed over are among the 16, and have room in the list
---     handed-over     the answer, and the list with these records at its front, are those of the call
---     handed-bytes    the same of lent bytes with the records' bytes at their front
+--     handed_over     the answer, and the list with these records at its front, are those of the call
+--     handed_bytes    the same of lent bytes with the records' bytes at their front
 -- Assumes nothing.
 use Rattle.std.specs.Prelude.{if◌then◌else◌}
 use mathlib.Core.Path.{◌≡◌, refl}

@@ -1,4 +1,4 @@
--- Laws of `saidBy k f ws`, what each of the k texts ws says: text by text, as loops go over them.
+-- Laws of `said_by k f ws`, what each of the k texts ws says: text by text, as loops go over them.
 -- Assumes nothing.
 use Rattle.std.specs.Prelude.{if◌then◌else◌}
 use Prim.Native.Nat.{ℕ, zero, suc, ◌-◌, ◌<◌}

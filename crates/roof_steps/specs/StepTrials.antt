@@ -1,4 +1,4 @@
--- Trials of the search for the first wrong step (document 02, W4) by computation, as one list under one statement: `StepTrials`.
+-- Trials of the search for the first wrong step (W4) by computation, as one list under one statement: `StepTrials`.
 use Rattle.std.specs.Prelude.{ℕ, List, [], ◌∷◌, pos, negsuc}
 use Rattle.std.proofs.Math.Option.{Option, none, some}
 use Rattle.format.specs.Trials.{Trial, trial, Hold}

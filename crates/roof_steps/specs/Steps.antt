@@ -1,4 +1,4 @@
--- Stamps of a counter, the steps between them, and the first row with a wrong step (document 02, W4).
+-- Stamps of a counter, the steps between them, and the first row with a wrong step (W4).
 use Rattle.std.specs.Prelude.{ℕ, zero, suc, ◌+◌, ◌-◌, ◌*◌, ◌%◌, Bool, true, false, List, [], ◌∷◌, drop, ℤ, pos, slice_index_or, if◌then◌else◌}
 use Rattle.std.proofs.Math.Option.{Option, none, some}
 use Rattle.roof_steps.specs.declared.WrongRow.{WrongRow}

@@ -24,7 +24,7 @@ offset_in none = none
 offset_in (some v) = offset_said v
 
 pub record SweepLaws : Type 0 where
-  -- a refused call leaves the list, and every lent byte, as it was (demand 1)
+  -- a refused call leaves the list, and every lent byte, as it was
   pub list_kept : (file : List ℕ) (list : List ℤ) (largest : ℕ) → Refused (sweep_call file list largest).0.refusal → (sweep_call file list largest).1 ≡ list
   pub bytes_kept : (file list : List ℕ) (largest : ℕ) → AllBytes list → Refused (sweep_entry file list largest).0.refusal → (sweep_entry file list largest).1 ≡ list
   -- an accepted one leaves in it what the sample call would

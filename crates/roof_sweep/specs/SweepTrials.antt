@@ -1,4 +1,4 @@
--- Trials of the call for a sweep (document 02, W4) by computation, as one list under one statement: `SweepTrials`.
+-- Trials of the call for a sweep (W4) by computation, as one list under one statement: `SweepTrials`.
 use Rattle.std.specs.Prelude.{ℕ, true, false, List, [], ◌∷◌, ◌++◌, ℤ, pos, replicate}
 use Prim.Native.String.{String}
 use Rattle.roof_sweep.specs.declared.SweepAnswer.{SweepAnswer}

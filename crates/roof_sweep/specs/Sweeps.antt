@@ -1,4 +1,4 @@
--- The roof rig's call for a sweep (document 02, W4): the samples of a file that has to be a sweep, the offset that its key says, and the first row with a
+-- The roof rig's call for a sweep (W4): the samples of a file that has to be a sweep, the offset that its key says, and the first row with a
 -- wrong step. It is said by the definitions of the library's calls (format/specs/Calls), of numbers in a text and in lent bytes (Words, Boundary), and of
 -- the steps (roof_steps/specs/Steps).
 use Rattle.std.specs.Prelude.{ℕ, Bool, not, false, ◌&&◌, List, [], ◌==◌, ℤ, length, slice_index, take, drop, if◌then◌else◌}
@@ -17,7 +17,7 @@ use Rattle.format.specs.Calls.{read_header_call, find_key_call, check_samples_ca
 
 -- ---- what a sweep is
 
--- numbers as a reading has them: form 0 is attached, and type 5 is uint32, counted from 0 in document 01's list
+-- numbers as a reading has them: form 0 is attached, and type 5 is uint32, counted from 0 in the rules' list
 abbrev pub attached : ℕ
 attached = 0
 

@@ -1,5 +1,5 @@
--- A list of craneholt_set_key calls does to the bytes of a table what the calls on numbers do to the numbers that they hold: demand 3 of
--- specs/Callers.antt.
+-- A list of craneholt_set_key calls does to the bytes of a table what the calls on numbers do to the numbers that they hold, as
+-- specs/Callers.antt says.
 -- Assumes nothing.
 use Rattle.std.specs.Prelude.{if◌then◌else◌}
 use mathlib.Core.Path.{◌≡◌, refl, sym, ap, subst, ◌∙◌}

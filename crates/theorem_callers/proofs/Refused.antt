@@ -1,4 +1,4 @@
--- A refused call leaves every lent byte as it was: demand 1 of specs/Callers.antt.
+-- A refused call leaves every lent byte as it was, as specs/Callers.antt says.
 -- Assumes nothing.
 use Rattle.std.specs.Prelude.{if◌then◌else◌}
 use mathlib.Core.Path.{◌≡◌, refl, ap, ◌∙◌}

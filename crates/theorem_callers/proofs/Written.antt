@@ -1,4 +1,4 @@
--- What craneholt_write wrote is read back: demand 2 of specs/Callers.antt.
+-- What craneholt_write wrote is read back, as specs/Callers.antt says.
 -- Assumes nothing.
 use Rattle.std.specs.Prelude.{if◌then◌else◌}
 use mathlib.Core.Path.{◌≡◌, refl, sym, ap, subst, ◌∙◌}

@@ -1,5 +1,5 @@
 -- What the demands say of the bytes that callers in C lend, beyond what each entry point's own contract says, as one statement: `CallersHold`.
--- A refused call leaves them (demand 1), what is written is read back (demand 2; headers with their orientation: document 02, W2), lists of settings (demand 3).
+-- A refused call leaves them, what is written is read back (headers with their orientation too: W2), and every list of settings keeps what it does not set.
 -- It speaks of what the entry points answer, which their contracts cite (EntryPoints.antt, Calls.antt, Files.antt, Orientation.antt, AxisRecords.antt, Listing.antt), over the
 -- bytes that callers lend, however many. Numbers in lent bytes have their low byte first: 4 bytes an entry of a table, 8 a size or a sample (Boundary.antt), 32 an axis record.
 use Rattle.std.specs.Prelude.{ℕ, ◌*◌, ◌/◌, ◌≤◌, ◌<◌, ◌≡◌, not, ◌==◌, length, take, drop, if◌then◌else◌}
@@ -29,14 +29,14 @@ use Rattle.theorem_roundtrip.specs.RoundTrip.{read_back, data_back}
 use Rattle.theorem_headers.specs.HeadersBack.{origin_given, directions_given, frame_given, size_given, meant_orientation, read_back as header_back, origin_back, direction_back, frame_back}
 use Rattle.theorem_lists.specs.Lists.{table_in, count_in, file_in, last_accepted, resized, moved_axis, Settled, first_case, set_cases}
 
--- a call answers the number of its refusal, 0 where nothing is refused (document 01, "Numbers of refusal")
+-- a call answers the number of its refusal, 0 where nothing is refused (rules, "Numbers of refusal")
 abbrev pub NotRefused : Refusal → Type 0
 NotRefused r = r.number ≡ 0
 
 abbrev pub Refused : Refusal → Type 0
 Refused r = NotRefused r → ⊥
 
--- ---- demand 1: a refused call leaves every lent byte as it was (document 01, "Numbers of refusal")
+-- ---- a refused call leaves every lent byte as it was (rules, "Numbers of refusal")
 
 pub record RefusedKeeps : Type 0 where
   -- craneholt_read: the table
@@ -55,10 +55,10 @@ pub record RefusedKeeps : Type 0 where
       → Refused (directions_entry file list).0.refusal → (directions_entry file list).1 ≡ list
   pub frame : (file list : List ℕ)
       → Refused (frame_entry file list).0.refusal → (frame_entry file list).1 ≡ list
-  -- craneholt_file_name: the buffer (document 02, W5)
+  -- craneholt_file_name: the buffer (W5)
   pub name : (file : List ℕ) (n : ℕ) (out : List ℕ)
       → Refused (file_name_call file n out).0.refusal → (file_name_call file n out).1 ≡ out
-  -- craneholt_axes: the list; and the list of records that `read_records::list::axes` is lent (document 02, W6)
+  -- craneholt_axes: the list; and the list of records that `read_records::list::axes` is lent (W6)
   pub axes : (file list : List ℕ)
       → Refused (axes_entry file list).0.refusal → (axes_entry file list).1 ≡ list
   pub records : (file : List ℕ) (list : List Axis)
@@ -77,7 +77,7 @@ pub record RefusedKeeps : Type 0 where
   pub listing : (file out : List ℕ)
       → Refused (listing_call file out).0.refusal → (listing_call file out).1 ≡ out
 
--- ---- demand 2: what craneholt_write wrote is read back (document 01, "Writer")
+-- ---- what craneholt_write wrote is read back (rules, "Writer")
 
 -- the bytes of the whole samples; a rest too short for one is not used
 abbrev pub whole_samples : List ℕ → List ℕ
@@ -108,7 +108,7 @@ WritesAreRead =
     → let a = write_entry version sizes t e endian samples out in
     NotRefused a.0.refusal → FileReadBack version sizes t e endian samples out a.0.length a.1
 
--- ---- a header that craneholt_write_header wrote is read back with its orientation (document 02, W2)
+-- ---- a header that craneholt_write_header wrote is read back with its orientation (W2)
 
 -- the orientation that the lent bytes hold (EntryPoints.antt); without bytes nothing is given
 abbrev pub orientation_lent : List ℕ → Orientation
@@ -141,8 +141,8 @@ HeadersAreRead =
     → let a = write_header_entry version sizes t e endian given out in
     NotRefused a.0.refusal → HeaderReadBack version sizes t e endian (orientation_lent given) out a.0.length a.1
 
--- ---- demand 3: any list of calls of craneholt_set_key after craneholt_read, each lent what the one before it left (document 01,
--- "Lists of settings")
+-- ---- any list of calls of craneholt_set_key after craneholt_read, each lent what the one before it left
+-- (rules, "Lists of settings")
 
 -- what is lent, its table as the numbers that the table's bytes hold
 abbrev pub in_numbers : Lent → Lent
@@ -182,12 +182,12 @@ pub record Carried (first table : List ℕ) (after : Lent) (done : List Setting)
   pub origin : (list : List ℕ) → origin_entry (file_in after) list ≡ origin_entry first list
   pub directions : (list : List ℕ) → directions_entry (file_in after) list ≡ directions_entry first list
   pub frame : (list : List ℕ) → frame_entry (file_in after) list ≡ frame_entry first list
-  -- craneholt_files, craneholt_file_name and craneholt_sample_file answer and leave what they did before, with any number and buffer (document 02, W5)
+  -- craneholt_files, craneholt_file_name and craneholt_sample_file answer and leave what they did before, with any number and buffer (W5)
   pub files : file_count_call (file_in after) ≡ file_count_call first
   pub name : (n : ℕ) (out : List ℕ) → file_name_call (file_in after) n out ≡ file_name_call first n out
   pub sample_file : (s : ℕ) → sample_file_call (file_in after) s ≡ sample_file_call first s
   -- craneholt_axes answers as before, with any list, and leaves the bytes of the first records but for the places of labels and units, which move with their lines; their texts
-  -- are the same (Lists.antt: `label`, `unit`). Bytes past the records are as lent (document 02, W6)
+  -- are the same (Lists.antt: `label`, `unit`). Bytes past the records are as lent (W6)
   pub axes : (list : List ℕ)
       → axes_entry (file_in after) list
       ≡ records_over (axes_entry first list).0 (map (moved_axis first_fields first_entries settled.entries) (axes_of first_entries first_fields)) list

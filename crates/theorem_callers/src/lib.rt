@@ -3,7 +3,7 @@
 
 ghost use Rattle.theorem_callers.specs.Callers.{CallersHold};
 
-// A refused entry point leaves them, what is written is read back, headers with their orientation too, and every list of settings does what demand 3 says.
+// A refused entry point leaves them, what is written is read back, headers with their orientation too, and after every list of settings the file is what the settings accepted make of it.
 pub fn callers_hold() -> u64
     ensures { CallersHold }
 {

@@ -1,4 +1,4 @@
--- Data in several files (document 02, W5; source 000, section 3), as one statement about the definitions alone: `FilesHold`. The shares of the files are all samples,
+-- Data in several files (W5; format, section 3), as one statement about the definitions alone: `FilesHold`. The shares of the files are all samples,
 -- each sample in one place, for every accepted header; a word is taken as a pattern exactly where it writes one; the numbers of a pattern are those that section 3 says, no more and no fewer; and the files of a pattern have different names.
 use Rattle.std.specs.Prelude.{ℕ, ◌+◌, ◌*◌, ◌%◌, ◌≤◌, ◌<◌, max, ◌≡◌, Bool, true, false, List, [], ◌∷◌, ◌++◌, ◌==◌, length, slice_index_or, if◌then◌else◌}
 use Rattle.std.proofs.Math.Option.{Option, some}

@@ -1,4 +1,4 @@
--- A header that is written with its orientation is read back (document 02, W2), as one statement: `HeadersReadBack`.
+-- A header that is written with its orientation is read back (W2), as one statement: `HeadersReadBack`.
 -- It speaks of `write_header`, the definition that the header writer's contract cites, and of the answers of the reading calls.
 use Rattle.std.specs.Prelude.{ℕ, ◌≤◌, ◌<◌, ◌-◌, ◌≡◌, Bool, true, false, not, ◌&&◌, ◌||◌, List, [], ◌++◌, map, length, slice_index_or, replicate, if◌then◌else◌}
 use Rattle.std.proofs.Math.Option.{Option, none, some}

@@ -1,4 +1,4 @@
-// A header that is written with its orientation is read back (document 02, W2), of the definitions that the header writer and the readers are proved against.
+// A header that is written with its orientation is read back (W2), of the definitions that the header writer and the readers are proved against.
 #![tactic(auto)]
 
 ghost use Rattle.theorem_headers.specs.HeadersBack.{HeadersReadBack};

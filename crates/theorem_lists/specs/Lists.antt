@@ -1,4 +1,4 @@
--- What every list of settings does (demand 3; document 01, "Lists of settings"), as one statement: `SettingsHold`.
+-- What every list of settings does (rules, "Lists of settings"), as one statement: `SettingsHold`.
 -- It speaks of `set_key_call`, the definition that the setter's contract cites, and of `set_keys`, which is that call again and again.
 use Rattle.std.specs.Prelude.{ℕ, ◌+◌, ◌-◌, ◌≤◌, ◌<◌, max, ◌≡◌, Bool, true, false, not, ◌&&◌, ◌||◌, List, [], ◌∷◌, ◌++◌, map, ◌==◌, nat_lt, ℤ, length, take, drop, replicate, if◌then◌else◌}
 use Rattle.std.proofs.Math.Option.{Option, none, some}
@@ -116,7 +116,7 @@ abbrev pub moved_place : ℕ → ℕ → DataAnswer → DataAnswer
 moved_place h n d =
     record { refusal = d.refusal; second = d.second; start = if in_first d then n + (d.start - h) else d.start; length = d.length }
 
--- ---- axis records (document 02, W6): a label or a unit counts by its text, and its place moves with the lines before it
+-- ---- axis records (W6): a label or a unit counts by its text, and its place moves with the lines before it
 
 -- what a line gives is the field f
 abbrev pub is_field : ℕ → Option Given → Bool
@@ -166,25 +166,25 @@ pub record Settled (first : List ℕ) (es : List Entry) (gs : List Given) (ls : 
   pub version : version_of entries ≡ version_of es
   -- its numbers are the first ones, but for the header's length, the count of its lines, which is the carried one, and how many of these stand before the names under LIST
   pub numbers : read_header_call (file_in after) ≡ record { refusal = fine; reading = resized (header_length entries) (count_in after) (field_lines entries) (read_header_call first).reading }
-  -- the orientation is the first one: the origin, the direction of each axis, the frame (document 02, W2)
+  -- the orientation is the first one: the origin, the direction of each axis, the frame (W2)
   pub origin : origin_call (file_in after) ≡ origin_call first
   pub direction : (axis : ℕ) → direction_call (file_in after) axis ≡ direction_call first axis
   pub frame : frame_call (file_in after) ≡ frame_call first
-  -- as many files hold the data as in the first reading, whether one, or several by a pattern or under LIST (document 02, W5)
+  -- as many files hold the data as in the first reading, whether one, or several by a pattern or under LIST (W5)
   pub files : file_count_call (file_in after) ≡ file_count_call first
-  -- the name of each of them is the same, into whatever buffer; a number past the last is refused as before (document 02, W5)
+  -- the name of each of them is the same, into whatever buffer; a number past the last is refused as before (W5)
   pub name : (n : ℕ) (out : List ℕ) → file_name_call (file_in after) n out ≡ file_name_call first n out
-  -- each sample is in the same file, at the same byte of that file's share (document 02, W5)
+  -- each sample is in the same file, at the same byte of that file's share (W5)
   pub sample_file : (s : ℕ) → sample_file_call (file_in after) s ≡ sample_file_call first s
-  -- the record of each axis is the first one, but for the places of its label and of its unit: each is as far past the start of its line as it was (document 02, W6)
+  -- the record of each axis is the first one, but for the places of its label and of its unit: each is as far past the start of its line as it was (W6)
   pub axis : (i : ℕ) → i < dimension_of gs → axis_of entries gs i ≡ moved_axis gs es entries (axis_of es gs i)
   -- where the field is given, such a place is never before the start of its line
   pub label_in_line : (i : ℕ) → i < dimension_of gs → is_given labels gs ≡ true → line_start labels es ≤ (axis_of es gs i).labelplace
   pub unit_in_line : (i : ℕ) → i < dimension_of gs → is_given units gs ≡ true → line_start units es ≤ (axis_of es gs i).unitplace
-  -- the text of each label and of each unit is the same bytes (document 02, W6)
+  -- the text of each label and of each unit is the same bytes (W6)
   pub label : (i : ℕ) → label_in (file_in after) (axis_of entries gs i) ≡ label_in first (axis_of es gs i)
   pub unit : (i : ℕ) → unit_in (file_in after) (axis_of entries gs i) ≡ unit_in first (axis_of es gs i)
-  -- the call for the records answers as before, a refusal too, and leaves these records in whatever list; those past the dimension are as lent (document 02, W6)
+  -- the call for the records answers as before, a refusal too, and leaves these records in whatever list; those past the dimension are as lent (W6)
   pub axes : (list : List Axis) → axes_call (file_in after) list ≡ moved_axes gs es entries (axes_call first list)
   -- a key that was set has its latest accepted value, any other key the one that it had in the first reading
   pub values : (k : List ℕ) → value_of k entries ≡ or_else (last_accepted k done) (value_of k es)
@@ -194,10 +194,10 @@ pub record Settled (first : List ℕ) (es : List Entry) (gs : List Given) (ls : 
   -- a fresh reading with a table of its own, which has room for every line, answers them
   pub fresh : (own : List ℕ) → length entries ≤ length own
       → read_call (file_in after) own ≡ (read_header_call (file_in after), over (take (count_in after) (table_in after)) own)
-  -- all other header lines are the same, in order, names under LIST among them, also those that look like a pair (document 02, W5);
+  -- all other header lines are the same, in order, names under LIST among them, also those that look like a pair (W5);
   -- lines set keep place and ending, inserted ones stand after line 1, later above earlier
   pub lines : lines_of entries ≡ settled done es
-  -- the lines from the first name under LIST on, the names and the line that closes the header, are the first ones (document 02, W5)
+  -- the lines from the first name under LIST on, the names and the line that closes the header, are the first ones (W5)
   pub names : drop (field_lines entries) (lines_of entries) ≡ drop (field_lines es) (lines_of es)
   -- the data and all else after the header is the same bytes
   pub rest : drop (header_length entries) (file_in after) ≡ drop (header_length es) first

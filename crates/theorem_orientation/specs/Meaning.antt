@@ -1,4 +1,4 @@
--- What the text of a decimal means, stated apart from the definition `component` (document 02, W2), as one statement: `DecimalsMean`.
+-- What the text of a decimal means, stated apart from the definition `component` (W2), as one statement: `DecimalsMean`.
 -- A text is put together from the parts that strtod of C takes; its value is the sum of its digits, each times ten to the power of its place.
 use Rattle.std.specs.Prelude.{ℕ, ◌+◌, ◌-◌, ◌*◌, ◌^◌, ◌≡◌, Bool, true, not, ◌&&◌, ◌||◌, List, [], ◌∷◌, ◌++◌, nat_lt, nat_le, ℤ, pos, negsuc, neg_ℤ, nat_abs, ◌+ℤ◌, ◌-ℤ◌, length, if◌then◌else◌}
 use Rattle.std.proofs.Math.Option.{Option, none, some}

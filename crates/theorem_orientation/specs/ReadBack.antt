@@ -1,4 +1,4 @@
--- What is written of an orientation is read back (document 02, W2), as one statement: `OrientationReadsBack`.
+-- What is written of an orientation is read back (W2), as one statement: `OrientationReadsBack`.
 use Rattle.std.specs.Prelude.{ℕ, ◌<◌, ◌≡◌, Bool, true, ◌&&◌, List, [], ◌∷◌, map, ◌==◌, nat_lt, nat_le, nat_abs, length, if◌then◌else◌}
 use Rattle.std.proofs.Math.Option.{Option, none, some}
 use Rattle.format.specs.declared.Decimal.{Decimal}

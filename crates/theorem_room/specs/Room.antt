@@ -17,7 +17,7 @@ pub record RoomEnough : Type 0 where
   pub table_enough : (file table : List ℕ) → table_entries ≤ length table → (read_call file table).0 ≡ read_header_call file
   -- the length that `find_key` tells is enough for the value
   pub value_enough : (file k buf : List ℕ) → value_room (find_key_call file k) ≤ length buf → Copied (find_key_call file k) (copy_value_call file k buf).0
-  -- the name of any data file (document 02, W5)
+  -- the name of any data file (W5)
   pub name_enough : (file : List ℕ) (n : ℕ) (out : List ℕ) → name_room ≤ length out → Enough (file_name_call file n out).0.refusal
   -- as many entries as the sizes ask for
   pub samples_enough : (file second : List ℕ) (list : List ℤ) → samples_room (header file) ≤ length list → Enough (samples_call file second list).0.refusal
@@ -29,6 +29,6 @@ pub record RoomEnough : Type 0 where
   pub origin_enough : (file list : List ℕ) → origin_room ≤ length list → Enough (origin_entry file list).0.refusal
   pub directions_enough : (file list : List ℕ) → directions_room ≤ length list → Enough (directions_entry file list).0.refusal
   pub frame_enough : (file list : List ℕ) → frame_room ≤ length list → Enough (frame_entry file list).0.refusal
-  -- the records of all axes, in a list of records and in bytes (document 02, W6)
+  -- the records of all axes, in a list of records and in bytes (W6)
   pub records_enough : (file : List ℕ) (list : List Axis) → axis_records ≤ length list → Enough (axes_call file list).0.refusal
   pub axes_enough : (file list : List ℕ) → axes_room ≤ length list → Enough (axes_entry file list).0.refusal

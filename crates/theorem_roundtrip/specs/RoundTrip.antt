@@ -1,4 +1,4 @@
--- What is written is read back (demand 2), as one statement: `RoundTrips`.
+-- What is written is read back, as one statement: `RoundTrips`.
 -- It speaks of `file_bytes` and `write_refusal`, the definitions that the writer's contract cites, and of the answers of the reading calls.
 use Rattle.std.specs.Prelude.{ℕ, ◌≤◌, ◌-◌, ◌≡◌, false, List, ◌++◌, ℤ, length, replicate, if◌then◌else◌}
 use Rattle.format.specs.declared.ReadAnswer.{ReadAnswer}

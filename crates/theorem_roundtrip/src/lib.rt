@@ -1,4 +1,4 @@
-// What the writer writes is read back: demand 2, of the definitions that the writer is proved against.
+// What the writer writes is read back, of the definitions that the writer is proved against.
 #![tactic(auto)]
 
 ghost use Rattle.theorem_roundtrip.specs.RoundTrip.{RoundTrips};

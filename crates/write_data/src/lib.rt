@@ -174,7 +174,7 @@ fn put_hex(
 // How many bytes the data takes.
 fn data_length(samples: &[i64], lent: &[u8], packed: bool, encoding: u64, w: usize) -> usize
     requires { (length (chosen packed samples.now lent.now) ≤ max_extent) × (length (chosen packed samples.now lent.now) * w ≤ max_extent) }
-    ensures value { (endian : ℕ) → result ≡ length (data_bytes encoding w endian (chosen packed samples.now lent.now)) }
+    ensures length_of_data { (endian : ℕ) → result ≡ length (data_bytes encoding w endian (chosen packed samples.now lent.now)) }
     ensures long { result ≤ sample_room * max_extent }
 {
     if encoding == wide::TEXT {
@@ -209,7 +209,7 @@ pub fn file_refusal(
     room: usize,
 ) -> u32
     requires bounded { (start ≤ header_room) × (length (chosen packed samples.now lent.now) ≤ max_extent) × (length (chosen packed samples.now lent.now) * w ≤ max_extent) }
-    requires lines { length (text_data (chosen packed samples.now lent.now)) ≤ sample_room * length (chosen packed samples.now lent.now) }
+    requires text_bounded { length (text_data (chosen packed samples.now lent.now)) ≤ sample_room * length (chosen packed samples.now lent.now) }
     ensures { (endian : ℕ) → result ≡ late_refusal (start + length (data_bytes encoding w endian (chosen packed samples.now lent.now))) room }
 {
     if any_text_fits(

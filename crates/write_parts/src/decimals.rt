@@ -97,7 +97,7 @@ pub fn put_decimal(out: &mut [u8], at: usize, n: u64) -> usize
 // How many digits a number of up to four has.
 fn length_to_4(n: u64) -> usize
     requires { n < 10000 }
-    ensures is { result ≡ length (decimal n) }
+    ensures digits { result ≡ length (decimal n) }
     ensures few { result ≤ 4 }
 {
     if 1000 <= n {
@@ -115,7 +115,7 @@ fn length_to_4(n: u64) -> usize
 // The same for up to eight digits.
 fn length_to_8(n: u64) -> usize
     requires { n < 100000000 }
-    ensures is { result ≡ length (decimal n) }
+    ensures digits { result ≡ length (decimal n) }
     ensures few { result ≤ 8 }
 {
     if n < 10000 {
@@ -127,7 +127,7 @@ fn length_to_8(n: u64) -> usize
 // The same for up to twelve digits.
 fn length_to_12(n: u64) -> usize
     requires { n < 1000000000000 }
-    ensures is { result ≡ length (decimal n) }
+    ensures digits { result ≡ length (decimal n) }
     ensures few { result ≤ 12 }
 {
     if n < 100000000 {
@@ -138,7 +138,7 @@ fn length_to_12(n: u64) -> usize
 
 // The same for any number.
 pub fn decimal_length(n: u64) -> usize
-    ensures is { result ≡ length (decimal n) }
+    ensures digits { result ≡ length (decimal n) }
     ensures few { result ≤ 20 }
 {
     if n < 100000000 {

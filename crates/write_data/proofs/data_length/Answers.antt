@@ -12,7 +12,7 @@ returns-then-encoding-eq-TEXT c =
     let a = c.args in
     let zs = chosen a.packed a.samples.now a.lent.now in
     let p = c.text_length in
-    record { value = λ n. p.ensures.0 ∙ ap length (sym (text_is a.encoding a.w n zs c.if-encoding-eq-TEXT.true)); long = omega (arith, p.ensures.1, c.requires.0) }
+    record { length_of_data = λ n. p.ensures.0 ∙ ap length (sym (text_is a.encoding a.w n zs c.if-encoding-eq-TEXT.true)); long = omega (arith, p.ensures.1, c.requires.0) }
 
 pub overflow_mul-size : goal.overflow_mul-size
 overflow_mul-size c =
@@ -24,7 +24,7 @@ returns-then-encoding-eq-RAW c =
     let a = c.args in
     let zs = chosen a.packed a.samples.now a.lent.now in
     let q = ap (λ (k : ℕ). k * a.w) c.count.ensures in
-    record { value = λ n. q ∙ sym (raw_is_long a.encoding a.w n zs c.if-encoding-eq-RAW.true); long = omega (arith, q, c.requires.1) }
+    record { length_of_data = λ n. q ∙ sym (raw_is_long a.encoding a.w n zs c.if-encoding-eq-RAW.true); long = omega (arith, q, c.requires.1) }
 
 pub overflow_mul-result : goal.overflow_mul-result
 overflow_mul-result c =
@@ -41,4 +41,4 @@ returns c =
     let a = c.args in
     let zs = chosen a.packed a.samples.now a.lent.now in
     let q = ap (λ (k : ℕ). k * a.w) c.count.ensures in
-    record { value = λ n. omega (arith, q, hex_is_long a.encoding a.w n zs c.if-encoding-eq-RAW.false c.if-encoding-eq-TEXT.false); long = omega (arith, q, c.requires.1) }
+    record { length_of_data = λ n. omega (arith, q, hex_is_long a.encoding a.w n zs c.if-encoding-eq-RAW.false c.if-encoding-eq-TEXT.false); long = omega (arith, q, c.requires.1) }

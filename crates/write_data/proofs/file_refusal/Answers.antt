@@ -18,7 +18,7 @@ returns-then-any_text_fits c =
     let zs = chosen a.packed a.samples.now a.lent.now in
     let p = c.any_text_fits.ensures c.if-any_text_fits.true in
     let q = p.1 ∙ ap (λ (k : ℕ). late_refusal (a.start + 22 * k) a.room) c.count.ensures in
-    λ n. late_less (a.start + length (data_bytes a.encoding a.w n zs)) (a.start + 22 * length zs) a.room (omega (arith, ap length (text_is a.encoding a.w n zs p.0), c.requires.lines)) q
+    λ n. late_less (a.start + length (data_bytes a.encoding a.w n zs)) (a.start + 22 * length zs) a.room (omega (arith, ap length (text_is a.encoding a.w n zs p.0), c.requires.text_bounded)) q
 
 pub returns : goal.returns
-returns c = λ n. c.late_refusal.ensures ∙ ap (λ (k : ℕ). late_refusal (c.args.start + k) c.args.room) (c.data_length.ensures.value n)
+returns c = λ n. c.late_refusal.ensures ∙ ap (λ (k : ℕ). late_refusal (c.args.start + k) c.args.room) (c.data_length.ensures.length_of_data n)

@@ -36,7 +36,7 @@ file_refusal-late-requires c =
     let w = c.sample_bytes-w in
     let r = e.ensures.known z in
     let t : all_in_type (number_kind a.sampletype) w.result zs ≡ true = rw w.ensures r.in_type in
-    record { bounded = (h.ensures.long, few_samples a.version a.sizes.now a.sampletype a.encoding a.endian zs r, omega (arith, r.extent_small, ap (λ (k : ℕ). length zs * k) w.ensures)); lines = omega (arith, text_bound w.result (width_le w.result (rw w.ensures (type_width a.sampletype))) (number_kind a.sampletype) zs t) }
+    record { bounded = (h.ensures.long, few_samples a.version a.sizes.now a.sampletype a.encoding a.endian zs r, omega (arith, r.extent_small, ap (λ (k : ℕ). length zs * k) w.ensures)); text_bounded = omega (arith, text_bound w.result (width_le w.result (rw w.ensures (type_width a.sampletype))) (number_kind a.sampletype) zs t) }
 
 pub returns-then-late-ne0 : goal.returns-then-late-ne0
 returns-then-late-ne0 c =

@@ -12,7 +12,7 @@ returns-then-out-length c =
     let p = c.padding-pad in
     let d = c.decimal_length-digits in
     let name = pattern_name (pattern a.before.now a.zeros a.width a.after.now) a.value in
-    let n = numbered_length a.before.now a.zeros a.width a.after.now a.value d.result p.result d.ensures.is p.ensures in
+    let n = numbered_length a.before.now a.zeros a.width a.after.now a.value d.result p.result d.ensures.digits p.ensures in
     (λ i. (c.nameless.ensures i, a.out.now)) ∙ name_short name a.out.now (omega (arith, n, c.if-out-length.true))
 
 pub returns : goal.returns
@@ -26,7 +26,7 @@ returns c =
     let p = c.padding-pad in
     let d = c.decimal_length-digits in
     let name = pattern_name (pattern a.before.now a.zeros a.width a.after.now) a.value in
-    let n = numbered_length a.before.now a.zeros a.width a.after.now a.value d.result p.result d.ensures.is p.ensures in
+    let n = numbered_length a.before.now a.zeros a.width a.after.now a.value d.result p.result d.ensures.digits p.ensures in
     name_stored name a.out.now _ n (omega (arith, n, c.if-out-length.false)) _
-    (numbered_stored a.before.now a.zeros a.width a.after.now a.value d.result p.result d.ensures.is p.ensures a.out.now _ _ _ _ _ _ _ _
+    (numbered_stored a.before.now a.zeros a.width a.after.now a.value d.result p.result d.ensures.digits p.ensures a.out.now _ _ _ _ _ _ _ _
     before.ensures.stored before.ensures.place byte.ensures run.ensures.stored run.ensures.place number.ensures.stored number.ensures.place.0 after.ensures.stored)

@@ -14,7 +14,7 @@ word-requires c =
 
 pub lifted-requires : goal.lifted-requires
 lifted-requires c =
-    (narrow_below c.args.w _ c.requires.width c.requires.both_narrow.0 c.word.ensures.less, c.requires.both_narrow.1)
+    (narrow_below c.args.w _ c.requires.width c.requires.narrow_shift.0 c.word.ensures.less, c.requires.narrow_shift.1)
 
 pub bounds-a-i : goal.bounds-a-i
 bounds-a-i c = omega (arith, c.loop-i.invariant.run.long)

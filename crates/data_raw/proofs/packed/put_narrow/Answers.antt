@@ -26,7 +26,7 @@ overflow_mul-k c =
 pub lift-requires : goal.lift-requires
 lift-requires c =
     let a = c.args in
-    record { width = c.requires.width; both_narrow = (c.requires.narrow, c.requires.shift.within); bytes_there = narrow_room in_bytes a.s.now a.n a.w a.signed a.big a.up a.dst.now _ c.loop-k.invariant c.requires.bytes_there }
+    record { width = c.requires.width; narrow_shift = (c.requires.narrow, c.requires.shift.within); bytes_there = narrow_room in_bytes a.s.now a.n a.w a.signed a.big a.up a.dst.now _ c.loop-k.invariant c.requires.bytes_there }
 
 pub put_lifted-requires : goal.put_lifted-requires
 put_lifted-requires c =

@@ -1,4 +1,4 @@
--- `reader::put` meets its contract: past the end nothing is set.
+-- `list::put` meets its contract: past the end nothing is set.
 use mathlib.Core.Path.{sym}
 use lib.Seq.{set_out}
 use Rattle.data_text.proofs.list.put.Goals as goal

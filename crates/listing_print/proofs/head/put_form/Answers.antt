@@ -8,5 +8,5 @@ use Rattle.listing_print.proofs.head.put_form.Goals as goal
 
 pub returns : goal.returns
 returns c =
-    let e = form_row c.args.form c.row-a.result c.row-a.ensures.is in
+    let e = form_row c.args.form c.row-a.result c.row-a.ensures.row in
     printed_is (printed_more c.put_line.ensures 14 (omega arith)) (ap (shown "form") e)

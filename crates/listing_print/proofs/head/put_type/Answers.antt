@@ -23,4 +23,4 @@ pub returns : goal.returns
 returns c =
     let t = c.row-t in
     let e = name_part t.result t.ensures.within in
-    printed_is (printed_more c.put_line.ensures 12 (omega (arith, ap length e, name_short t.result t.ensures.within))) (ap (shown "type") (e ∙ type_row c.args.sampletype t.result t.ensures.is))
+    printed_is (printed_more c.put_line.ensures 12 (omega (arith, ap length e, name_short t.result t.ensures.within))) (ap (shown "type") (e ∙ type_row c.args.sampletype t.result t.ensures.row))
