@@ -1,10 +1,9 @@
 /*
  * A second implementation of every call of craneholt.h, written from the
- * rules of document 01 and of requests W1, W2, W4, W5 and W6 of document 02
- * alone, to compare the library with. It is plain and slow on purpose and
- * allocates memory where that is the simplest way. The parts below stand in the
- * order of document 01's sections and cite them; points that the documents
- * leave open are taken as docs/DECISIONS.md says.
+ * rules and requests W1, W2, W4, W5 and W6 alone, to compare the library with.
+ * It is plain and slow on purpose and allocates memory where that is the
+ * simplest way. The parts below stand in the order of the rules' sections and
+ * cite them; points that these leave open are taken as docs/DECISIONS.md says.
  */
 #include "model.h"
 

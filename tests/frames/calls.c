@@ -346,7 +346,7 @@ static void both(struct bytes file, struct bytes second, uint64_t room)
     put_samples(file, second, room);
 }
 
-/* ---- the trials of document 01 (2 is of settings) */
+/* ---- the trials of the rules (2 is of settings) */
 
 /* The file is refused by each call that takes one. */
 static void refused_trial(struct bytes file, uint32_t number, uint32_t line)

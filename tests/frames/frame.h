@@ -29,7 +29,7 @@ void put_string(struct text *t, const char *string);
 void put_times(struct text *t, const char *string, size_t times);
 void put_format(struct text *t, const char *format, ...);
 
-/* The file S of document 01's trials. */
+/* The file S of the rules' trials. */
 void put_sweep(struct text *t);
 
 /* ---- the parts of a frame */

@@ -182,7 +182,7 @@ static void listings(void)
     put_listing_groups(vectors_folder);
 }
 
-/* The program that lists a file gets the sweep of document 01. */
+/* The program that lists a file gets the sweep S of the rules' trials. */
 static void put_sweep_listing(const char *program)
 {
     static struct text sweep, listing;

@@ -158,7 +158,7 @@ void put_read(struct bytes file, uint64_t room)
     end_case();
 }
 
-/* ---- the trials of document 01 that are not among the vectors */
+/* ---- the trials of the rules that are not among the vectors */
 
 /* A file whose header is so long, by a comment that has bytes of every kind but LF. */
 static struct bytes filled_header(size_t length, const char *data)
