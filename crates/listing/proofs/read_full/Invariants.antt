@@ -1,0 +1,6 @@
+-- `read_full` reads within the buffer: what was read so far fits.
+use Rattle.std.proofs.Common.{◌≤◌, length}
+use Rattle.listing.proofs.read_full.Given as goal
+
+abbrev pub invariant-loop : goal.invariant-loop
+invariant-loop g l = l.n ≤ length l.buffer
