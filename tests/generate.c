@@ -1040,7 +1040,7 @@ static void choose_sizes(struct volume *v)
     }
 }
 
-/* How many files fit the sizes, where so many axes are covered by one: the rule of section 3 of source document 000. */
+/* How many files fit the sizes, where so many axes are covered by one: the rule of section 3 of the format's definition. */
 static uint64_t fitting_files(const struct volume *v)
 {
     uint64_t slowest = v->sizes[v->dimension - 1], files = 1;

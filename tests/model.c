@@ -347,7 +347,7 @@ enum { LITTLE, BIG, NOT_GIVEN };
 const char *const model_encodings[MODEL_ENCODINGS][3] = {{"raw"}, {"txt", "text", "ascii"}, {"hex"}};
 static const char *const endians[] = {"little", "big"};
 
-/* section 4 of source document 000 */
+/* section 4 of the format's definition */
 const struct model_space model_spaces[MODEL_SPACES] = {
     {{"right-anterior-superior", "RAS"}, 3},
     {{"left-anterior-superior", "LAS"}, 3},
@@ -366,7 +366,7 @@ const struct model_space model_spaces[MODEL_SPACES] = {
 /* W6 has these words itself: `none` is not among them */
 const char *const model_centrings[MODEL_CENTRINGS][2] = {{"???"}, {"cell"}, {"node"}};
 
-/* section 6 of source document 000, its last row first */
+/* section 6 of the format's definition, its last row first */
 const char *const model_kinds[MODEL_KINDS][2] = {
     {"???", "none"},
     {"domain"},
@@ -937,7 +937,7 @@ static uint64_t file_count(const struct header *h)
     return h->present[DATA_FILE] && h->files.form == PATTERN ? pattern_count(&h->files) : 1;
 }
 
-/* Whether the files fit the sizes, by the rule of section 3 of source document 000; asked of a pattern and of LIST (W5). */
+/* Whether the files fit the sizes, by the rule of section 3 of the format's definition; asked of a pattern and of LIST (W5). */
 static int files_fit(const struct header *h)
 {
     const craneholt_reading *r = &h->reading;

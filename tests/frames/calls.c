@@ -354,7 +354,7 @@ static void refused_trial(struct bytes file, uint32_t number, uint32_t line)
     craneholt_data_answer a = put_data(file, LITERAL(""));
     put_samples(file, LITERAL(""), 9);
     coords_case(file, LIST(0, 0));
-    ensure(a.refusal.number == number && a.refusal.line == line, "a trial of document 01 has another refusal");
+    ensure(a.refusal.number == number && a.refusal.line == line, "a trial of the rules has another refusal");
 }
 
 /* The text with the first `old` replaced. */

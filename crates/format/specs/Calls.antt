@@ -1,5 +1,5 @@
 -- The whole answer of each public call: its result and every lent byte and entry as it returns, refused or not.
--- Document 01 fixes the part that comes with a refused data call, and that a refused setting leaves length and count;
+-- The rules fix the part that comes with a refused data call, and that a refused setting leaves length and count;
 -- with any other refusal come zeros (docs/DECISIONS.md, "What comes with a refusal").
 use Rattle.std.specs.Prelude.{ℕ, ◌+◌, ◌-◌, true, false, List, [], ◌∷◌, ◌++◌, ◌==◌, nat_lt, ℤ, length, replicate, if◌then◌else◌}
 use Rattle.std.proofs.Math.Option.{Option, none, some}

@@ -1,4 +1,4 @@
--- What the demands say of the bytes that callers in C lend, beyond what each entry point's own contract says, as one statement: `CallersHold`.
+-- What refused calls, writing and lists of settings do to the bytes that callers in C lend, beyond what each entry point's own contract says, as one statement: `CallersHold`.
 -- A refused call leaves them, what is written is read back (headers with their orientation too: W2), and every list of settings keeps what it does not set.
 -- It speaks of what the entry points answer, which their contracts cite (EntryPoints.antt, Calls.antt, Files.antt, Orientation.antt, AxisRecords.antt, Listing.antt), over the
 -- bytes that callers lend, however many. Numbers in lent bytes have their low byte first: 4 bytes an entry of a table, 8 a size or a sample (Boundary.antt), 32 an axis record.

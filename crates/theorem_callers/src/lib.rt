@@ -1,4 +1,4 @@
-// What the demands say of the bytes that callers in C lend, of the definitions that the entry points are proved against.
+// What refused calls, writing and lists of settings do to the bytes that callers in C lend, of the definitions that the entry points are proved against.
 #![tactic(auto)]
 
 ghost use Rattle.theorem_callers.specs.Callers.{CallersHold};
