@@ -1,7 +1,7 @@
 // The lines of a header by their numbers.
 ghost use Rattle.data_files.specs.Asked.{Ahead, line_text, TextAt};
 
-use read_lines::Span;
+use read_lines::LineEnds;
 
 // Where a text stands: from a byte to before another.
 #[derive(Clone, Copy)]
@@ -19,10 +19,10 @@ fn start_of(file: &[u8], count: u64) -> usize
     let mut left = count;
     while 0 < left {
         match read_lines::line_at(file, at) {
-            Span::Found(_, next) => {
+            Some(LineEnds { next, .. }) => {
                 at = next;
             }
-            Span::Past => {
+            None => {
                 return at;
             }
         }
@@ -38,7 +38,12 @@ pub(crate) fn text_of(file: &[u8], count: u64) -> Place
 {
     let at = start_of(file, count);
     match read_lines::line_at(file, at) {
-        Span::Found(end, _) => Place { from: at, to: end },
-        Span::Past => Place { from: at, to: at },
+        Some(
+            LineEnds {
+                text_end: end,
+                next: _,
+            },
+        ) => Place { from: at, to: end },
+        None => Place { from: at, to: at },
     }
 }

@@ -14,8 +14,8 @@ use Rattle.format.specs.Header.{Entry, accepted, header}
 use Rattle.format.specs.Data.{skip_lines, skip_bytes, Place, nowhere, part}
 use Rattle.format.specs.Axes.{inside, sample_number}
 use Rattle.format.specs.Calls.{reading_of}
-use Rattle.data_place.specs.declared.place.Skip.{Skip}
-use Rattle.data_place.specs.declared.place.Skip.TheVariants.{At, Past}
+use Rattle.std.specs.Prelude.{Option as Maybe}
+use Rattle.std.specs.Prelude.{Some, None}
 
 -- ---- the place of the data
 
@@ -26,9 +26,9 @@ pub record IsReading (file : List ℕ) (reading : Reading) (es : List Entry) (gs
   pub is : reading ≡ reading_of es gs
 
 -- what is left of s past a skip starts at a place of s
-abbrev pub SkipIs : List ℕ → Option (List ℕ) → Skip → Type 0
-SkipIs s left (At p) = (left ≡ some (drop p s)) × (p ≤ length s)
-SkipIs s left Past = left ≡ none
+abbrev pub SkipIs : List ℕ → Option (List ℕ) → Maybe ℕ → Type 0
+SkipIs s left (Some p) = (left ≡ some (drop p s)) × (p ≤ length s)
+SkipIs s left None = left ≡ none
 
 -- the place by the numbers of a reading; the data starts at `start`, with `left` bytes up to the end of the file
 unfoldable pub place_by : Reading → Bool → ℕ → ℕ → Place

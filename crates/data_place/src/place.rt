@@ -11,15 +11,8 @@ ghost use Rattle.data_place.specs.Places.{IsReading, SkipIs, place_by, skipped_o
 use format::{DataAnswer, Reading, Refusal};
 use format_values::refusals;
 
-// Where what follows a skip starts, or that the skip passes the end.
-#[derive(Clone, Copy)]
-pub enum Skip {
-    At(usize),
-    Past,
-}
-
-// Past n lines that end in LF.
-fn skip_lines(s: &[u8], n: u64) -> Skip
+// Where what follows n lines that end in LF starts; none where the lines pass the end.
+fn skip_lines(s: &[u8], n: u64) -> Option<usize>
     ensures { SkipIs s.now (skip_lines n s.now) result }
 {
     let mut at: usize = 0;
@@ -28,12 +21,12 @@ fn skip_lines(s: &[u8], n: u64) -> Skip
         let rest = &s[at..];
         let k = read_text::bytes::find_byte(rest, b'\n');
         if k == rest.len() {
-            return Skip::Past;
+            return None;
         }
         at += k + 1;
         left -= 1;
     }
-    Skip::At(at)
+    Some(at)
 }
 
 // There is no data.
@@ -109,8 +102,8 @@ fn place_in(reading: Reading, file: &[u8], from: usize, second: bool) -> DataAns
     ensures { result ≡ data_answer (place_left reading second (length file.now) (left_by reading (drop from file.now))) }
 {
     match skip_lines(&file[from..], reading.lineskip) {
-        Skip::Past => refuse(format::SKIP_PAST_END),
-        Skip::At(p) => {
+        None => refuse(format::SKIP_PAST_END),
+        Some(p) => {
             let at = from + p;
             let left = file.len() - at;
             let skipped = bytes_skipped(

@@ -1,6 +1,8 @@
 pub mod Bytes
 pub mod Limits
 pub mod Refusals
+pub mod Reasons
+pub mod Codes
 pub mod Lines
 pub mod Pairs
 pub mod Fields
@@ -24,6 +26,7 @@ pub mod FileNames
 pub mod HeaderWriter
 pub mod Settings
 pub mod Calls
+pub mod Answers
 pub mod Files
 pub mod Orientation
 pub mod AxisRecords

@@ -10,7 +10,10 @@ ghost use Rattle.format.specs.Limits.{limits};
 ghost use Rattle.format.specs.Refusals.{refusal_numbers};
 ghost use Rattle.format.specs.Trials.{StarredTrials};
 
+pub mod answers;
+pub mod codes;
 pub mod field;
+pub mod reason;
 pub mod wide;
 
 // The limits of the rules.

@@ -10,6 +10,8 @@ ghost use Rattle.format.specs.Boundary.{numbers_of};
 ghost use Rattle.lent_numbers.specs.Bits.{Bits};
 ghost use Rattle.lent_numbers.specs.Widths.{is_width};
 
+pub mod cell;
+
 fn wide(b: u8) -> u64
     ensures { (result ≡ b) × (result < 256) }
 {

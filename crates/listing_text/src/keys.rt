@@ -5,7 +5,7 @@ ghost use Rattle.format.specs.Limits.{max_lines, max_listed, max_reading, max_ke
 ghost use Rattle.listing_print.specs.Printed.{Printed};
 ghost use Rattle.listing_text.specs.Shown.{pair_in, is_key, is_later, key_text, shown_texts, shown_lines, lines_from, Within};
 
-use read_lines::Span;
+use read_lines::LineEnds;
 use read_text::lines::Kind;
 
 // Whether a line is that of a pair whose key has this text.
@@ -27,13 +27,13 @@ fn is_later(file: &[u8], key: &[u8], from: usize, count: u32) -> bool
     let mut left = count;
     while 0 < left {
         match read_lines::line_at(file, at) {
-            Span::Found(e, next) => {
+            Some(LineEnds { text_end: e, next }) => {
                 if is_key(&file[at..e], key) {
                     return true;
                 }
                 at = next;
             }
-            Span::Past => {
+            None => {
                 return false;
             }
         }
@@ -78,11 +78,11 @@ pub(crate) fn put_keys(file: &[u8], out: &mut [u8], start: usize, count: u32) ->
     let mut left = count;
     while 0 < left {
         match read_lines::line_at(file, at) {
-            Span::Found(e, next) => {
+            Some(LineEnds { text_end: e, next }) => {
                 o = put_item(file, out, o, &file[at..e], next, left - 1);
                 at = next;
             }
-            Span::Past => {
+            None => {
                 return o;
             }
         }

@@ -12,7 +12,7 @@ use lib.Seq.{sets}
 use Rattle.format.specs.Words.{words}
 use Rattle.format.specs.Vectors.{cons_said, said_by}
 use Rattle.format.specs.Kinds.{centrings_said, kinds_said}
-use Rattle.read_text.specs.declared.words.Row.TheVariants.{Number, Unknown}
+use Rattle.std.specs.Prelude.{Some, None}
 use Rattle.read_text.specs.Rows.{row_answer}
 use Rattle.read_text.proofs.Rows.{row_is, row_unknown}
 use Rattle.read_text.proofs.NumberLaws.{stored}
@@ -96,11 +96,11 @@ module _ (kinds : Bool) (axes n : ℕ) (v : List ℕ) where
           rw (said_cons (code_named kinds) (axes - n) w ws (omega arith), e)
 
       -- a word without a number
-      pub codes_bad : Unknown ≡ row_answer (code_named kinds w) → codes_from kinds axes n v (w ∷ ws) ≡ codes_answer none
+      pub codes_bad : None ≡ row_answer (code_named kinds w) → codes_from kinds axes n v (w ∷ ws) ≡ codes_answer none
       codes_bad e = first ∙ rw (row_unknown (code_named kinds w) e)
 
       -- one number more
-      pub codes_next : (c : ℕ) → Number c ≡ row_answer (code_named kinds w)
+      pub codes_next : (c : ℕ) → Some c ≡ row_answer (code_named kinds w)
           → codes_from kinds axes n v (w ∷ ws) ≡ codes_from kinds axes (n + 1) (set v n c) ws
       unfolding codes_from
       codes_next c e =

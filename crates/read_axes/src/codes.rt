@@ -5,8 +5,6 @@ ghost use Rattle.format.specs.Kinds.{centring_named, kind_named};
 ghost use Rattle.read_text.specs.Rows.{row_answer};
 ghost use Rattle.read_axes.specs.Codes.{code_named, codes_said, codes_answer};
 
-use read_text::words::Row;
-
 // The names of the centrings.
 const CENTRINGS: [u8; 17] = *b"\x03\x00???\x04\x01cell\x04\x02node";
 
@@ -31,14 +29,14 @@ pub struct Codes {
 }
 
 // The centring of a name.
-fn centring_named(w: &[u8]) -> Row
+fn centring_named(w: &[u8]) -> Option<u32>
     ensures { result ≡ row_answer (centring_named w.now) }
 {
     read_text::words::row_among(&CENTRINGS, w)
 }
 
 // The kind of a name.
-fn kind_named(w: &[u8]) -> Row
+fn kind_named(w: &[u8]) -> Option<u32>
     ensures { result ≡ row_answer (kind_named w.now) }
 {
     match w.len() {
@@ -50,7 +48,7 @@ fn kind_named(w: &[u8]) -> Row
 }
 
 // The number of a word among the kinds, or else among the centrings.
-fn code_named(w: &[u8], kinds: bool) -> Row
+fn code_named(w: &[u8], kinds: bool) -> Option<u32>
     ensures { result ≡ row_answer (code_named kinds w.now) }
 {
     if kinds {
@@ -81,7 +79,7 @@ pub fn read_codes(t: &[u8], axes: usize, kinds: bool) -> Codes
                 return wrong;
             }
             let x = code_named(&t[at..e], kinds);
-            let Row::Number(c) = x else {
+            let Some(c) = x else {
                 return wrong;
             };
             v[n] = c;

@@ -15,8 +15,6 @@ ghost use Rattle.read_descriptors.specs.declared.check.Checked.{Checked};
 ghost use Rattle.read_descriptors.specs.Checked.{found, answered, checked, asked, oriented, NoneOf};
 
 use format::field;
-use read_text::numbers::Number;
-use read_text::words::Row;
 
 // Whether the descriptor is one that the field may have; the number that it says, 0 where it says none or is wrong; whether it says that the data is found from the end;
 // whether it is LIST, after which names stand on lines of their own; and how many axes one data file covers, as `read_files::said` tells it.
@@ -56,7 +54,7 @@ fn check_number(t: &[u8], least: u64, most: u64) -> Checked
     };
     let x = read_text::numbers::read_number(t);
     match x {
-        Number::Value(n) => {
+        Some(n) => {
             if n < least {
                 return wrong;
             }
@@ -71,7 +69,7 @@ fn check_number(t: &[u8], least: u64, most: u64) -> Checked
                 cover: 0,
             }
         }
-        Number::Wrong => wrong,
+        None => wrong,
     }
 }
 
@@ -92,18 +90,18 @@ fn check_byte_skip(t: &[u8]) -> Checked
 }
 
 // A name that has a row.
-fn check_row(row: Row) -> Checked
+fn check_row(row: Option<u32>) -> Checked
     ensures { (o : Option ℕ) (d : ℕ) → row ≡ row_answer o → result ≡ found (is_some o) (or_default d o) false }
 {
     match row {
-        Row::Number(n) => Checked {
+        Some(n) => Checked {
             fine: true,
             number: n,
             fromend: false,
             list: false,
             cover: 0,
         },
-        Row::Unknown => Checked {
+        None => Checked {
             fine: false,
             number: 0,
             fromend: false,

@@ -15,7 +15,6 @@ ghost use Rattle.read_fields.specs.States.{wrong_of, flags, numbers_of, space_fo
 use crate::state::Step;
 use format::field;
 use read_text::lines::Kind;
-use read_text::words::Row;
 
 // A pair: the number of its refusal, or 0.
 fn on_pair(version: u32, key: &[u8], value: &[u8]) -> u32
@@ -181,8 +180,8 @@ fn on_field(
     }
     let row = read_text::words::field_named(&t[..i]);
     match row {
-        Row::Number(f) => on_known(version, given, numbers, f as usize, &t[i + 2..], sizes),
-        Row::Unknown => without_field(format::UNKNOWN_FIELD),
+        Some(f) => on_known(version, given, numbers, f as usize, &t[i + 2..], sizes),
+        None => without_field(format::UNKNOWN_FIELD),
     }
 }
 

@@ -19,7 +19,7 @@ use Rattle.format.specs.Decimals.{past_number, digits_of}
 use Rattle.format.specs.DataFiles.{numbering, count_up, count_numbers, with_some, sized, step_said, numbering_said, axes_number, axes_said}
 use Rattle.format.proofs.Bytes.{and_left, and_right}
 use Rattle.read_text.specs.Numbers.{number_answer, size_answer}
-use Rattle.read_text.specs.declared.numbers.Number.TheVariants.{Value, Wrong}
+use Rattle.std.specs.Prelude.{Some, None}
 use Rattle.read_text.proofs.NumberLaws.{number_is, number_wrong, size_in, size_out}
 use Rattle.read_decimals.specs.Parts.{number_from, digits_answer}
 use Rattle.read_decimals.specs.declared.parts.Digits.{Digits}
@@ -34,14 +34,14 @@ use Rattle.read_files.proofs.WordLaws.{digits_count, digits_number}
 -- ---- a word as a number
 
 module _ {t : List ℕ} {at : ℕ} {p : Place} (n : Next t at p) where
-  pub number_read : (v : ℕ) → Value v ≡ number_answer (number (part p.from p.to t)) → NumberRead t at record { fine = true; value = v; end = p.to }
+  pub number_read : (v : ℕ) → Some v ≡ number_answer (number (part p.from p.to t)) → NumberRead t at record { fine = true; value = v; end = p.to }
   number_read v e =
       let q = number_is (number (part p.from p.to t)) v e in
       let m : number (first_of (words (drop at t))) ≡ some v = rw (← n.word) q.0 in
       let k : v ≤ max_file_number = q.1 in
       record { fine = rw (m, le-leb 0 v (omega arith), le-leb v max_file_number k); value = λ f. rw m; bounded = k; rest = n.rest; within = n.within }
 
-  pub number_none : Wrong ≡ number_answer (number (part p.from p.to t)) → NumberRead t at record { fine = false; value = 0; end = p.to }
+  pub number_none : None ≡ number_answer (number (part p.from p.to t)) → NumberRead t at record { fine = false; value = 0; end = p.to }
   number_none e =
       record {
         fine = rw (← n.word) (sym (number_wrong (number (part p.from p.to t)) e 0 max_file_number (omega arith)));

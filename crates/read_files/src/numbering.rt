@@ -5,7 +5,6 @@ ghost use Rattle.format.specs.DataFiles.{count_up, count_numbers};
 ghost use Rattle.read_files.specs.Parts.{NumberRead, StepRead, NumberingRead};
 
 use crate::{bytes, words};
-use read_text::numbers::Number;
 
 // Whether a word is a number, its value, 0 where it is none, and where the word ends.
 #[derive(Clone, Copy)]
@@ -25,12 +24,12 @@ fn next_number(t: &[u8], at: usize) -> NumberAt
     let end = w.to;
     let x = read_text::numbers::read_number(&t[from..end]);
     match x {
-        Number::Value(value) => NumberAt {
+        Some(value) => NumberAt {
             fine: true,
             value,
             end,
         },
-        Number::Wrong => NumberAt {
+        None => NumberAt {
             fine: false,
             value: 0,
             end,

@@ -15,7 +15,7 @@ ghost use Rattle.read_header.specs.Tables.{read_into};
 ghost use Rattle.format.specs.Room.{Enough, table_entries, table_room};
 
 use format::{ReadAnswer, field};
-use read_lines::Span;
+use read_lines::LineEnds;
 
 // The version of a magic, 0 for any other text.
 fn magic_version(t: &[u8]) -> u32
@@ -93,10 +93,10 @@ fn read_names(
     let mut n: u32 = list + 1;
     while at < file.len() {
         match read_lines::line_at(file, at) {
-            Span::Past => {
+            None => {
                 return read_fields::state::refuse(format::HEADER_TOO_LONG, n);
             }
-            Span::Found(text_end, next) => {
+            Some(LineEnds { text_end, next }) => {
                 if format::MAX_LINES < n {
                     return read_fields::state::refuse(format::TOO_MANY_LINES, n);
                 }
@@ -143,10 +143,10 @@ fn read_lines(file: &[u8], from: usize, version: u32) -> ReadAnswer
     let mut n: u32 = 2;
     while at < file.len() {
         match read_lines::line_at(file, at) {
-            Span::Past => {
+            None => {
                 return read_fields::state::refuse(format::HEADER_TOO_LONG, n);
             }
-            Span::Found(text_end, next) => {
+            Some(LineEnds { text_end, next }) => {
                 if format::MAX_LINES < n { // told before what the line says
                     return read_fields::state::refuse(format::TOO_MANY_LINES, n);
                 }
@@ -200,10 +200,10 @@ pub fn read_header(file: &[u8]) -> ReadAnswer
         return read_fields::state::refuse(format::NO_MAGIC, 1);
     }
     match read_lines::line_at(file, 0) {
-        Span::Past => {
+        None => {
             return read_fields::state::refuse(format::NO_MAGIC, 1);
         }
-        Span::Found(text_end, next) => {
+        Some(LineEnds { text_end, next }) => {
             if text_end == next {
                 return read_fields::state::refuse(format::NO_MAGIC, 1);
             }

@@ -17,8 +17,9 @@ use Rattle.format.specs.Lines.{Line, line, lf, crlf, eof, size, lines}
 use Rattle.format.proofs.Lines.{lines_none}
 use Rattle.read_text.specs.Places.{before, without_cr, ending_at}
 use Rattle.read_text.proofs.Places.{before_le, take_without_cr, lines_by_lf, size_by_lf, lines_to_end}
-use Rattle.read_lines.specs.declared.Span.{Span}
-use Rattle.read_lines.specs.declared.Span.TheVariants.{Found, Past}
+use Rattle.read_lines.specs.declared.LineEnds.{LineEnds}
+use Rattle.std.specs.Prelude.{Option}
+use Rattle.std.specs.Prelude.{Some, None}
 use Rattle.read_lines.specs.Spans.{LineAt, PastAt, SpanIs}
 
 -- ---- the first b in the first m bytes
@@ -171,12 +172,12 @@ module _ (file : List ℕ) (at to n : ℕ) (start : (at < length file) × (at �
 
 -- ---- the answer of `line_at`, by its form
 
-module _ {file : List ℕ} {at : ℕ} {s : Span} where
-  pub found_at : {text_end next : ℕ} → s ≡ Found text_end next → SpanIs file at s → LineAt file at text_end next
-  found_at e h = subst (λ (x : Span). SpanIs file at x) e h
+module _ {file : List ℕ} {at : ℕ} {s : Option LineEnds} where
+  pub found_at : {text_end next : ℕ} → s ≡ Some (record { text_end = text_end; next = next }) → SpanIs file at s → LineAt file at text_end next
+  found_at e h = subst (λ (x : Option LineEnds). SpanIs file at x) e h
 
-  pub past_at : s ≡ Past → SpanIs file at s → PastAt file at
-  past_at e h = subst (λ (x : Span). SpanIs file at x) e h
+  pub past_at : s ≡ None → SpanIs file at s → PastAt file at
+  past_at e h = subst (λ (x : Option LineEnds). SpanIs file at x) e h
 
 -- ---- the rest of a line
 

@@ -2,8 +2,9 @@
 use Rattle.std.specs.Prelude.{ℕ, ◌+◌, ◌-◌, ◌≤◌, ◌<◌, ◌≡◌, List, ◌∷◌, length, take, drop}
 use Rattle.format.specs.Limits.{max_header}
 use Rattle.format.specs.Lines.{Ending, eof, Line, line, size, lines}
-use Rattle.read_lines.specs.declared.Span.{Span}
-use Rattle.read_lines.specs.declared.Span.TheVariants.{Found, Past}
+use Rattle.read_lines.specs.declared.LineEnds.{LineEnds}
+use Rattle.std.specs.Prelude.{Option}
+use Rattle.std.specs.Prelude.{Some, None}
 
 -- the line from `at` on: its text ends at `text_end`, the next line starts at `next`
 pub record LineAt (file : List ℕ) (at text_end next : ℕ) : Type 0 where
@@ -25,6 +26,6 @@ pub record PastAt (file : List ℕ) (at : ℕ) : Type 0 where
   pub cut : lines (drop at file) ≡ first ∷ rest
   pub long : max_header < at + size first
 
-abbrev pub SpanIs : List ℕ → ℕ → Span → Type 0
-SpanIs file at (Found text_end next) = LineAt file at text_end next
-SpanIs file at Past = PastAt file at
+abbrev pub SpanIs : List ℕ → ℕ → Option LineEnds → Type 0
+SpanIs file at (Some ends) = LineAt file at ends.text_end ends.next
+SpanIs file at None = PastAt file at

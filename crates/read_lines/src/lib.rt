@@ -5,16 +5,15 @@ ghost use Rattle.std.specs.Prelude.{◌≡◌, ◌<◌, ◌≤◌, min, length};
 ghost use Rattle.format.specs.Limits.{max_header};
 ghost use Rattle.read_lines.specs.Spans.{SpanIs};
 
+// Where the text of a line ends, and where the next line starts.
 #[derive(Clone, Copy)]
-pub enum Span {
-    // where the line's text ends, and where the next line starts
-    Found(usize, usize),
-    // the line ends past the limit of a header
-    Past,
+pub struct LineEnds {
+    pub text_end: usize,
+    pub next: usize,
 }
 
-// The line that starts at `at`. Looks at no byte past the limit.
-pub fn line_at(file: &[u8], at: usize) -> Span
+// The line that starts at `at`; none where it ends past the limit of a header. Looks at no byte past the limit.
+pub fn line_at(file: &[u8], at: usize) -> Option<LineEnds>
     requires { (at < length file.now) × (at ≤ max_header) }
     ensures { SpanIs file.now at result }
 {
@@ -22,12 +21,18 @@ pub fn line_at(file: &[u8], at: usize) -> Span
     let n = read_text::bytes::find_byte(&file[at..to], b'\n');
     let e = at + n;
     if e < to {
-        return Span::Found(at + read_text::lines::without_cr(&file[at..e]), e + 1);
+        return Some(LineEnds {
+            text_end: at + read_text::lines::without_cr(&file[at..e]),
+            next: e + 1,
+        });
     }
     if to < file.len() {
-        return Span::Past;
+        return None;
     }
-    Span::Found(to, to)
+    Some(LineEnds {
+        text_end: to,
+        next: to,
+    })
 }
 
 // The end of what is looked at: the file's or the limit.

@@ -18,7 +18,7 @@ use Rattle.format.specs.Fields.{field_named, centers, labels, units, kinds}
 use Rattle.format.specs.Header.{Item, Entry, entry}
 use Rattle.format.specs.Calls.{no_place, descriptor_place, field_place, find_field_call}
 use Rattle.read_text.specs.declared.lines.Kind.TheVariants.{Field}
-use Rattle.read_text.specs.declared.words.Row.TheVariants.{Number, Unknown}
+use Rattle.std.specs.Prelude.{Some, None}
 use Rattle.read_text.specs.Rows.{row_answer}
 use Rattle.read_text.proofs.Places.{KindAt}
 use Rattle.read_lines.specs.Spans.{LineAt}
@@ -31,17 +31,17 @@ use Rattle.read_lookup.proofs.Finding.{place_in, field_other, field_field, field
 
 -- ---- the name's row
 
-row_known : (g : ℕ) (o : Option ℕ) → Number g ≡ row_answer o → (if ltb g centers then 0 else g) ≡ axis_row o
+row_known : (g : ℕ) (o : Option ℕ) → Some g ≡ row_answer o → (if ltb g centers then 0 else g) ≡ axis_row o
 row_known g none e = cc
 row_known g (some h) e = let z : g ≡ h = cc in rw z
 
-pub row_before : (g : ℕ) (o : Option ℕ) → Number g ≡ row_answer o → g < centers → 0 ≡ axis_row o
+pub row_before : (g : ℕ) (o : Option ℕ) → Some g ≡ row_answer o → g < centers → 0 ≡ axis_row o
 row_before g o e l = rw (lt-ltb g centers l) at (row_known g o e)
 
-pub row_from : (g : ℕ) (o : Option ℕ) → Number g ≡ row_answer o → centers ≤ g → g ≡ axis_row o
+pub row_from : (g : ℕ) (o : Option ℕ) → Some g ≡ row_answer o → centers ≤ g → g ≡ axis_row o
 row_from g o e l = rw (le-ltb g centers l) at (row_known g o e)
 
-pub row_unknown : (o : Option ℕ) → Unknown ≡ row_answer o → 0 ≡ axis_row o
+pub row_unknown : (o : Option ℕ) → None ≡ row_answer o → 0 ≡ axis_row o
 row_unknown none e = refl
 row_unknown (some h) e = cc
 

@@ -29,7 +29,7 @@ use Rattle.format.proofs.Descriptors.{from_le}
 use Rattle.format.proofs.Header.{header_sound, magic_line}
 use Rattle.format.proofs.Named.{from_names, before_lines, before_first, key_place_before, field_place_before}
 use Rattle.read_text.specs.declared.lines.Kind.TheVariants.{Field, Pair}
-use Rattle.read_text.specs.declared.words.Row.TheVariants.{Number, Unknown}
+use Rattle.std.specs.Prelude.{Some, None}
 use Rattle.read_text.specs.Rows.{row_answer}
 use Rattle.read_text.specs.Meanings.{means_key}
 use Rattle.read_text.proofs.Places.{KindAt}
@@ -100,11 +100,11 @@ abbrev pub place_in : ℕ → ℕ → List ℕ → FindAnswer
 place_in f at rest = found_at (at + (length rest - length (from_descriptor f rest))) (length (descriptor f rest))
 
 -- the name's row is the field, or not
-pub field_row : (f g : ℕ) (o : Option ℕ) → Number g ≡ row_answer o → eqb f g ≡ is_field f o
+pub field_row : (f g : ℕ) (o : Option ℕ) → Some g ≡ row_answer o → eqb f g ≡ is_field f o
 field_row f g none e = let z : false ≡ true = cc in absurd (false≢true z)
 field_row f g (some h) e = let z : g ≡ h = cc in rw z
 
-pub field_no_row : (f : ℕ) (o : Option ℕ) → Unknown ≡ row_answer o → false ≡ is_field f o
+pub field_no_row : (f : ℕ) (o : Option ℕ) → None ≡ row_answer o → false ≡ is_field f o
 field_no_row f none e = refl
 field_no_row f (some h) e = cc
 

@@ -8,9 +8,8 @@ ghost use Rattle.read_header.specs.Accepted.{Fielded};
 ghost use Rattle.read_lookup.specs.Axes.{axis_row, kept_of, Gives, AxesLeft, axis_places};
 
 use format::{FindAnswer, field};
-use read_lines::Span;
+use read_lines::LineEnds;
 use read_text::lines::Kind;
-use read_text::words::Row;
 
 // The fields by number; no other field comes after the first of them.
 const CENTERS: u32 = field::CENTERS as u32;
@@ -42,13 +41,13 @@ fn axis_row(name: &[u8]) -> u32
     ensures { result ≡ axis_row (field_named name.now) }
 {
     match read_text::words::field_named(name) {
-        Row::Number(g) => {
+        Some(g) => {
             if g < CENTERS {
                 return 0;
             }
             g
         }
-        Row::Unknown => 0,
+        None => 0,
     }
 }
 
@@ -112,7 +111,7 @@ fn first_fields(file: &[u8], from: usize, count: u32) -> AxisPlaces
     let mut left = count;
     while 0 < left {
         match read_lines::line_at(file, at) {
-            Span::Found(e, next) => {
+            Some(LineEnds { text_end: e, next }) => {
                 let given = field_given(&file[at..e], at);
                 centring = keep(centring, given, CENTERS);
                 label = keep(label, given, LABELS);
@@ -120,7 +119,7 @@ fn first_fields(file: &[u8], from: usize, count: u32) -> AxisPlaces
                 kind = keep(kind, given, KINDS);
                 at = next;
             }
-            Span::Past => {
+            None => {
                 break;
             }
         }

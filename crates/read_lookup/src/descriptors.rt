@@ -11,17 +11,16 @@ ghost use Rattle.read_header.specs.Accepted.{Fielded, IsItem};
 ghost use Rattle.read_lookup.specs.Lookup.{is_field, FieldLeft};
 
 use format::FindAnswer;
-use read_lines::Span;
+use read_lines::LineEnds;
 use read_text::lines::Kind;
-use read_text::words::Row;
 
 // Whether a name means the field.
 fn is_field(name: &[u8], field: u32) -> bool
     ensures { result ≡ is_field field (field_named name.now) }
 {
     match read_text::words::field_named(name) {
-        Row::Number(g) => field == g,
-        Row::Unknown => false,
+        Some(g) => field == g,
+        None => false,
     }
 }
 
@@ -61,14 +60,14 @@ fn first_field(file: &[u8], field: u32, from: usize, count: u32) -> FindAnswer
     let mut left = count;
     while 0 < left {
         match read_lines::line_at(file, at) {
-            Span::Found(e, next) => {
+            Some(LineEnds { text_end: e, next }) => {
                 let place = field_in(&file[at..e], field, at);
                 if place.found {
                     return place;
                 }
                 at = next;
             }
-            Span::Past => {
+            None => {
                 return crate::places::absent();
             }
         }

@@ -11,7 +11,7 @@ ghost use Rattle.read_lookup.specs.Lookup.{key_then, latest_of, KeyLeft};
 
 use format::{FindAnswer, ValueAnswer};
 use format_values::refusals;
-use read_lines::Span;
+use read_lines::LineEnds;
 use read_text::lines::Kind;
 
 // The place of the key's value in a line, which starts at `at`; `none` where the line has no value for it.
@@ -52,12 +52,12 @@ fn last_pair(file: &[u8], key: &[u8], from: usize, count: u32) -> FindAnswer
     let mut left = count;
     while 0 < left {
         match read_lines::line_at(file, at) {
-            Span::Found(e, next) => {
+            Some(LineEnds { text_end: e, next }) => {
                 let here = pair_in(&file[at..e], key, at, none);
                 found = latest(found, here);
                 at = next;
             }
-            Span::Past => {
+            None => {
                 return found;
             }
         }

@@ -6,7 +6,7 @@ ghost use Rattle.read_lookup.specs.Lookup.{SecondAt};
 
 use format::{FindAnswer, Refusal};
 use format_values::refusals;
-use read_lines::Span;
+use read_lines::LineEnds;
 
 // The file is refused, or nothing is found in it.
 pub(crate) fn nowhere(refusal: Refusal) -> FindAnswer
@@ -45,7 +45,7 @@ pub(crate) fn second_line(file: &[u8]) -> usize
     ensures { SecondAt file.now result }
 {
     match read_lines::line_at(file, 0) {
-        Span::Found(_, next) => next,
-        Span::Past => 0,
+        Some(LineEnds { next, .. }) => next,
+        None => 0,
     }
 }

@@ -9,7 +9,7 @@ ghost use Rattle.format.specs.Settings.{table_fine};
 ghost use Rattle.read_table.specs.Tables.{lent_entries, Becomes, Holds, Lined, starts_of};
 ghost use Rattle.read_table.specs.Shifts.{moved_by, shifted, Shiftable};
 
-use read_lines::Span;
+use read_lines::LineEnds;
 
 // The list counts.
 pub const IN_LIST: usize = 0;
@@ -60,10 +60,10 @@ pub fn fill(file: &[u8], list: &mut [u32], bytes: &mut [u8], width: usize, count
         put_entry(list, bytes, width, k, at as u32);
         k += 1;
         match read_lines::line_at(file, at) {
-            Span::Past => {
+            None => {
                 return;
             }
-            Span::Found(_, next) => {
+            Some(LineEnds { next, .. }) => {
                 at = next;
             }
         }
@@ -82,10 +82,10 @@ fn starts_match(file: &[u8], list: &[u32], bytes: &[u8], width: usize, n: usize)
             return false;
         }
         match read_lines::line_at(file, at) {
-            Span::Past => {
+            None => {
                 return false;
             }
-            Span::Found(_, next) => {
+            Some(LineEnds { next, .. }) => {
                 at = next;
             }
         }

@@ -17,20 +17,20 @@ use Rattle.format.specs.Bytes.{space_or_tab, is_digit, or_default, SPACE, TAB}
 use Rattle.format.specs.Limits.{max_size}
 use Rattle.format.specs.Words.{digits_from, number, join_first, parts, not_empty, words, within, numbers_in, value_of_number}
 use Rattle.read_text.specs.Numbers.{past_size, number_answer, size_answer, first_word, no_sizes, sizes_answer}
-use Rattle.read_text.specs.declared.numbers.Number.TheVariants.{Value, Wrong}
+use Rattle.std.specs.Prelude.{Some, None}
 use Rattle.read_text.specs.declared.numbers.Sizes.{Sizes}
 use Rattle.read_text.proofs.Places.{drop_next}
 
 -- ---- a number, digit by digit
 
 -- a number above the largest stays above it, whatever digits follow
-above : (n : ℕ) (s : List ℕ) → max_size < n → number_answer (digits_from n s) ≡ Wrong
+above : (n : ℕ) (s : List ℕ) → max_size < n → number_answer (digits_from n s) ≡ None
 unfolding digits_from
 above n [] h = rw (lt-leb n max_size h)
 above n (b ∷ s) h = go (is_digit b) (above (n * 10 + (b - 48)) s (omega arith))
   where
-    go : (x : Bool) → number_answer (digits_from (n * 10 + (b - 48)) s) ≡ Wrong
-        → number_answer (if x then digits_from (n * 10 + (b - 48)) s else none) ≡ Wrong
+    go : (x : Bool) → number_answer (digits_from (n * 10 + (b - 48)) s) ≡ None
+        → number_answer (if x then digits_from (n * 10 + (b - 48)) s else none) ≡ None
     go true e = e
     go false e = refl
 
@@ -55,11 +55,11 @@ number_digits (b ∷ s) h = refl
 
 module _ (s : List ℕ) (i v : ℕ) where
   -- a byte that is no digit
-  pub digits_low : i < length s → get_or s i 0 < 48 → number_answer (digits_from v (drop i s)) ≡ Wrong
+  pub digits_low : i < length s → get_or s i 0 < 48 → number_answer (digits_from v (drop i s)) ≡ None
   unfolding digits_from
   digits_low h d = rw (drop_next s i h, lt-leb 48 (get_or s i 0) d)
 
-  pub digits_high : i < length s → 57 < get_or s i 0 → number_answer (digits_from v (drop i s)) ≡ Wrong
+  pub digits_high : i < length s → 57 < get_or s i 0 → number_answer (digits_from v (drop i s)) ≡ None
   unfolding digits_from
   digits_high h d = rw (drop_next s i h, le-leb 48 (get_or s i 0) (omega arith), lt-leb (get_or s i 0) 57 d)
 
@@ -71,21 +71,21 @@ module _ (s : List ℕ) (i v : ℕ) where
       rw (drop_next s i h, le-leb 48 (get_or s i 0) d, le-leb (get_or s i 0) 57 e) (cut (v * 10 + (get_or s i 0 - 48)) (drop (i + 1) s))
 
   -- after the last digit
-  pub digits_end : length s ≤ i → number_answer (digits_from v (drop i s)) ≡ (if leb v max_size then Value v else Wrong)
+  pub digits_end : length s ≤ i → number_answer (digits_from v (drop i s)) ≡ (if leb v max_size then Some v else None)
   unfolding digits_from
   digits_end h = rw (drop_of_length-le s h)
 
 -- ---- a number as it is answered: the number itself, or that it is none that any field has
 
-pub number_is : (o : Option ℕ) (n : ℕ) → Value n ≡ number_answer o → (o ≡ some n) × (n ≤ max_size)
+pub number_is : (o : Option ℕ) (n : ℕ) → Some n ≡ number_answer o → (o ≡ some n) × (n ≤ max_size)
 number_is none n e = let z : ◌≡◌ {A = ℕ} 0 1 = cc in absurd (omega arith)
 number_is (some m) n e = go (leb m max_size) refl e
   where
-    go : (x : Bool) → leb m max_size ≡ x → Value n ≡ (if x then Value m else Wrong) → (some m ≡ some n) × (n ≤ max_size)
+    go : (x : Bool) → leb m max_size ≡ x → Some n ≡ (if x then Some m else None) → (some m ≡ some n) × (n ≤ max_size)
     go true f e = let g : n ≡ m = cc in (cc, omega (arith, leb-true))
     go false f e = let z : ◌≡◌ {A = ℕ} 0 1 = cc in absurd (omega arith)
 
-pub number_wrong : (o : Option ℕ) → Wrong ≡ number_answer o → (least most : ℕ) → most ≤ max_size → within least most o ≡ false
+pub number_wrong : (o : Option ℕ) → None ≡ number_answer o → (least most : ℕ) → most ≤ max_size → within least most o ≡ false
 number_wrong none e least most h = refl
 number_wrong (some m) e least most h = go (leb m max_size) refl e
   where
@@ -93,26 +93,26 @@ number_wrong (some m) e least most h = go (leb m max_size) refl e
     above true = refl
     above false = refl
 
-    go : (x : Bool) → leb m max_size ≡ x → Wrong ≡ (if x then Value m else Wrong) → within least most (some m) ≡ false
+    go : (x : Bool) → leb m max_size ≡ x → None ≡ (if x then Some m else None) → within least most (some m) ≡ false
     go true f e = cc
     go false f e = let g = leb-false m max_size f in rw (lt-leb m most (omega arith)) (above (leb least m))
 
 -- ---- a size, which is 0 where the number is none or above the largest
 
 -- of an answer with a value it is that value, and of one without it is 0
-pub value_size : (o : Option ℕ) (v : ℕ) → Value v ≡ number_answer o → v ≡ size_answer o
+pub value_size : (o : Option ℕ) (v : ℕ) → Some v ≡ number_answer o → v ≡ size_answer o
 value_size none v e = cc
 value_size (some n) v e = go (leb n max_size) e
   where
-    go : (x : Bool) → Value v ≡ (if x then Value n else Wrong) → v ≡ (if x then n else 0)
+    go : (x : Bool) → Some v ≡ (if x then Some n else None) → v ≡ (if x then n else 0)
     go true e = cc
     go false e = cc
 
-pub wrong_size : (o : Option ℕ) → Wrong ≡ number_answer o → 0 ≡ size_answer o
+pub wrong_size : (o : Option ℕ) → None ≡ number_answer o → 0 ≡ size_answer o
 wrong_size none e = refl
 wrong_size (some n) e = go (leb n max_size) e
   where
-    go : (x : Bool) → Wrong ≡ (if x then Value n else Wrong) → 0 ≡ (if x then n else 0)
+    go : (x : Bool) → None ≡ (if x then Some n else None) → 0 ≡ (if x then n else 0)
     go true e = cc
     go false e = refl
 

@@ -14,8 +14,8 @@ use lib.ListN.{length, take, drop, get_or, length-append, length-drop, drop_of_l
 use lib.Seq.{drop-drop, get_or-drop, take_at, drop_at}
 use borrow.Author.Tests.{le-leb, lt-ltb}
 use Rattle.format.specs.Bytes.{bytes, small, alike, is_any, row_from, row_of}
-use Rattle.read_text.specs.declared.words.Row.{Row}
-use Rattle.read_text.specs.declared.words.Row.TheVariants.{Number, Unknown}
+use Rattle.std.specs.Prelude.{Option as Maybe}
+use Rattle.std.specs.Prelude.{Some, None}
 use Rattle.read_text.specs.Rows.{Name, name, packed, row_among, row_answer}
 use Rattle.read_text.proofs.Places.{drop_next}
 
@@ -86,11 +86,11 @@ Passed table s at =
 
 module _ (table s : List ℕ) (at : ℕ) (p : Passed table s at) where
   -- no name is left
-  pub passed_all : length table ≤ at → (ns : List Name) → table ≡ packed ns → Unknown ≡ row_answer (row_among s ns)
+  pub passed_all : length table ≤ at → (ns : List Name) → table ≡ packed ns → None ≡ row_answer (row_among s ns)
   unfolding row_among packed
   passed_all h ns e = go (p ns e).0 (p ns e).1 (p ns e).2
     where
-      go : (rest : List Name) → drop at table ≡ packed rest → row_among s ns ≡ row_among s rest → Unknown ≡ row_answer (row_among s ns)
+      go : (rest : List Name) → drop at table ≡ packed rest → row_among s ns ≡ row_among s rest → None ≡ row_answer (row_among s ns)
       go [] d q = rw q
       go (name i w ∷ rest) d q = cc (d, drop_of_length-le table h)
 
@@ -105,7 +105,7 @@ module _ (table s : List ℕ) (at : ℕ) (p : Passed table s at) where
 
     module _ {same : Bool} (q : same ≡ alike s (take (at + 2 + get_or table at 0 - (at + 2)) (drop (at + 2) table))) where
       -- s is that name
-      pub passed_here : same ≡ true → (ns : List Name) → table ≡ packed ns → Number (get_or table (at + 1) 0) ≡ row_answer (row_among s ns)
+      pub passed_here : same ≡ true → (ns : List Name) → table ≡ packed ns → Some (get_or table (at + 1) 0) ≡ row_answer (row_among s ns)
       unfolding row_among
       passed_here t ns e = let l = left ns e in rw ((p ns e).2, l.is, ← l.part, ← q, t, l.number)
 
@@ -162,17 +162,17 @@ module _ (p : ℕ → Bool) where
     rows_from i (r ∷ rs) = in_row i r (names_from (i + 1) rs) ∙ rw (rows_from (i + 1) rs)
 
     -- The row of s in a table of these names is its row among all.
-    pub row_named : (rs : List (List String)) {table : List ℕ} {r : Row}
+    pub row_named : (rs : List (List String)) {table : List ℕ} {r : Maybe ℕ}
         → ((ns : List Name) → table ≡ packed ns → r ≡ row_answer (row_among s ns)) → table ≡ packed (names_from 0 rs)
         → r ≡ row_answer (row_of s rs)
     row_named rs f e = f (names_from 0 rs) e ∙ ap row_answer (rows_from 0 rs)
 
 -- ---- the answers of the look-ups
 
-pub row_is : (o : Option ℕ) (n : ℕ) → Number n ≡ row_answer o → o ≡ some n
+pub row_is : (o : Option ℕ) (n : ℕ) → Some n ≡ row_answer o → o ≡ some n
 row_is none n e = cc
 row_is (some m) n e = cc
 
-pub row_unknown : (o : Option ℕ) → Unknown ≡ row_answer o → o ≡ none
+pub row_unknown : (o : Option ℕ) → None ≡ row_answer o → o ≡ none
 row_unknown none e = refl
 row_unknown (some m) e = cc

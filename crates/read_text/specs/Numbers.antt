@@ -5,8 +5,8 @@ use Rattle.format.specs.Bytes.{space_or_tab}
 use Rattle.format.specs.Limits.{max_axes, max_size}
 use Rattle.format.specs.Words.{value_of_number}
 use Rattle.format.specs.Descriptors.{sizes_fine}
-use Rattle.read_text.specs.declared.numbers.Number.{Number}
-use Rattle.read_text.specs.declared.numbers.Number.TheVariants.{Value, Wrong}
+use Rattle.std.specs.Prelude.{Option as Maybe}
+use Rattle.std.specs.Prelude.{Some, None}
 use Rattle.read_text.specs.declared.numbers.Sizes.{Sizes}
 
 -- the least number that no field has: larger ones are cut to it
@@ -14,9 +14,9 @@ abbrev pub past_size : ℕ
 past_size = max_size + 1
 
 -- a number up to the largest that any field has
-abbrev pub number_answer : Option ℕ → Number
-number_answer none = Wrong
-number_answer (some n) = if nat_le n max_size then Value n else Wrong
+abbrev pub number_answer : Option ℕ → Maybe ℕ
+number_answer none = None
+number_answer (some n) = if nat_le n max_size then Some n else None
 
 -- a size, or 0 where it is none
 abbrev pub size_answer : Option ℕ → ℕ

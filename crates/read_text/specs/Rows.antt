@@ -2,8 +2,8 @@
 use Rattle.std.specs.Prelude.{ℕ, List, [], ◌∷◌, ◌++◌, length, if◌then◌else◌}
 use Rattle.std.proofs.Math.Option.{Option, none, some}
 use Rattle.format.specs.Bytes.{alike}
-use Rattle.read_text.specs.declared.words.Row.{Row}
-use Rattle.read_text.specs.declared.words.Row.TheVariants.{Number, Unknown}
+use Rattle.std.specs.Prelude.{Option as Maybe}
+use Rattle.std.specs.Prelude.{Some, None}
 
 -- the number of a row, and a name that stands in it
 pub data Name : Type 0 where
@@ -20,6 +20,6 @@ row_among s [] = none
 row_among s (name i w ∷ ns) = if alike s w then some i else row_among s ns
 
 -- the row as the look-ups answer it
-abbrev pub row_answer : Option ℕ → Row
-row_answer none = Unknown
-row_answer (some n) = Number n
+abbrev pub row_answer : Option ℕ → Maybe ℕ
+row_answer none = None
+row_answer (some n) = Some n

@@ -3,13 +3,6 @@ ghost use Rattle.std.specs.Prelude.{◌≡◌, ◌*◌, ◌+◌, ◌≤◌, min,
 ghost use Rattle.format.specs.Words.{number, words};
 ghost use Rattle.read_text.specs.Numbers.{past_size, number_answer, size_answer, first_word, sizes_answer};
 
-// A number up to `MAX_SIZE`, the limit of sizes and skips, or that the text is none.
-#[derive(Clone, Copy)]
-pub enum Number {
-    Value(u64),
-    Wrong,
-}
-
 // The sizes, and whether they are as many as the dimension and each in its range; if not, all are 0.
 #[derive(Clone, Copy)]
 pub struct Sizes {
@@ -34,30 +27,26 @@ fn wide(b: u8) -> u64
 }
 
 // The number that the digits of s write, of any length.
-pub fn read_number(s: &[u8]) -> Number
+pub fn read_number(s: &[u8]) -> Option<u64>
     ensures { result ≡ number_answer (number s.now) }
 {
     if s.len() == 0 {
-        return Number::Wrong;
+        return None;
     }
     let mut v: u64 = 0;
     let mut i: usize = 0;
     while i < s.len() {
         let b = s[i];
         if b < b'0' {
-            return Number::Wrong;
+            return None;
         }
         if b'9' < b {
-            return Number::Wrong;
+            return None;
         }
         v = cap(v * 10 + wide(b - b'0'));
         i += 1;
     }
-    if v < PAST_SIZE {
-        Number::Value(v)
-    } else {
-        Number::Wrong
-    }
+    if v < PAST_SIZE { Some(v) } else { None }
 }
 
 // How long the word at the front is: up to the next space or tab, or to the end.
@@ -83,8 +72,8 @@ pub fn read_size(s: &[u8]) -> u64
 {
     let x = read_number(s);
     match x {
-        Number::Value(v) => v,
-        Number::Wrong => 0,
+        Some(v) => v,
+        None => 0,
     }
 }
 

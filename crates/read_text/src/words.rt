@@ -54,13 +54,6 @@ const ENCODINGS: [u8; 28] = *b"\x03\x00raw\x03\x01txt\x04\x01text\x05\x01ascii\x
 // The names of the endians.
 const ENDIANS: [u8; 13] = *b"\x06\x00little\x03\x01big";
 
-// The number of the row that a name stands in.
-#[derive(Clone, Copy)]
-pub enum Row {
-    Number(u32),
-    Unknown,
-}
-
 // A byte as a small letter, where it is a letter.
 pub fn lower(b: u8) -> u8
     ensures { result ≡ small b }
@@ -102,7 +95,7 @@ pub fn is_alike(a: &[u8], b: &[u8]) -> bool
 }
 
 // The row of the name that s is, in a table of names.
-pub fn row_among(names: &[u8], s: &[u8]) -> Row
+pub fn row_among(names: &[u8], s: &[u8]) -> Option<u32>
     requires { (ns : List Name) × (names.now ≡ packed ns) }
     ensures { (ns : List Name) → names.now ≡ packed ns → result ≡ row_answer (row_among s.now ns) }
 {
@@ -111,15 +104,15 @@ pub fn row_among(names: &[u8], s: &[u8]) -> Row
         let from = at + 2;
         let to = from + names[at] as usize;
         if is_alike(s, &names[from..to]) {
-            return Row::Number(names[at + 1] as u32);
+            return Some(names[at + 1] as u32);
         }
         at = to;
     }
-    Row::Unknown
+    None
 }
 
 // The field of a name.
-pub fn field_named(s: &[u8]) -> Row
+pub fn field_named(s: &[u8]) -> Option<u32>
     ensures { result ≡ row_answer (field_named s.now) }
 {
     match s.len() {
@@ -131,7 +124,7 @@ pub fn field_named(s: &[u8]) -> Row
 }
 
 // The type of a name.
-pub fn type_named(s: &[u8]) -> Row
+pub fn type_named(s: &[u8]) -> Option<u32>
     ensures { result ≡ row_answer (type_named s.now) }
 {
     match s.len() {
@@ -143,7 +136,7 @@ pub fn type_named(s: &[u8]) -> Row
 }
 
 // The space of a name.
-pub fn space_named(s: &[u8]) -> Row
+pub fn space_named(s: &[u8]) -> Option<u32>
     ensures { result ≡ row_answer (space_named s.now) }
 {
     match s.len() {
@@ -155,14 +148,14 @@ pub fn space_named(s: &[u8]) -> Row
 }
 
 // The encoding of a name.
-pub fn encoding_named(s: &[u8]) -> Row
+pub fn encoding_named(s: &[u8]) -> Option<u32>
     ensures { result ≡ row_answer (encoding_named s.now) }
 {
     row_among(&ENCODINGS, s)
 }
 
 // The endian of a name.
-pub fn endian_named(s: &[u8]) -> Row
+pub fn endian_named(s: &[u8]) -> Option<u32>
     ensures { result ≡ row_answer (endian_named s.now) }
 {
     row_among(&ENDIANS, s)

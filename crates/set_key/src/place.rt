@@ -6,7 +6,7 @@ ghost use Rattle.format.specs.Header.{Entry, accepted, header};
 ghost use Rattle.read_header.specs.Accepted.{Fielded};
 ghost use Rattle.set_key.specs.Edits.{FirstAt, Placed};
 
-use read_lines::Span;
+use read_lines::LineEnds;
 
 // The pair's text goes between the bytes before `from` and those from `to` on. With a new line `to` is below `from`: the ending of line 1
 // stands on both sides of the text.
@@ -24,12 +24,12 @@ fn after_first(file: &[u8]) -> Place
     ensures { FirstAt file.now result }
 {
     match read_lines::line_at(file, 0) {
-        Span::Found(text_end, next) => Place {
+        Some(LineEnds { text_end, next }) => Place {
             from: next,
             to: text_end,
             more: 1,
         },
-        Span::Past => Place {
+        None => Place {
             from: 0,
             to: 0,
             more: 1,

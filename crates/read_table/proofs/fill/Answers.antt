@@ -23,9 +23,9 @@ line_at-requires c =
     let l = c.loop-k.invariant.1.lined in
     (lined_within l (one_left c.loop-k-test.true), lined_short l)
 
-pub returns-in-Past : goal.returns-in-Past
-returns-in-Past c =
-    absurd (lined_not_past c.loop-k.invariant.1.lined (one_left c.loop-k-test.true) (past_at c.in-Past.is c.line_at.ensures))
+pub returns-in-None : goal.returns-in-None
+returns-in-None c =
+    absurd (lined_not_past c.loop-k.invariant.1.lined (one_left c.loop-k-test.true) (past_at c.in-None.is c.line_at.ensures))
 
 pub loop-k-preserved : goal.loop-k-preserved
 loop-k-preserved c =
@@ -33,7 +33,7 @@ loop-k-preserved c =
     let a = c.args in
     let s = c.put_entry.ensures in (
       storing_put a.width l.invariant.0 l.k l.at s (omega arith) (omega arith),
-      filling_next l.invariant.1 c.loop-k-test.true (found_at c.in-Found.is c.line_at.ensures) s.entries,
+      filling_next l.invariant.1 c.loop-k-test.true (found_at c.in-Some.is c.line_at.ensures) s.entries,
     )
 
 pub returns : goal.returns

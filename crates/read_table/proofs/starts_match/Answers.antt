@@ -24,13 +24,13 @@ line_at-requires c =
     let l = c.loop-k.invariant.lined in
     (lined_within l (one_left c.loop-k-test.true), lined_short l)
 
-pub returns-in-Past : goal.returns-in-Past
-returns-in-Past c =
-    absurd (lined_not_past c.loop-k.invariant.lined (one_left c.loop-k-test.true) (past_at c.in-Past.is c.line_at.ensures))
+pub returns-in-None : goal.returns-in-None
+returns-in-None c =
+    absurd (lined_not_past c.loop-k.invariant.lined (one_left c.loop-k-test.true) (past_at c.in-None.is c.line_at.ensures))
 
 pub loop-k-preserved : goal.loop-k-preserved
 loop-k-preserved c =
-    matching_next c.loop-k.invariant c.loop-k-test.true (found_at c.in-Found.is c.line_at.ensures) (sym c.entry.ensures ∙ c.if-entry-at.false)
+    matching_next c.loop-k.invariant c.loop-k-test.true (found_at c.in-Some.is c.line_at.ensures) (sym c.entry.ensures ∙ c.if-entry-at.false)
 
 pub returns : goal.returns
 returns c = matching_done c.loop-k.invariant c.loop-k-test.false

@@ -12,15 +12,15 @@ loop-left-init c = c.requires
 pub line_at-requires : goal.line_at-requires
 line_at-requires c = let w = c.loop-left.invariant in (ahead_starts w, ahead_short w)
 
-pub returns-in-Past : goal.returns-in-Past
-returns-in-Past c =
+pub returns-in-None : goal.returns-in-None
+returns-in-None c =
     let l = c.loop-left in
-    absurd (ahead_not_past l.invariant c.in-Past.ensures)
+    absurd (ahead_not_past l.invariant c.in-None.ensures)
 
 pub loop-left-preserved : goal.loop-left-preserved
 loop-left-preserved c =
     let l = c.loop-left in
-    ahead_next l.invariant (omega (arith, c.loop-left-test.true)) c.in-Found.ensures
+    ahead_next l.invariant (omega (arith, c.loop-left-test.true)) c.in-Some.ensures
 
 pub returns : goal.returns
 returns c =

@@ -12,28 +12,28 @@ pub line_at-requires : goal.line_at-requires
 line_at-requires c = let w = c.loop-left.invariant.0 in (within_starts w c.loop-left-test.true, within_limit w)
 
 pub slice_bounds-is_key-count : goal.slice_bounds-is_key-count
-slice_bounds-is_key-count c = c.in-Found.ensures.from
+slice_bounds-is_key-count c = c.in-Some.ensures.from
 
 pub slice_bounds-is_key-start : goal.slice_bounds-is_key-start
-slice_bounds-is_key-start c = c.in-Found.ensures.from
+slice_bounds-is_key-start c = c.in-Some.ensures.from
 
 pub slice_bounds-is_key-end : goal.slice_bounds-is_key-end
-slice_bounds-is_key-end c = let w = c.in-Found.ensures in omega (arith, w.to, w.within)
+slice_bounds-is_key-end c = let w = c.in-Some.ensures in omega (arith, w.to, w.within)
 
 pub returns-then-is_key : goal.returns-then-is_key
 returns-then-is_key c =
     let l = c.loop-left in
-    sym (l.invariant.1 ∙ later_here l.invariant.0 c.loop-left-test.true c.in-Found.ensures _ (sym c.is_key.ensures ∙ c.if-is_key.true))
+    sym (l.invariant.1 ∙ later_here l.invariant.0 c.loop-left-test.true c.in-Some.ensures _ (sym c.is_key.ensures ∙ c.if-is_key.true))
 
-pub returns-in-Past : goal.returns-in-Past
-returns-in-Past c =
+pub returns-in-None : goal.returns-in-None
+returns-in-None c =
     let l = c.loop-left in
-    absurd (within_not_past l.invariant.0 c.loop-left-test.true c.in-Past.ensures)
+    absurd (within_not_past l.invariant.0 c.loop-left-test.true c.in-None.ensures)
 
 pub loop-left-preserved : goal.loop-left-preserved
 loop-left-preserved c =
     let l = c.loop-left in
-    let w = c.in-Found.ensures in (
+    let w = c.in-Some.ensures in (
       within_next l.invariant.0 c.loop-left-test.true w,
       l.invariant.1 ∙ later_next l.invariant.0 c.loop-left-test.true w _ (sym c.is_key.ensures ∙ c.if-is_key.false),
     )

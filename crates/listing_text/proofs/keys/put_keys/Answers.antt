@@ -18,33 +18,33 @@ pub line_at-requires : goal.line_at-requires
 line_at-requires c = let w = c.loop-left.invariant.0 in (within_starts w c.loop-left-test.true, within_limit w)
 
 pub slice_bounds-put_item-count : goal.slice_bounds-put_item-count
-slice_bounds-put_item-count c = c.in-Found.ensures.from
+slice_bounds-put_item-count c = c.in-Some.ensures.from
 
 pub slice_bounds-put_item-start : goal.slice_bounds-put_item-start
-slice_bounds-put_item-start c = c.in-Found.ensures.from
+slice_bounds-put_item-start c = c.in-Some.ensures.from
 
 pub slice_bounds-put_item-end : goal.slice_bounds-put_item-end
-slice_bounds-put_item-end c = let w = c.in-Found.ensures in omega (arith, w.to, w.within)
+slice_bounds-put_item-end c = let w = c.in-Some.ensures in omega (arith, w.to, w.within)
 
 pub put_item-o-requires : goal.put_item-o-requires
 put_item-o-requires c =
     let l = c.loop-left in
-    let w = c.in-Found.ensures in
+    let w = c.in-Some.ensures in
     (within_next l.invariant.0 c.loop-left-test.true w, simp length-take (omega (arith, l.invariant.2, w.from, w.to, w.short, w.within, c.requires)))
 
-pub returns-in-Past : goal.returns-in-Past
-returns-in-Past c =
+pub returns-in-None : goal.returns-in-None
+returns-in-None c =
     let l = c.loop-left in
-    absurd (within_not_past l.invariant.0 c.loop-left-test.true c.in-Past.ensures)
+    absurd (within_not_past l.invariant.0 c.loop-left-test.true c.in-None.ensures)
 
 pub loop-left-preserved : goal.loop-left-preserved
 loop-left-preserved c =
     let l = c.loop-left in
     let file = c.args.file.now in
-    let w = c.in-Found.ensures in
+    let w = c.in-Some.ensures in
     let p = c.put_item-o.ensures in
-    let ls = lines_from file c.in-Found.next (l.left - 1) in
-    let u = shown_texts (pair_in (take (c.in-Found.e - l.at) (drop l.at file))) ls in (
+    let ls = lines_from file c.in-Some.field-0.next (l.left - 1) in
+    let u = shown_texts (pair_in (take (c.in-Some.field-0.text_end - l.at) (drop l.at file))) ls in (
       within_next l.invariant.0 c.loop-left-test.true w,
       printing_more l.invariant.1 {u = u} (shown_lines ls) (shown_next l.invariant.0 c.loop-left-test.true w) p,
       omega (arith, l.invariant.2, w.from, w.to, simp length-take at p.long),

@@ -47,7 +47,7 @@ loop-at-preserved c =
     let a = c.args in
     let first = l.invariant.3 ∙ ap (codes_from a.kinds a.axes l.n l.v) (words_next a.t.now l.at w.result w.ensures.0 c.if-size-eq0.false) in
     let left : l.n < a.axes = omega arith in
-    let x = c.in-Number in
+    let x = c.in-Some in
     let e = sym x.is ∙ c.code_named-x.ensures in (
       search rules,
       search rules,

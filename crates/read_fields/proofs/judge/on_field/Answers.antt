@@ -20,18 +20,18 @@ pub slice_bounds-field_named-end : goal.slice_bounds-field_named-end
 slice_bounds-field_named-end c = let a = c.args in sym (length-take-le a.i a.t.now (omega arith))
 
 pub on_known-requires : goal.on_known-requires
-on_known-requires c = field_below _ _ (row_is _ c.in-Number.f (sym c.in-Number.is ∙ c.field_named-row.ensures))
+on_known-requires c = field_below _ _ (row_is _ c.in-Some.f (sym c.in-Some.is ∙ c.field_named-row.ensures))
 
-pub returns-in-Number : goal.returns-in-Number
-returns-in-Number c gs h l =
+pub returns-in-Some : goal.returns-in-Some
+returns-in-Some c gs h l =
     let p = sym c.is_plain.ensures ∙ c.if-not-is_plain.false in
     let a = c.args in
-    let e = row_is (field_named (take a.i a.t.now)) c.in-Number.f (sym c.in-Number.is ∙ c.field_named-row.ensures) in
+    let e = row_is (field_named (take a.i a.t.now)) c.in-Some.f (sym c.in-Some.is ∙ c.field_named-row.ensures) in
     c.on_known.ensures gs h (rest_le a.t.now _ l) ∙ rw (p, e, to_end a.t.now)
 
-pub returns-in-Unknown : goal.returns-in-Unknown
+pub returns-in-None : goal.returns-in-None
 unfolding on_field
-returns-in-Unknown c gs h l =
+returns-in-None c gs h l =
     let p = sym c.is_plain.ensures ∙ c.if-not-is_plain.false in
-    let e = row_unknown (field_named (take c.args.i c.args.t.now)) (sym c.in-Unknown.is ∙ c.field_named-row.ensures) in
-    without_field c.args.sizes.now c.without_field-in-Unknown.ensures refl ∙ rw (p, e)
+    let e = row_unknown (field_named (take c.args.i c.args.t.now)) (sym c.in-None.is ∙ c.field_named-row.ensures) in
+    without_field c.args.sizes.now c.without_field-in-None.ensures refl ∙ rw (p, e)

@@ -11,25 +11,25 @@ pub returns-then-file-eq0 : goal.returns-then-file-eq0
 returns-then-file-eq0 c =
     c.refuse-then-file-eq0.ensures ∙ read_none c.args.file.now c.if-file-gt-MAX_FILE.false c.if-file-eq0.true
 
-pub returns-in-Past : goal.returns-in-Past
-returns-in-Past c =
+pub returns-in-None : goal.returns-in-None
+returns-in-None c =
     let f = c.args.file.now in
-    c.refuse-in-Past.ensures ∙ read_past f c.if-file-gt-MAX_FILE.false c.in-Past.ensures
+    c.refuse-in-None.ensures ∙ read_past f c.if-file-gt-MAX_FILE.false c.in-None.ensures
 
 pub returns-then-text_end-next : goal.returns-then-text_end-next
 returns-then-text_end-next c =
-    c.refuse-then-text_end-next.ensures ∙ read_unended c.args.file.now c.if-file-gt-MAX_FILE.false c.in-Found.ensures c.if-text_end-next.true
+    c.refuse-then-text_end-next.ensures ∙ read_unended c.args.file.now c.if-file-gt-MAX_FILE.false c.in-Some.ensures c.if-text_end-next.true
 
 pub slice_bounds-magic_version-end : goal.slice_bounds-magic_version-end
-slice_bounds-magic_version-end c = omega (arith, c.in-Found.ensures)
+slice_bounds-magic_version-end c = omega (arith, c.in-Some.ensures)
 
 pub returns-then-version-eq0 : goal.returns-then-version-eq0
 returns-then-version-eq0 c =
-    c.refuse-then-version-eq0.ensures ∙ read_other c.args.file.now c.if-file-gt-MAX_FILE.false c.in-Found.ensures c.if-text_end-next.false c.magic_version-version.result c.magic_version-version.ensures c.if-version-eq0.true
+    c.refuse-then-version-eq0.ensures ∙ read_other c.args.file.now c.if-file-gt-MAX_FILE.false c.in-Some.ensures c.if-text_end-next.false c.magic_version-version.result c.magic_version-version.ensures c.if-version-eq0.true
 
 pub read_lines-requires : goal.read_lines-requires
-read_lines-requires c = omega (arith, c.in-Found.ensures)
+read_lines-requires c = omega (arith, c.in-Some.ensures)
 
-pub returns-in-Found : goal.returns-in-Found
-returns-in-Found c =
-    c.read_lines.ensures ∙ read_on c.args.file.now c.if-file-gt-MAX_FILE.false c.in-Found.ensures c.if-text_end-next.false c.magic_version-version.result c.magic_version-version.ensures c.if-version-eq0.false
+pub returns-in-Some : goal.returns-in-Some
+returns-in-Some c =
+    c.read_lines.ensures ∙ read_on c.args.file.now c.if-file-gt-MAX_FILE.false c.in-Some.ensures c.if-text_end-next.false c.magic_version-version.result c.magic_version-version.ensures c.if-version-eq0.false

@@ -7,14 +7,14 @@ use Rattle.read_lookup.proofs.axes.axis_row.Goals as goal
 pub returns-then-g-lt-CENTERS : goal.returns-then-g-lt-CENTERS
 returns-then-g-lt-CENTERS c =
     let a = c.args in
-    row_before _ (field_named a.name.now) (sym c.in-Number.is ∙ c.field_named.ensures) c.if-g-lt-CENTERS.true
+    row_before _ (field_named a.name.now) (sym c.in-Some.is ∙ c.field_named.ensures) c.if-g-lt-CENTERS.true
 
 pub returns-else-g-lt-CENTERS : goal.returns-else-g-lt-CENTERS
 returns-else-g-lt-CENTERS c =
     let a = c.args in
-    row_from _ (field_named a.name.now) (sym c.in-Number.is ∙ c.field_named.ensures) c.if-g-lt-CENTERS.false
+    row_from _ (field_named a.name.now) (sym c.in-Some.is ∙ c.field_named.ensures) c.if-g-lt-CENTERS.false
 
-pub returns-in-Unknown : goal.returns-in-Unknown
-returns-in-Unknown c =
+pub returns-in-None : goal.returns-in-None
+returns-in-None c =
     let a = c.args in
-    row_unknown (field_named a.name.now) (sym c.in-Unknown.is ∙ c.field_named.ensures)
+    row_unknown (field_named a.name.now) (sym c.in-None.is ∙ c.field_named.ensures)

@@ -18,17 +18,17 @@ pub line_at-requires : goal.line_at-requires
 line_at-requires c = let w = c.loop-left.invariant in (left_starts w c.loop-left-test.true, left_short w c.loop-left-test.true)
 
 pub slice_bounds-field_given-count : goal.slice_bounds-field_given-count
-slice_bounds-field_given-count c = c.in-Found.ensures.from
+slice_bounds-field_given-count c = c.in-Some.ensures.from
 
 pub slice_bounds-field_given-start : goal.slice_bounds-field_given-start
-slice_bounds-field_given-start c = c.in-Found.ensures.from
+slice_bounds-field_given-start c = c.in-Some.ensures.from
 
 pub slice_bounds-field_given-end : goal.slice_bounds-field_given-end
-slice_bounds-field_given-end c = let w = c.in-Found.ensures in omega (arith, w.to, w.within)
+slice_bounds-field_given-end c = let w = c.in-Some.ensures in omega (arith, w.to, w.within)
 
 pub field_given-given-requires : goal.field_given-given-requires
 field_given-given-requires c =
-    let w = c.in-Found.ensures in simp length-take (omega (arith, w.from, w.to, w.short))
+    let w = c.in-Some.ensures in simp length-take (omega (arith, w.from, w.to, w.short))
 
 pub overflow_sub-left : goal.overflow_sub-left
 overflow_sub-left c =
@@ -43,13 +43,13 @@ loop-left-smaller c =
 pub loop-left-preserved : goal.loop-left-preserved
 loop-left-preserved c =
     let l = c.loop-left in
-    axes_next l.centring l.label l.unit l.kind l.invariant c.loop-left-test.true c.in-Found.ensures c.field_given-given.result c.field_given-given.ensures
+    axes_next l.centring l.label l.unit l.kind l.invariant c.loop-left-test.true c.in-Some.ensures c.field_given-given.result c.field_given-given.ensures
     _ _ _ _ c.keep-centring.ensures c.keep-label.ensures c.keep-unit.ensures c.keep-kind.ensures
 
 pub returns-after-loop-left : goal.returns-after-loop-left
 returns-after-loop-left c = let l = c.loop-left in axes_end l.centring l.label l.unit l.kind l.invariant (omega arith)
 
-pub returns-in-Past : goal.returns-in-Past
-returns-in-Past c =
+pub returns-in-None : goal.returns-in-None
+returns-in-None c =
     let l = c.loop-left in
-    absurd (left_not_past l.invariant c.loop-left-test.true c.in-Past.ensures)
+    absurd (left_not_past l.invariant c.loop-left-test.true c.in-None.ensures)

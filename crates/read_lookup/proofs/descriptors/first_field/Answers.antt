@@ -12,30 +12,30 @@ pub line_at-requires : goal.line_at-requires
 line_at-requires c = let w = c.loop-left.invariant in (left_starts w c.loop-left-test.true, left_short w c.loop-left-test.true)
 
 pub slice_bounds-field_in-count : goal.slice_bounds-field_in-count
-slice_bounds-field_in-count c = c.in-Found.ensures.from
+slice_bounds-field_in-count c = c.in-Some.ensures.from
 
 pub slice_bounds-field_in-start : goal.slice_bounds-field_in-start
-slice_bounds-field_in-start c = c.in-Found.ensures.from
+slice_bounds-field_in-start c = c.in-Some.ensures.from
 
 pub slice_bounds-field_in-end : goal.slice_bounds-field_in-end
-slice_bounds-field_in-end c = let w = c.in-Found.ensures in omega (arith, w.to, w.within)
+slice_bounds-field_in-end c = let w = c.in-Some.ensures in omega (arith, w.to, w.within)
 
 pub field_in-place-requires : goal.field_in-place-requires
 field_in-place-requires c =
-    let w = c.in-Found.ensures in simp length-take (omega (arith, w.from, w.to, w.short))
+    let w = c.in-Some.ensures in simp length-take (omega (arith, w.from, w.to, w.short))
 
 pub returns-then-place : goal.returns-then-place
 returns-then-place c =
-    field_found _ c.loop-left.invariant c.loop-left-test.true c.in-Found.ensures c.field_in-place.result c.field_in-place.ensures c.if-place.true
+    field_found _ c.loop-left.invariant c.loop-left-test.true c.in-Some.ensures c.field_in-place.result c.field_in-place.ensures c.if-place.true
 
-pub returns-in-Past : goal.returns-in-Past
-returns-in-Past c =
+pub returns-in-None : goal.returns-in-None
+returns-in-None c =
     let l = c.loop-left in
-    absurd (left_not_past l.invariant c.loop-left-test.true c.in-Past.ensures)
+    absurd (left_not_past l.invariant c.loop-left-test.true c.in-None.ensures)
 
 pub loop-left-preserved : goal.loop-left-preserved
 loop-left-preserved c =
-    field_on _ c.loop-left.invariant c.loop-left-test.true c.in-Found.ensures c.field_in-place.result c.field_in-place.ensures c.if-place.false
+    field_on _ c.loop-left.invariant c.loop-left-test.true c.in-Some.ensures c.field_in-place.result c.field_in-place.ensures c.if-place.false
 
 pub returns : goal.returns
 returns c = c.absent-2.ensures ∙ field_end _ c.loop-left.invariant (omega arith)

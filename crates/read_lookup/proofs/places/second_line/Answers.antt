@@ -2,12 +2,12 @@
 use Rattle.read_lookup.proofs.Finding.{second_found, second_past}
 use Rattle.read_lookup.proofs.places.second_line.Goals as goal
 
-pub returns-in-Found : goal.returns-in-Found
-returns-in-Found c =
+pub returns-in-Some : goal.returns-in-Some
+returns-in-Some c =
     let file = c.args.file.now in
-    second_found file _ _ c.in-Found.ensures
+    second_found file _ _ c.in-Some.ensures
 
-pub returns-in-Past : goal.returns-in-Past
-returns-in-Past c =
+pub returns-in-None : goal.returns-in-None
+returns-in-None c =
     let file = c.args.file.now in
-    second_past file c.in-Past.ensures
+    second_past file c.in-None.ensures

@@ -2,12 +2,12 @@
 use Rattle.set_key.proofs.Placing.{first_found, first_past}
 use Rattle.set_key.proofs.place.after_first.Goals as goal
 
-pub returns-in-Found : goal.returns-in-Found
-returns-in-Found c =
+pub returns-in-Some : goal.returns-in-Some
+returns-in-Some c =
     let file = c.args.file.now in
-    first_found file _ _ c.in-Found.ensures
+    first_found file _ _ c.in-Some.ensures
 
-pub returns-in-Past : goal.returns-in-Past
-returns-in-Past c =
+pub returns-in-None : goal.returns-in-None
+returns-in-None c =
     let file = c.args.file.now in
-    first_past file c.in-Past.ensures _
+    first_past file c.in-None.ensures _
