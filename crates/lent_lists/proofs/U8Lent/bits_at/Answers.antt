@@ -1,5 +1,5 @@
 -- The number of 8 bytes at a sample's place is its bits.
-use Rattle.std.proofs.Common.{◌∙◌, ap, sym, arith}
+use Rattle.std.proofs.Common.{arith}
 use Rattle.format.specs.Samples.{from_bytes}
 use Rattle.format.proofs.Boundary.{lent_room, length_samples}
 use Rattle.lent_lists.proofs.Bits.{bits_lent}
