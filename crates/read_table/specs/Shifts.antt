@@ -1,6 +1,7 @@
 -- Internal to the library. The starts of lines, moved by an edit of the header.
 use Rattle.std.specs.Prelude.{ℕ, zero, suc, ◌+◌, ◌-◌, ◌≤◌, ◌<◌, List, [], ◌∷◌, map, nat_lt, length, slice_index, if◌then◌else◌}
 use Rattle.format.specs.Limits.{max_file}
+use Rattle.read_table.specs.declared.table.Edit.{Edit}
 
 -- where a line that started at x starts, once what ended at `to` ends at `front`
 unfoldable pub moved_by : ℕ → ℕ → ℕ → ℕ
@@ -19,3 +20,7 @@ pub record Shiftable (table : List ℕ) (count more from to front : ℕ) : Type 
   pub room : count + more ≤ length table
   pub second : from ≤ max_file
   pub small : (k : ℕ) → k < count → moved_by to front (slice_index table k) ≤ max_file
+
+-- the same of the edit with these numbers
+abbrev pub moved_entries : Edit → List ℕ → List ℕ
+moved_entries edit = shifted edit.from edit.to edit.front edit.more

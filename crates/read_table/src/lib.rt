@@ -11,6 +11,9 @@ ghost use Rattle.read_table.specs.Shifts.{moved_by, shifted, Shiftable};
 
 use read_lines::LineEnds;
 
+pub mod cells;
+pub mod table;
+
 // The list counts.
 pub const IN_LIST: usize = 0;
 
