@@ -22,12 +22,20 @@ use Rattle.format.specs.Descriptors.{ByteSkip, forward, from_end, bytes_forward,
 use Rattle.format.specs.Header.{Entry, Outcome, refused, accepted, header, header_length}
 use Rattle.format.specs.Data.{skip_lines, skip_bytes, last_bytes, past_byte_skip, after_skips, Place, nowhere, part, place_from, place_of, part_of}
 use Rattle.format.specs.Calls.{reading_of, read_answer, read_header_call, no_data, data_answer, data_place_in, data_place_call, data_call}
+use Rattle.format.specs.declared.reason.Reason.{Reason}
+use Rattle.format.specs.Reasons.{reason_number}
 use Rattle.format.proofs.Header.{header_sound}
 use Rattle.format.proofs.Rules.{accepted_keeps}
 use Rattle.format.proofs.Numbered.{NumberedOutcome, header_numbered}
 use Rattle.format.proofs.Places.{AtMost, skips_at_most, header_within}
 use Rattle.data_place.specs.Places.{IsReading, place_by, skipped_of, skipped_by, left_by, place_left, files_wrong}
 use Rattle.data_place.proofs.Skips.{rest_is, bytes_past, bytes_next}
+
+-- ---- refusals by their reasons
+
+-- a reason has a number that is not 0
+pub some_number : (reason : Reason) → reason_number reason ≡ 0 → ⊥
+some_number reason e = grind arith
 
 -- ---- the place by the numbers of a reading
 

@@ -14,8 +14,11 @@ use Rattle.format.specs.Header.{Entry, accepted, header}
 use Rattle.format.specs.Data.{skip_lines, skip_bytes, Place, nowhere, part}
 use Rattle.format.specs.Axes.{inside, sample_number}
 use Rattle.format.specs.Calls.{reading_of}
+use Rattle.format.specs.declared.reason.Reason.{Reason}
+use Rattle.format.specs.Reasons.{reason_number}
+use Rattle.data_place.specs.declared.place.Located.{Located}
 use Rattle.std.specs.Prelude.{Option as Maybe}
-use Rattle.std.specs.Prelude.{Some, None}
+use Rattle.std.specs.Prelude.{Some, None, Result, Ok, Err}
 
 -- ---- the place of the data
 
@@ -56,6 +59,11 @@ place_left x second whole (some left) = place_by x second (whole - length left) 
 -- the number of the refusal for the files, 0 for none: there are several (33), else the second one is too long (1)
 abbrev pub files_wrong : Bool → Bool → ℕ
 files_wrong several long = if several then several_files else if long then file_too_long else 0
+
+-- the place that was found, or the refusal
+abbrev pub place_located : Result Located Reason → Place
+place_located (Ok l) = part l.second l.place.start l.place.length
+place_located (Err reason) = nowhere (reason_number reason)
 
 -- ---- the number of a sample
 

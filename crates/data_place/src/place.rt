@@ -1,13 +1,16 @@
 // Where the data lies.
-ghost use Rattle.std.specs.Prelude.{◌≡◌, ◌&&◌, List, ◌≤◌, min, length, drop};
-ghost use Rattle.format.specs.Refusals.{refusal};
+ghost use Rattle.std.specs.Prelude.{◌≡◌, ◌&&◌, List, ◌≤◌, ◌==◌, nat_lt, Ok, min, length, drop};
+ghost use Rattle.format.specs.Limits.{max_file};
+ghost use Rattle.format.specs.Reasons.{refusal_number};
 ghost use Rattle.format.specs.Fields.{Given};
 ghost use Rattle.format.specs.Descriptors.{number_kind, is_floating};
 ghost use Rattle.format.specs.Header.{Entry, header_length};
 ghost use Rattle.format.specs.Data.{skip_lines, part, place_of};
 ghost use Rattle.format.specs.Calls.{no_data, data_answer, data_place_call, data_call, data_pointer};
-ghost use Rattle.data_place.specs.Places.{IsReading, SkipIs, place_by, skipped_of, left_by, place_left, files_wrong};
+ghost use Rattle.data_place.specs.Places.{IsReading, SkipIs, place_by, skipped_by, left_by, place_left, files_wrong, place_located};
 
+use format::answers::Place;
+use format::reason::Reason;
 use format::{DataAnswer, Reading, Refusal};
 use format_values::refusals;
 
@@ -16,47 +19,34 @@ fn skip_lines(s: &[u8], n: u64) -> Option<usize>
     ensures { SkipIs s.now (skip_lines n s.now) result }
 {
     let mut at: usize = 0;
-    let mut left = n;
-    while 0 < left {
+    for line in 0..n {
         let rest = &s[at..];
         let k = read_text::bytes::find_byte(rest, b'\n');
         if k == rest.len() {
             return None;
         }
         at += k + 1;
-        left -= 1;
     }
     Some(at)
 }
 
-// There is no data.
-fn nowhere(refusal: Refusal) -> DataAnswer
-    ensures { result ≡ no_data refusal }
-{
-    DataAnswer {
-        refusal: refusal,
-        second: false,
-        start: 0,
-        length: 0,
-    }
+// The data in the second file or in the header's, and where it lies there.
+#[derive(Clone, Copy)]
+pub struct Located {
+    pub second: bool,
+    pub place: Place,
 }
 
-// There is no data, for the reason with this number.
-fn refuse(number: u32) -> DataAnswer
-    ensures { result ≡ no_data (refusal number) }
+// So many bytes of the second file or of the header's.
+fn lies(second: bool, start: usize, length: u64) -> Located
+    ensures { place_located (Ok result) ≡ part second start length }
 {
-    nowhere(refusals::refusal(number))
-}
-
-// The data is so many bytes of the second file or of the header's.
-fn lies(second: bool, start: usize, length: u64) -> DataAnswer
-    ensures { result ≡ data_answer (part second start length) }
-{
-    DataAnswer {
-        refusal: refusals::FINE,
-        second: second,
-        start: start as u64,
-        length: length,
+    Located {
+        second,
+        place: Place {
+            start: start as u64,
+            length,
+        },
     }
 }
 
@@ -64,103 +54,125 @@ fn lies(second: bool, start: usize, length: u64) -> DataAnswer
 fn is_unfit(wanted: bool, t: u32) -> bool
     ensures { result ≡ (wanted && is_floating (number_kind t)) }
 {
-    if wanted {
-        return format_values::types::is_floating(t as u64);
-    }
-    false
+    wanted && format_values::types::is_floating(t as u64)
 }
 
 // The data from `start` on, up to the end of a file, with `left` bytes there.
-fn place_at(reading: Reading, second: bool, start: usize, left: usize) -> DataAnswer
-    ensures { result ≡ data_answer (place_by reading second start left) }
+fn place_at(reading: &Reading, second: bool, start: usize, left: usize) -> Result<Located, Reason>
+    ensures { place_located result ≡ place_by reading.now second start left }
 {
     if reading.encoding != format::RAW {
-        return lies(second, start, left as u64);
+        return Ok(lies(second, start, left as u64));
     }
     if (left as u64) < reading.extent {
-        return refuse(format::DATA_TOO_SHORT);
+        return Err(Reason::DataTooShort);
     }
-    lies(second, start, reading.extent)
+    Ok(lies(second, start, reading.extent))
 }
 
 // How many of the bytes left after the lines are skipped: from the end all but the extent, none where there are fewer.
-fn bytes_skipped(fromend: bool, byteskip: u64, extent: u64, left: u64) -> u64
-    ensures { result ≡ skipped_of fromend byteskip extent left }
+fn bytes_skipped(reading: &Reading, left: u64) -> u64
+    ensures { result ≡ skipped_by reading.now left }
 {
-    if !fromend {
-        return byteskip;
+    if reading.fromend {
+        left.saturating_sub(reading.extent)
+    } else {
+        reading.byteskip
     }
-    if left < extent {
-        return 0;
-    }
-    left - extent
 }
 
 // The data in a file from `from` on: past the lines, then past the bytes.
-fn place_in(reading: Reading, file: &[u8], from: usize, second: bool) -> DataAnswer
+fn place_in(reading: &Reading, file: &[u8], from: usize, second: bool) -> Result<Located, Reason>
     requires { from ≤ length file.now }
-    ensures { result ≡ data_answer (place_left reading second (length file.now) (left_by reading (drop from file.now))) }
+    ensures { place_located result ≡ place_left reading.now second (length file.now) (left_by reading.now (drop from file.now)) }
 {
-    match skip_lines(&file[from..], reading.lineskip) {
-        None => refuse(format::SKIP_PAST_END),
-        Some(p) => {
-            let at = from + p;
-            let left = file.len() - at;
-            let skipped = bytes_skipped(
-                reading.fromend,
-                reading.byteskip,
-                reading.extent,
-                left as u64,
-            );
-            if (left as u64) < skipped {
-                return refuse(format::SKIP_PAST_END);
-            }
-            let n = skipped as usize;
-            place_at(reading, second, at + n, left - n)
-        }
+    let Some(skip) = skip_lines(&file[from..], reading.lineskip) else {
+        return Err(Reason::SkipPastEnd);
+    };
+    let at = from + skip;
+    let left = file.len() - at;
+    let skipped = bytes_skipped(reading, left as u64);
+    if (left as u64) < skipped {
+        return Err(Reason::SkipPastEnd);
     }
+    let n = skipped as usize;
+    place_at(reading, second, at + n, left - n)
 }
 
 // Where the data area of an attached header starts, at most at the end of the file.
 fn area_start(length: u64, whole: usize) -> usize
     ensures { result ≡ min length whole }
 {
-    if length < whole as u64 {
-        return length as usize;
-    }
-    whole
+    length.min(whole as u64) as usize
 }
 
-// The number of the refusal for the files, 0 for none: there are several (33), else the second one is too long (1).
-fn files_wrong(several: bool, long: bool) -> u32
-    ensures { result ≡ files_wrong several long }
+// The refusal for the files: there are several, else the second one is too long.
+fn check_files(reading: &Reading, second: &[u8]) -> Result<(), Reason>
+    ensures { refusal_number result ≡ files_wrong (nat_lt 1 reading.now.files) ((reading.now.form == 1) && nat_lt max_file (length second.now)) }
 {
+    let several = 1 < reading.files;
+    let long = reading.form == format::DETACHED && format::MAX_FILE < second.len();
     if several {
-        return format::SEVERAL_FILES;
+        Err(Reason::SeveralFiles)
+    } else if long {
+        Err(Reason::FileTooLong)
+    } else {
+        Ok(())
     }
-    if long {
-        return format::FILE_TOO_LONG;
-    }
-    0
 }
 
 // The place of the data by the reading of the file; `wanted`: its samples are wanted.
+pub fn locate_data(
+    reading: &Reading,
+    file: &[u8],
+    second: &[u8],
+    wanted: bool,
+) -> Result<Located, Reason>
+    ensures { (es : List Entry) (gs : List Given) → IsReading file.now reading.now es gs → place_located result ≡ place_of wanted gs (header_length es) file.now second.now }
+{
+    check_files(reading, second)?;
+    if is_unfit(wanted, reading.sampletype) {
+        return Err(Reason::FloatSamples);
+    }
+    if reading.form == format::DETACHED {
+        place_in(reading, second, 0, true)
+    } else {
+        place_in(reading, file, area_start(reading.length, file.len()), false)
+    }
+}
+
+// The same as callers in C have it.
 pub fn locate(reading: Reading, file: &[u8], second: &[u8], wanted: bool) -> DataAnswer
     ensures { (es : List Entry) (gs : List Given) → IsReading file.now reading es gs → result ≡ data_answer (place_of wanted gs (header_length es) file.now second.now) }
 {
-    let several = 1 < reading.files;
-    let long = (reading.form == format::DETACHED) & (format::MAX_FILE < second.len());
-    let wrong = files_wrong(several, long);
-    if wrong != 0 {
-        return refuse(wrong);
+    answer(locate_data(&reading, file, second, wanted))
+}
+
+// A place as callers in C have it; a refusal without a line.
+fn answer(located: Result<Located, Reason>) -> DataAnswer
+    ensures { result ≡ data_answer (place_located located) }
+{
+    match located {
+        Ok(located) => DataAnswer {
+            refusal: refusals::FINE,
+            second: located.second,
+            start: located.place.start,
+            length: located.place.length,
+        },
+        Err(reason) => nowhere(refusals::refusal(reason.number())),
     }
-    if is_unfit(wanted, reading.sampletype) {
-        return refuse(format::FLOAT_SAMPLES);
+}
+
+// There is no data.
+fn nowhere(refusal: Refusal) -> DataAnswer
+    ensures { result ≡ no_data refusal }
+{
+    DataAnswer {
+        refusal,
+        second: false,
+        start: 0,
+        length: 0,
     }
-    if reading.form == format::DETACHED {
-        return place_in(reading, second, 0, true);
-    }
-    place_in(reading, file, area_start(reading.length, file.len()), false)
 }
 
 // The data call, by value: the refusal, or in which file, where and how long.

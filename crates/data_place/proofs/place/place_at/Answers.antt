@@ -9,7 +9,7 @@ returns-then-reading-ne-RAW c = simp (ne_eqb _ _ c.if-reading-ne-RAW.true) c.lie
 
 pub returns-then-left-reading : goal.returns-then-left-reading
 unfolding place_by
-returns-then-left-reading c = simp (eq-eqb _ _ c.if-reading-ne-RAW.false, lt-ltb _ _ c.if-left-reading.true) c.refuse.ensures
+returns-then-left-reading c = simp (eq-eqb _ _ c.if-reading-ne-RAW.false, lt-ltb _ _ c.if-left-reading.true)
 
 pub returns : goal.returns
 unfolding place_by
