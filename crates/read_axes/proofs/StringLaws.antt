@@ -21,7 +21,9 @@ use Rattle.read_text.proofs.Places.{drop_next}
 use Rattle.read_axes.specs.declared.strings.Span.{Span}
 use Rattle.read_axes.specs.declared.strings.Strings.{Strings}
 use Rattle.read_axes.specs.declared.strings.Found.{Found}
-use Rattle.read_axes.specs.Strings.{text_from, blank_or_end, first_of, StringAt, span_of, no_span, no_strings, strings_answer}
+use Rattle.std.specs.Prelude.{Option as Maybe}
+use Rattle.std.specs.Prelude.{Some, None}
+use Rattle.read_axes.specs.Strings.{text_from, blank_or_end, first_of, StringAt, span_of, no_span, no_strings, spans_from, strings_answer}
 
 -- ---- the text before the closing quote, byte by byte
 
@@ -188,9 +190,9 @@ abbrev span_at : ℕ → Quoted → Span
 span_at base q = record { start = base + start_of q; length = length (text_of q) }
 
 -- the answer where n spans are stored in v, and these strings are to come
-unfoldable pub strings_left : ℕ → ℕ → ℕ → List Span → Option (List Quoted) → Strings
-strings_left base axes n v none = no_strings
-strings_left base axes n v (some qs) = if eqb (n + length qs) axes then record { fine = true; spans = sets v n (map (span_at base) qs) } else no_strings
+unfoldable pub strings_left : ℕ → ℕ → ℕ → List Span → Option (List Quoted) → Maybe (List Span)
+strings_left base axes n v none = None
+strings_left base axes n v (some qs) = if eqb (n + length qs) axes then Some (sets v n (map (span_at base) qs)) else None
 
 each_on : {A : Type 0} (v : ℕ → A) (i n : ℕ) → each v (i + 1) n ≡ each (λ k. v (suc k)) i n
 unfolding each
@@ -222,28 +224,28 @@ spans_stored base (quoted at w ∷ qs) (suc m) h =
 module _ (base axes : ℕ) where
   -- none are stored yet
   pub left_start : (t : List ℕ) → axes ≤ max_axes
-      → strings_answer base (strings_said axes t) ≡ strings_left base axes 0 (replicate max_axes no_span) (strings_from apart 0 t)
-  unfolding strings_answer strings_said strings_left
+      → spans_from base (strings_said axes t) ≡ strings_left base axes 0 (replicate max_axes no_span) (strings_from apart 0 t)
+  unfolding spans_from strings_said strings_left
   left_start t l = from (strings_from apart 0 t)
     where
-      from : (o : Option (List Quoted)) → strings_answer base (as_many axes o) ≡ strings_left base axes 0 (replicate max_axes no_span) o
+      from : (o : Option (List Quoted)) → spans_from base (as_many axes o) ≡ strings_left base axes 0 (replicate max_axes no_span) o
       from none = refl
       from (some qs) = rw (zero-add (length qs)) (go (eqb (length qs) axes) refl)
         where
           go : (x : Bool) → eqb (length qs) axes ≡ x
-              → strings_answer base (if x then some qs else none)
-              ≡ (if x then record { fine = true; spans = sets (replicate max_axes no_span) 0 (map (span_at base) qs) } else no_strings)
+              → spans_from base (if x then some qs else none)
+              ≡ (if x then Some (sets (replicate max_axes no_span) 0 (map (span_at base) qs)) else None)
           go true e = rw (spans_stored base qs max_axes (omega (arith, eqb-true (length qs) axes e)))
           go false e = refl
 
   module _ (n : ℕ) (v : List Span) where
     -- the rest is wrong
-    pub left_wrong : strings_left base axes n v none ≡ no_strings
+    pub left_wrong : strings_left base axes n v none ≡ None
     unfolding strings_left
     left_wrong = refl
 
     -- a string too many
-    pub left_full : (q : Quoted) (o : Option (List Quoted)) → n ≡ axes → strings_left base axes n v (first_of q o) ≡ no_strings
+    pub left_full : (q : Quoted) (o : Option (List Quoted)) → n ≡ axes → strings_left base axes n v (first_of q o) ≡ None
     unfolding strings_left first_of
     left_full q none e = refl
     left_full q (some qs) e = rw (ne_eqb (n + suc (length qs)) axes (omega arith))
@@ -258,6 +260,18 @@ module _ (base axes : ℕ) where
         rw (← e, g, add-one)
 
     -- no string more
-    pub left_end : strings_left base axes n v (some []) ≡ (if eqb n axes then record { fine = true; spans = v } else no_strings)
+    pub left_end : strings_left base axes n v (some []) ≡ (if eqb n axes then Some v else None)
     unfolding strings_left
     left_end = rw (add-zero n)
+
+-- ---- the same with a flag
+
+pub spans_flagged : (base : ℕ) (o : Option (List Quoted)) (v : List Span) → Some v ≡ spans_from base o → record { fine = true; spans = v } ≡ strings_answer base o
+unfolding spans_from strings_answer
+spans_flagged base none v e = cc
+spans_flagged base (some qs) v e = let f : v ≡ each (λ i. span_of (string_place base qs i)) 0 max_axes = cc in rw f
+
+pub spans_flagged_none : (base : ℕ) (o : Option (List Quoted)) → None ≡ spans_from base o → no_strings ≡ strings_answer base o
+unfolding spans_from strings_answer
+spans_flagged_none base none e = refl
+spans_flagged_none base (some qs) e = cc

@@ -1,5 +1,7 @@
 -- Internal to the library. The answers of the functions on centrings and kinds.
 use Rattle.std.specs.Prelude.{ℕ, Bool, true, false, List, replicate, if◌then◌else◌}
+use Rattle.std.specs.Prelude.{Option as Maybe}
+use Rattle.std.specs.Prelude.{Some, None}
 use Rattle.std.proofs.Math.Option.{Option, none, some}
 use Rattle.format.specs.Limits.{max_axes}
 use Rattle.format.specs.Words.{words}
@@ -20,3 +22,7 @@ codes_said k n t = said_by n (code_named k) (words t)
 abbrev pub codes_answer : Option (List ℕ) → Codes
 codes_answer none = record { fine = false; codes = replicate max_axes 0 }
 codes_answer (some ns) = record { fine = true; codes = padded ns }
+
+abbrev pub codes_padded : Option (List ℕ) → Maybe (List ℕ)
+codes_padded none = None
+codes_padded (some ns) = Some (padded ns)

@@ -1,5 +1,7 @@
 -- Internal to the library. The answers of the functions on strings.
 use Rattle.std.specs.Prelude.{ℕ, ◌+◌, ◌≤◌, ◌≡◌, Bool, true, false, not, ◌&&◌, List, [], ◌∷◌, ◌==◌, length, replicate, drop, if◌then◌else◌}
+use Rattle.std.specs.Prelude.{Option as Maybe}
+use Rattle.std.specs.Prelude.{Some, None}
 use Rattle.std.proofs.Math.Option.{Option, none, some}
 use Rattle.format.specs.Bytes.{space_or_tab, QUOTE, BACKSLASH, each}
 use Rattle.format.specs.Limits.{max_axes}
@@ -47,3 +49,7 @@ no_strings = record { fine = false; spans = replicate max_axes no_span }
 unfoldable pub strings_answer : ℕ → Option (List Quoted) → Strings
 strings_answer base none = no_strings
 strings_answer base (some qs) = record { fine = true; spans = each (λ i. span_of (string_place base qs i)) 0 max_axes }
+
+unfoldable pub spans_from : ℕ → Option (List Quoted) → Maybe (List Span)
+spans_from base none = None
+spans_from base (some qs) = Some (each (λ i. span_of (string_place base qs i)) 0 max_axes)

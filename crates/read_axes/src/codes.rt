@@ -3,7 +3,7 @@ ghost use Rattle.std.specs.Prelude.{◌≡◌, ◌≤◌};
 ghost use Rattle.format.specs.Limits.{max_axes};
 ghost use Rattle.format.specs.Kinds.{centring_named, kind_named};
 ghost use Rattle.read_text.specs.Rows.{row_answer};
-ghost use Rattle.read_axes.specs.Codes.{code_named, codes_said, codes_answer};
+ghost use Rattle.read_axes.specs.Codes.{code_named, codes_said, codes_padded, codes_answer};
 
 // The names of the centrings.
 const CENTRINGS: [u8; 17] = *b"\x03\x00???\x04\x01cell\x04\x02node";
@@ -57,15 +57,11 @@ fn code_named(w: &[u8], kinds: bool) -> Option<u32>
     centring_named(w)
 }
 
-// As many words as axes, parted by spaces and tabs, each a kind, or else each a centring.
-pub fn read_codes(t: &[u8], axes: usize, kinds: bool) -> Codes
+// As many words as axes, parted by spaces and tabs, each a kind, or else each a centring: their numbers, 0 past them.
+pub fn codes_in(t: &[u8], axes: usize, kinds: bool) -> Option<[u32; format::AXES]>
     requires { axes ≤ max_axes }
-    ensures { result ≡ codes_answer (codes_said kinds axes t.now) }
+    ensures { result ≡ codes_padded (codes_said kinds axes t.now) }
 {
-    let wrong = Codes {
-        fine: false,
-        codes: [0u32; format::AXES],
-    };
     let mut at: usize = 0;
     let mut n: usize = 0;
     let mut v = [0u32; format::AXES];
@@ -76,22 +72,26 @@ pub fn read_codes(t: &[u8], axes: usize, kinds: bool) -> Codes
         } else {
             let e = at + size;
             if n == axes {
-                return wrong;
+                return None;
             }
-            let x = code_named(&t[at..e], kinds);
-            let Some(c) = x else {
-                return wrong;
-            };
-            v[n] = c;
+            v[n] = code_named(&t[at..e], kinds)?;
             n += 1;
             at = e;
         }
     }
-    if n == axes {
-        return Codes {
-            fine: true,
-            codes: v,
-        };
+    if n == axes { Some(v) } else { None }
+}
+
+// The same with a flag.
+pub fn read_codes(t: &[u8], axes: usize, kinds: bool) -> Codes
+    requires { axes ≤ max_axes }
+    ensures { result ≡ codes_answer (codes_said kinds axes t.now) }
+{
+    match codes_in(t, axes, kinds) {
+        Some(codes) => Codes { fine: true, codes },
+        None => Codes {
+            fine: false,
+            codes: [0u32; format::AXES],
+        },
     }
-    wrong
 }

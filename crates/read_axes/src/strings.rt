@@ -3,7 +3,7 @@ ghost use Rattle.std.specs.Prelude.{◌≡◌, false, ◌+◌, ◌≤◌, ◌<�
 ghost use Rattle.format.specs.Bytes.{space_or_tab};
 ghost use Rattle.format.specs.Limits.{max_axes, max_file};
 ghost use Rattle.format.specs.Strings.{strings_said};
-ghost use Rattle.read_axes.specs.Strings.{text_from, blank_or_end, StringAt, no_strings, strings_answer};
+ghost use Rattle.read_axes.specs.Strings.{text_from, blank_or_end, StringAt, no_strings, spans_from, strings_answer};
 
 // Where the text of a string lies; both are 0 where there is none.
 #[derive(Clone, Copy)]
@@ -95,10 +95,10 @@ fn string_at(t: &[u8], at: usize) -> Found
     }
 }
 
-// As many strings as axes, parted by spaces and tabs; their places are told in a file in which the descriptor starts at `base`.
-pub fn read_strings(t: &[u8], axes: usize, base: u32) -> Strings
+// As many strings as axes, parted by spaces and tabs: their places in a file in which the descriptor starts at `base`.
+pub fn strings_in(t: &[u8], axes: usize, base: u32) -> Option<[Span; format::AXES]>
     requires { (axes ≤ max_axes) × (base + length t.now ≤ max_file) }
-    ensures { result ≡ strings_answer base (strings_said axes t.now) }
+    ensures { result ≡ spans_from base (strings_said axes t.now) }
 {
     let mut at: usize = 0;
     let mut n: usize = 0;
@@ -111,10 +111,10 @@ pub fn read_strings(t: &[u8], axes: usize, base: u32) -> Strings
             let x = string_at(t, at);
             let fine = x.fine;
             if !fine {
-                return no_strings();
+                return None;
             }
             if n == axes {
-                return no_strings();
+                return None;
             }
             let from = at + 1;
             let place = from as u32;
@@ -126,11 +126,16 @@ pub fn read_strings(t: &[u8], axes: usize, base: u32) -> Strings
             at = from + long + 1;
         }
     }
-    if n == axes {
-        return Strings {
-            fine: true,
-            spans: v,
-        };
+    if n == axes { Some(v) } else { None }
+}
+
+// The same with a flag.
+pub fn read_strings(t: &[u8], axes: usize, base: u32) -> Strings
+    requires { (axes ≤ max_axes) × (base + length t.now ≤ max_file) }
+    ensures { result ≡ strings_answer base (strings_said axes t.now) }
+{
+    match strings_in(t, axes, base) {
+        Some(spans) => Strings { fine: true, spans },
+        None => no_strings(),
     }
-    no_strings()
 }

@@ -14,11 +14,12 @@ use lib.ListN.{length, take, drop, get_or, set, replicate, drop_of_length-le, le
 use lib.Seq.{take_all, drop-drop, drop_at, sets, sets-eq}
 use borrow.Author.Tests.{leb-true, leb-false, eqb-true, eq-eqb, ne_eqb, le-leb, lt-leb}
 use Rattle.format.specs.Bytes.{space_or_tab, is_digit, or_default, SPACE, TAB}
-use Rattle.format.specs.Limits.{max_size}
+use Rattle.format.specs.Limits.{max_axes, max_size}
+use Rattle.format.specs.Descriptors.{sizes_fine}
 use Rattle.format.specs.Words.{digits_from, number, join_first, parts, not_empty, words, within, numbers_in, value_of_number}
-use Rattle.read_text.specs.Numbers.{past_size, number_answer, size_answer, first_word, no_sizes, sizes_answer}
+use Rattle.read_text.specs.Numbers.{past_size, number_answer, size_answer, first_word, sizes_in, no_sizes, sizes_answer}
 use Rattle.std.specs.Prelude.{Some, None}
-use Rattle.read_text.specs.declared.numbers.Sizes.{Sizes}
+use Rattle.std.specs.Prelude.{Option as Maybe}
 use Rattle.read_text.proofs.Places.{drop_next}
 
 -- ---- a number, digit by digit
@@ -249,10 +250,10 @@ module _ (s : List ℕ) (at : ℕ) where
 -- ---- sizes
 
 -- the answer where n sizes are stored in v, and the words ws are to come
-unfoldable pub sizes_from : ℕ → ℕ → List ℕ → List (List ℕ) → Sizes
+unfoldable pub sizes_from : ℕ → ℕ → List ℕ → List (List ℕ) → Maybe (List ℕ)
 sizes_from dim n v ws =
-    if eqb (n + length ws) dim && numbers_in 1 max_size ws then record { fine = true; sizes = sets v n (map value_of_number ws) }
-    else no_sizes
+    if eqb (n + length ws) dim && numbers_in 1 max_size ws then Some (sets v n (map value_of_number ws))
+    else None
 
 -- numbers that are stored at the front of n zeros
 pub stored : (n : ℕ) (xs : List ℕ) → length xs ≤ n → sets (replicate n 0) 0 xs ≡ xs ++ replicate (n - length xs) 0
@@ -265,21 +266,21 @@ stored n xs h =
     sets-eq xs (z n) 0 fits ∙ rw (zero-add, parted, drop_at (z k) (z (n - k)) k (length-replicate k 0))
 
 -- there are more axes than may be
-pub sizes_many : (dim : ℕ) (ws : List (List ℕ)) → 16 < dim → sizes_answer dim ws ≡ no_sizes
-unfolding sizes_answer
+pub sizes_many : (dim : ℕ) (ws : List (List ℕ)) → 16 < dim → sizes_in dim ws ≡ None
+unfolding sizes_in
 sizes_many dim ws h = rw (lt-leb dim 16 h)
 
 -- none are stored yet
-pub sizes_start : (dim : ℕ) (ws : List (List ℕ)) → dim ≤ 16 → sizes_answer dim ws ≡ sizes_from dim 0 (replicate 16 0) ws
-unfolding sizes_answer sizes_from
+pub sizes_start : (dim : ℕ) (ws : List (List ℕ)) → dim ≤ 16 → sizes_in dim ws ≡ sizes_from dim 0 (replicate 16 0) ws
+unfolding sizes_in sizes_from
 sizes_start dim ws h = rw (le-leb dim 16 h, zero-add) (go (eqb (length ws) dim) refl)
   where
     xs : List ℕ
     xs = map value_of_number ws
 
     go : (x : Bool) → eqb (length ws) dim ≡ x
-        → (if x && numbers_in 1 max_size ws then record { fine = true; sizes = xs ++ replicate (16 - dim) 0 } else no_sizes)
-        ≡ (if x && numbers_in 1 max_size ws then record { fine = true; sizes = sets (replicate 16 0) 0 xs } else no_sizes)
+        → (if x && numbers_in 1 max_size ws then Some (xs ++ replicate (16 - dim) 0) else None)
+        ≡ (if x && numbers_in 1 max_size ws then Some (sets (replicate 16 0) 0 xs) else None)
     go true e =
         let k : length xs ≡ dim = length-map ws value_of_number ∙ eqb-true (length ws) dim e in
         rw (stored 16 xs (omega arith), k)
@@ -287,16 +288,16 @@ sizes_start dim ws h = rw (le-leb dim 16 h, zero-add) (go (eqb (length ws) dim) 
 
 module _ (dim n : ℕ) (v : List ℕ) where
   -- a word that is no size
-  pub sizes_bad : (w : List ℕ) (ws : List (List ℕ)) → size_answer (number w) ≡ 0 → sizes_from dim n v (w ∷ ws) ≡ no_sizes
+  pub sizes_bad : (w : List ℕ) (ws : List (List ℕ)) → size_answer (number w) ≡ 0 → sizes_from dim n v (w ∷ ws) ≡ None
   unfolding sizes_from numbers_in
   sizes_bad w ws e = rw (size_out (number w) e) (go (eqb (n + suc (length ws)) dim))
     where
-      go : (x : Bool) → (if x && false then record { fine = true; sizes = sets v n (map value_of_number (w ∷ ws)) } else no_sizes) ≡ no_sizes
+      go : (x : Bool) → (if x && false then Some (sets v n (map value_of_number (w ∷ ws))) else None) ≡ None
       go true = refl
       go false = refl
 
   -- a word too many
-  pub sizes_full : (w : List ℕ) (ws : List (List ℕ)) → n ≡ dim → sizes_from dim n v (w ∷ ws) ≡ no_sizes
+  pub sizes_full : (w : List ℕ) (ws : List (List ℕ)) → n ≡ dim → sizes_from dim n v (w ∷ ws) ≡ None
   unfolding sizes_from
   sizes_full w ws e = rw (ne_eqb (n + suc (length ws)) dim (omega arith))
 
@@ -310,10 +311,32 @@ module _ (dim n : ℕ) (v : List ℕ) where
       rw (e.0, e.1, g, add-one)
 
   -- no word more
-  pub sizes_end : sizes_from dim n v [] ≡ (if eqb n dim then record { fine = true; sizes = v } else no_sizes)
+  pub sizes_end : sizes_from dim n v [] ≡ (if eqb n dim then Some v else None)
   unfolding sizes_from numbers_in
   sizes_end = rw (add-zero n) (go (eqb n dim))
     where
-      go : (x : Bool) → (if x && true then record { fine = true; sizes = v } else no_sizes) ≡ (if x then record { fine = true; sizes = v } else no_sizes)
+      go : (x : Bool) → (if x && true then Some v else None) ≡ (if x then Some v else None)
       go true = refl
       go false = refl
+
+pub sizes_flagged : (dim : ℕ) (ws : List (List ℕ)) (ns : List ℕ) → Some ns ≡ sizes_in dim ws → record { fine = true; sizes = ns } ≡ sizes_answer dim ws
+unfolding sizes_in sizes_answer
+sizes_flagged dim ws ns e = go (leb dim max_axes && sizes_fine dim ws) e
+  where
+    all : List ℕ
+    all = map value_of_number ws ++ replicate (max_axes - dim) 0
+
+    go : (x : Bool) → Some ns ≡ (if x then Some all else None) → record { fine = true; sizes = ns } ≡ (if x then record { fine = true; sizes = all } else no_sizes)
+    go true e = let f : ns ≡ all = cc in rw f
+    go false e = cc
+
+pub sizes_flagged_none : (dim : ℕ) (ws : List (List ℕ)) → None ≡ sizes_in dim ws → no_sizes ≡ sizes_answer dim ws
+unfolding sizes_in sizes_answer
+sizes_flagged_none dim ws e = go (leb dim max_axes && sizes_fine dim ws) e
+  where
+    all : List ℕ
+    all = map value_of_number ws ++ replicate (max_axes - dim) 0
+
+    go : (x : Bool) → None ≡ (if x then Some all else None) → no_sizes ≡ (if x then record { fine = true; sizes = all } else no_sizes)
+    go true e = cc
+    go false e = refl

@@ -36,3 +36,9 @@ unfoldable pub sizes_answer : ℕ → List (List ℕ) → Sizes
 sizes_answer n ws =
     if nat_le n max_axes && sizes_fine n ws then record { fine = true; sizes = map value_of_number ws ++ replicate (max_axes - n) 0 }
     else no_sizes
+
+-- the sizes of so many axes in the words, 0 past them
+unfoldable pub sizes_in : ℕ → List (List ℕ) → Maybe (List ℕ)
+sizes_in n ws =
+    if nat_le n max_axes && sizes_fine n ws then Some (map value_of_number ws ++ replicate (max_axes - n) 0)
+    else None

@@ -1,7 +1,7 @@
 // Numbers in a text: one, or one for each axis.
 ghost use Rattle.std.specs.Prelude.{◌≡◌, ◌*◌, ◌+◌, ◌≤◌, min, length};
 ghost use Rattle.format.specs.Words.{number, words};
-ghost use Rattle.read_text.specs.Numbers.{past_size, number_answer, size_answer, first_word, sizes_answer};
+ghost use Rattle.read_text.specs.Numbers.{past_size, number_answer, size_answer, first_word, sizes_in, sizes_answer};
 
 // The sizes, and whether they are as many as the dimension and each in its range; if not, all are 0.
 #[derive(Clone, Copy)]
@@ -77,16 +77,12 @@ pub fn read_size(s: &[u8]) -> u64
     }
 }
 
-// As many numbers as the dimension, parted by spaces and tabs, each 1 to `MAX_SIZE`.
-pub fn read_sizes(s: &[u8], dimension: usize) -> Sizes
-    ensures { result ≡ sizes_answer dimension (words s.now) }
+// As many numbers as the dimension, parted by spaces and tabs, each 1 to `MAX_SIZE`; 0 past them.
+pub fn sizes_in(s: &[u8], dimension: usize) -> Option<[u64; format::AXES]>
+    ensures { result ≡ sizes_in dimension (words s.now) }
 {
-    let refused = Sizes {
-        fine: false,
-        sizes: [0u64; format::AXES],
-    };
     if format::AXES < dimension {
-        return refused;
+        return None;
     }
     let mut at: usize = 0;
     let mut n: usize = 0;
@@ -99,21 +95,28 @@ pub fn read_sizes(s: &[u8], dimension: usize) -> Sizes
             let e = at + size;
             let x = read_size(&s[at..e]);
             if x == 0 {
-                return refused;
+                return None;
             }
             if n == dimension {
-                return refused;
+                return None;
             }
             v[n] = x;
             n += 1;
             at = e;
         }
     }
-    if n == dimension {
-        return Sizes {
-            fine: true,
-            sizes: v,
-        };
+    if n == dimension { Some(v) } else { None }
+}
+
+// The same with a flag.
+pub fn read_sizes(s: &[u8], dimension: usize) -> Sizes
+    ensures { result ≡ sizes_answer dimension (words s.now) }
+{
+    match sizes_in(s, dimension) {
+        Some(sizes) => Sizes { fine: true, sizes },
+        None => Sizes {
+            fine: false,
+            sizes: [0u64; format::AXES],
+        },
     }
-    refused
 }

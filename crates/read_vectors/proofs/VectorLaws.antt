@@ -15,15 +15,18 @@ use borrow.Author.Tests.{leb-true, leb-false, ltb-true, ltb-false, le-leb, lt-le
 use Rattle.format.specs.declared.Decimal.{Decimal}
 use Rattle.format.specs.Bytes.{bytes, alike, is_some, onto, OPEN, CLOSE, COMMA}
 use Rattle.format.specs.Words.{join_first, trim_front, trim_end}
-use Rattle.format.specs.Vectors.{part_or_join, closed, enclosed, comma_parts, cons_said, said_by, component_in, vector_said, without, along_said, direction_said}
+use Rattle.format.specs.Vectors.{part_or_join, closed, enclosed, comma_parts, cons_said, said_by, component_in, vector_said, Direction, without, along, along_said, direction_said}
 use Rattle.format.proofs.Descriptors.{take_trimmed}
 use Rattle.read_text.specs.Places.{before}
 use Rattle.read_text.proofs.Places.{drop_next}
+use Rattle.std.specs.Prelude.{Option as Maybe}
+use Rattle.std.specs.Prelude.{Some, None}
+use Rattle.format.specs.Decimals.{marked, no_direction}
 use Rattle.read_decimals.specs.declared.Component.{Component}
 use Rattle.read_decimals.specs.Components.{component_answer}
 use Rattle.read_vectors.specs.declared.vector.Vector.{Vector}
 use Rattle.format.specs.Columns.{eight, column}
-use Rattle.read_vectors.specs.Answers.{vector_answer, direction_answer}
+use Rattle.read_vectors.specs.Answers.{vector_answer, direction_answer, vector_column, direction_column}
 use Rattle.read_text.proofs.Said.{said_done, said_short, said_long, said_cons}
 use Rattle.read_vectors.proofs.WordLaws.{all_after, drop_leading}
 
@@ -107,11 +110,11 @@ module _ (s : List ℕ) where
 
 -- ---- the vector, whose components are stored in the array a from i on
 
-abbrev pub stored : List Decimal → ℕ → Option (List Decimal) → Vector
-stored a i none = vector_answer none
-stored a i (some ds) = record { fine = true; parts = sets a i ds }
+abbrev pub stored : List Decimal → ℕ → Option (List Decimal) → Maybe (List Decimal)
+stored a i none = None
+stored a i (some ds) = Some (sets a i ds)
 
-pub stored_start : (a : List Decimal) (o : Option (List Decimal)) → a ≡ column [] → vector_answer o ≡ stored a 0 o
+pub stored_start : (a : List Decimal) (o : Option (List Decimal)) → a ≡ column [] → vector_column o ≡ stored a 0 o
 unfolding eight
 stored_start a none e = refl
 stored_start a (some ds) e = rw e
@@ -122,12 +125,12 @@ stored_next a i d (some ds) = rw add-one
 
 module _ (s : List ℕ) (a : List Decimal) (n i at : ℕ) where
   -- the vector by what is left of it
-  abbrev pub Left : Vector
+  abbrev pub Left : Maybe (List Decimal)
   Left = stored a i (said_by (n - i) component_in (parts_at s at))
 
   module _ (h : i < n) where
     -- no component more
-    pub vector_short : length s < at → vector_answer none ≡ Left
+    pub vector_short : length s < at → None ≡ Left
     vector_short e = rw (parts_end s at e, said_short component_in (n - i) (omega arith))
 
     module _ (p : List ℕ) (ps : List (List ℕ)) (c : Component) (q : parts_at s at ≡ p ∷ ps) (r : c ≡ component_answer (component_in p)) where
@@ -137,7 +140,7 @@ module _ (s : List ℕ) (a : List Decimal) (n i at : ℕ) where
           rw (q, said_cons component_in (n - i) p ps (omega arith), e)
 
       -- a component that is none
-      pub vector_wrong : c.fine ≡ false → vector_answer none ≡ Left
+      pub vector_wrong : c.fine ≡ false → None ≡ Left
       vector_wrong f = sym (left_cons ∙ rw (component_none (component_in p) c r f))
 
       -- one component more
@@ -147,13 +150,13 @@ module _ (s : List ℕ) (a : List Decimal) (n i at : ℕ) where
 
   module _ (h : n ≤ i) where
     -- a component too many
-    pub vector_long : at ≤ length s → vector_answer none ≡ Left
+    pub vector_long : at ≤ length s → None ≡ Left
     vector_long e =
         let z : n - i ≡ 0 = omega arith in
         let q = parts_more s at e (before COMMA (take (length s - at) (drop at s))) refl in
         rw (q, z, said_long component_in)
 
-    pub vector_done : length s < at → record { fine = true; parts = a } ≡ Left
+    pub vector_done : length s < at → Some a ≡ Left
     vector_done e = let z : n - i ≡ 0 = omega arith in rw (parts_end s at e, z, said_done component_in)
 
 -- ---- brackets
@@ -245,6 +248,26 @@ module _ (n : ℕ) (w : List ℕ) where
   unfolding direction_said
   direction_along e = rw e
 
-pub along_answer : (o : Option (List Decimal)) → vector_answer o ≡ direction_answer (along_said o)
-along_answer none = refl
-along_answer (some ds) = refl
+pub along_column : (o : Option (List Decimal)) → vector_column o ≡ direction_column (along_said o)
+along_column none = refl
+along_column (some ds) = refl
+
+-- ---- the same with a flag
+
+pub vector_flagged : (o : Option (List Decimal)) (ds : List Decimal) → Some ds ≡ vector_column o → record { fine = true; parts = ds } ≡ vector_answer o
+vector_flagged none ds e = cc
+vector_flagged (some es) ds e = let f : ds ≡ column es = cc in rw f
+
+pub vector_flagged_none : (o : Option (List Decimal)) → None ≡ vector_column o → vector_answer none ≡ vector_answer o
+vector_flagged_none none e = refl
+vector_flagged_none (some es) e = cc
+
+pub direction_flagged : (o : Option Direction) (ds : List Decimal) → Some ds ≡ direction_column o → record { fine = true; parts = ds } ≡ direction_answer o
+direction_flagged none ds e = cc
+direction_flagged (some without) ds e = let f : ds ≡ column (marked no_direction ∷ []) = cc in rw f
+direction_flagged (some (along es)) ds e = let f : ds ≡ column es = cc in rw f
+
+pub direction_flagged_none : (o : Option Direction) → None ≡ direction_column o → vector_answer none ≡ direction_answer o
+direction_flagged_none none e = refl
+direction_flagged_none (some without) e = cc
+direction_flagged_none (some (along es)) e = cc

@@ -1,5 +1,7 @@
 -- Internal to the library. What the functions on vectors answer.
 use Rattle.std.specs.Prelude.{ℕ, Bool, true, false, List, [], ◌∷◌, map, if◌then◌else◌}
+use Rattle.std.specs.Prelude.{Option as Maybe}
+use Rattle.std.specs.Prelude.{Some, None}
 use Rattle.std.proofs.Math.Option.{Option, none, some}
 use Rattle.format.specs.declared.Decimal.{Decimal}
 use Rattle.format.specs.Bytes.{is_some, or_default}
@@ -25,3 +27,14 @@ word_said may n w = if may then direction_said n w else along_said (vector_said 
 -- the vectors of a text as columns, with zeros for a word that is no vector
 abbrev pub frame_said : ℕ → List ℕ → List (List Decimal)
 frame_said n t = matrix (map (λ w. or_default [] (vector_said n w)) (vector_words t))
+
+-- a vector's components, zeros after them
+abbrev pub vector_column : Option (List Decimal) → Maybe (List Decimal)
+vector_column none = None
+vector_column (some ds) = Some (column ds)
+
+-- the same of an axis; one without a direction has a mark as its first component
+abbrev pub direction_column : Option Direction → Maybe (List Decimal)
+direction_column none = None
+direction_column (some without) = Some (column (marked no_direction ∷ []))
+direction_column (some (along ds)) = Some (column ds)

@@ -4,7 +4,7 @@ ghost use Rattle.format.specs.Bytes.{is_some};
 ghost use Rattle.format.specs.Limits.{max_header};
 ghost use Rattle.format.specs.Vectors.{said_by, vector_words, vector_said, direction_said, vectors_said, directions_said};
 ghost use Rattle.format.specs.Columns.{matrix};
-ghost use Rattle.read_vectors.specs.Answers.{vector_answer, direction_answer, word_said, frame_said};
+ghost use Rattle.read_vectors.specs.Answers.{vector_answer, direction_answer, vector_column, direction_column, word_said, frame_said};
 
 use crate::vector::Vector;
 use crate::{vector, words};
@@ -66,6 +66,28 @@ pub fn are_directions(t: &[u8], count: usize, n: usize) -> bool
 }
 
 // ---- one of them
+
+// The vector number i, from 0 for the first.
+pub fn nth_vector(t: &[u8], i: usize, n: usize) -> Option<[Decimal; 8]>
+    requires { (length t.now ≤ max_header) × (n ≤ 8) }
+    ensures { result ≡ vector_column (vector_said n (slice_index_or (vector_words t.now) i [])) }
+{
+    let w = words::word_at(t, i);
+    let from = w.from;
+    let to = w.to;
+    vector::vector_of(&t[from..to], n)
+}
+
+// The direction of axis i, from 0 for the first.
+pub fn nth_direction(t: &[u8], i: usize, n: usize) -> Option<[Decimal; 8]>
+    requires { (length t.now ≤ max_header) × (n ≤ 8) }
+    ensures { result ≡ direction_column (direction_said n (slice_index_or (vector_words t.now) i [])) }
+{
+    let w = words::word_at(t, i);
+    let from = w.from;
+    let to = w.to;
+    vector::direction_of(&t[from..to], n)
+}
 
 // The vector number i, from 0 for the first.
 pub fn vector_at(t: &[u8], i: usize, n: usize) -> Vector

@@ -1,12 +1,13 @@
 // One vector in round brackets, or `none` for an axis without a direction.
-ghost use Rattle.std.specs.Prelude.{◌≡◌, [], ◌≤◌, length};
-ghost use Rattle.std.proofs.Math.Option.{none, some};
+ghost use Rattle.std.specs.Prelude.{◌≡◌, [], ◌∷◌, ◌≤◌, length};
+ghost use Rattle.std.proofs.Math.Option.{none};
 ghost use Rattle.format.specs.Bytes.{is_some};
 ghost use Rattle.format.specs.Limits.{max_header};
-ghost use Rattle.format.specs.Vectors.{without, enclosed, comma_parts, said_by, component_in, vector_said, direction_said};
+ghost use Rattle.format.specs.Decimals.{marked, no_direction};
+ghost use Rattle.format.specs.Vectors.{enclosed, comma_parts, said_by, component_in, vector_said, direction_said};
 ghost use Rattle.read_decimals.specs.Components.{component_answer};
 ghost use Rattle.format.specs.Columns.{column};
-ghost use Rattle.read_vectors.specs.Answers.{vector_answer, direction_answer};
+ghost use Rattle.read_vectors.specs.Answers.{vector_answer, direction_answer, vector_column, direction_column};
 
 use format::Decimal;
 use read_decimals::Component;
@@ -47,13 +48,13 @@ fn no_vector() -> Vector
     Vector { fine: false, parts }
 }
 
-// What is answered for an axis without a direction.
-fn no_direction() -> Vector
-    ensures { result ≡ direction_answer (some without) }
+// What is answered for an axis without a direction: a mark, and zeros.
+fn without_direction() -> [Decimal; 8]
+    ensures { result ≡ column (marked no_direction ∷ []) }
 {
     let mut parts = blank_column();
     parts[0] = WITHOUT;
-    Vector { fine: true, parts }
+    parts
 }
 
 // A component with the blanks beside it.
@@ -67,9 +68,9 @@ fn read_part(p: &[u8]) -> Component
 }
 
 // The n components that commas part.
-fn read_parts(s: &[u8], n: usize) -> Vector
+fn read_parts(s: &[u8], n: usize) -> Option<[Decimal; 8]>
     requires { (length s.now ≤ max_header) × (n ≤ 8) }
-    ensures { result ≡ vector_answer (said_by n component_in (comma_parts s.now)) }
+    ensures { result ≡ vector_column (said_by n component_in (comma_parts s.now)) }
 {
     let mut parts = blank_column();
     // where the next component starts; past the end where there is none
@@ -77,13 +78,13 @@ fn read_parts(s: &[u8], n: usize) -> Vector
     let mut i: usize = 0;
     while i < n {
         if s.len() < at {
-            return no_vector();
+            return None;
         }
         let to = at + read_text::bytes::find_byte(&s[at..], b',');
         let c = read_part(&s[at..to]);
         let fine = c.fine;
         if !fine {
-            return no_vector();
+            return None;
         }
         let value = c.value;
         parts[i] = value;
@@ -91,9 +92,9 @@ fn read_parts(s: &[u8], n: usize) -> Vector
         i += 1;
     }
     if at <= s.len() {
-        return no_vector();
+        return None;
     }
-    Vector { fine: true, parts }
+    Some(parts)
 }
 
 // Whether an opening bracket stands at the front and a closing one at the end.
@@ -107,25 +108,47 @@ fn is_enclosed(w: &[u8]) -> bool
     (w[0] == b'(') & (w[size - 1] == b')')
 }
 
-// The vector of n components that a word is.
-pub fn read_vector(w: &[u8], n: usize) -> Vector
+// The vector of n components that a word is, zeros after them.
+pub fn vector_of(w: &[u8], n: usize) -> Option<[Decimal; 8]>
     requires { (length w.now ≤ max_header) × (n ≤ 8) }
-    ensures { result ≡ vector_answer (vector_said n w.now) }
+    ensures { result ≡ vector_column (vector_said n w.now) }
 {
     if !is_enclosed(w) {
-        return no_vector();
+        return None;
     }
     let to = w.len() - 1;
     read_parts(&w[1..to], n)
 }
 
-// The direction of an axis that a word is: a vector of n components, or none.
+// The direction of an axis that a word is: a vector of n components, or a mark where the axis has none.
+pub fn direction_of(w: &[u8], n: usize) -> Option<[Decimal; 8]>
+    requires { (length w.now ≤ max_header) × (n ≤ 8) }
+    ensures { result ≡ direction_column (direction_said n w.now) }
+{
+    if read_text::words::is_alike(w, b"none") {
+        return Some(without_direction());
+    }
+    vector_of(w, n)
+}
+
+// The vector with a flag.
+pub fn read_vector(w: &[u8], n: usize) -> Vector
+    requires { (length w.now ≤ max_header) × (n ≤ 8) }
+    ensures { result ≡ vector_answer (vector_said n w.now) }
+{
+    match vector_of(w, n) {
+        Some(parts) => Vector { fine: true, parts },
+        None => no_vector(),
+    }
+}
+
+// The direction with a flag.
 pub fn read_direction(w: &[u8], n: usize) -> Vector
     requires { (length w.now ≤ max_header) × (n ≤ 8) }
     ensures { result ≡ direction_answer (direction_said n w.now) }
 {
-    if read_text::words::is_alike(w, b"none") {
-        return no_direction();
+    match direction_of(w, n) {
+        Some(parts) => Vector { fine: true, parts },
+        None => no_vector(),
     }
-    read_vector(w, n)
 }

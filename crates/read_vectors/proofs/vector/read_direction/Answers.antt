@@ -1,17 +1,11 @@
 -- `vector::read_direction` meets its contract.
-use mathlib.Core.Path.{sym, ◌∙◌}
-use Rattle.format.specs.Vectors.{vector_said}
-use Rattle.read_vectors.proofs.VectorLaws.{direction_without, direction_along, along_answer}
+use mathlib.Core.Path.{◌∙◌}
+use Rattle.format.specs.Vectors.{direction_said}
+use Rattle.read_vectors.proofs.VectorLaws.{direction_flagged, direction_flagged_none}
 use Rattle.read_vectors.proofs.vector.read_direction.Goals as goal
 
-pub returns-then-is_alike : goal.returns-then-is_alike
-returns-then-is_alike c =
-    let a = c.args in
-    let e = sym c.is_alike.ensures ∙ c.if-is_alike.true in
-    rw (direction_without a.n a.w.now e) c.no_direction.ensures
+pub returns-in-Some : goal.returns-in-Some
+returns-in-Some c = let a = c.args in direction_flagged (direction_said a.n a.w.now) c.in-Some.parts c.in-Some.ensures
 
-pub returns : goal.returns
-returns c =
-    let a = c.args in
-    let e = sym c.is_alike.ensures ∙ c.if-is_alike.false in
-    rw (direction_along a.n a.w.now e) (c.read_vector.ensures ∙ along_answer (vector_said a.n a.w.now))
+pub returns-in-None : goal.returns-in-None
+returns-in-None c = let a = c.args in c.no_vector.ensures ∙ direction_flagged_none (direction_said a.n a.w.now) c.in-None.ensures

@@ -16,7 +16,7 @@ pub returns-then-s-at : goal.returns-then-s-at
 returns-then-s-at c =
     let a = c.args in
     let l = c.loop-i in
-    c.no_vector.ensures ∙ vector_short a.s.now l.parts a.n l.i l.at c.loop-i-test.true c.if-s-at.true ∙ sym l.invariant.2
+    vector_short a.s.now l.parts a.n l.i l.at c.loop-i-test.true c.if-s-at.true ∙ sym l.invariant.2
 
 pub returns-then-not-fine : goal.returns-then-not-fine
 returns-then-not-fine c =
@@ -25,8 +25,7 @@ returns-then-not-fine c =
     let k = c.find_byte in
     let p = c.read_part-c in
     let q = parts_more a.s.now l.at c.if-s-at.false k.result k.ensures.0 in
-    c.no_vector-then-not-fine.ensures
-    ∙ vector_wrong a.s.now l.parts a.n l.i l.at c.loop-i-test.true _ _ p.result q p.ensures c.if-not-fine.true
+    vector_wrong a.s.now l.parts a.n l.i l.at c.loop-i-test.true _ _ p.result q p.ensures c.if-not-fine.true
     ∙ sym l.invariant.2
 
 pub loop-i-preserved : goal.loop-i-preserved
@@ -46,7 +45,7 @@ pub returns-then-at-s : goal.returns-then-at-s
 returns-then-at-s c =
     let a = c.args in
     let l = c.loop-i in
-    c.no_vector-then-at-s.ensures ∙ vector_long a.s.now l.parts a.n l.i l.at c.loop-i-test.false c.if-at-s.true ∙ sym l.invariant.2
+    vector_long a.s.now l.parts a.n l.i l.at c.loop-i-test.false c.if-at-s.true ∙ sym l.invariant.2
 
 pub returns : goal.returns
 returns c =

@@ -1,35 +1,11 @@
 -- `vector::read_vector` meets its contract.
-use native.Mathlib.Omega.{arith}
-use mathlib.Core.Path.{sym, ◌∙◌}
-use Rattle.read_vectors.proofs.VectorLaws.{enclosed_some, vector_open, vector_enclosed}
+use mathlib.Core.Path.{◌∙◌}
+use Rattle.format.specs.Vectors.{vector_said}
+use Rattle.read_vectors.proofs.VectorLaws.{vector_flagged, vector_flagged_none}
 use Rattle.read_vectors.proofs.vector.read_vector.Goals as goal
 
-pub returns-then-not-is_enclosed : goal.returns-then-not-is_enclosed
-returns-then-not-is_enclosed c =
-    let a = c.args in
-    let i = c.is_enclosed in
-    rw (vector_open a.n a.w.now (sym i.ensures ∙ c.if-not-is_enclosed.true)) c.no_vector.ensures
+pub returns-in-Some : goal.returns-in-Some
+returns-in-Some c = let a = c.args in vector_flagged (vector_said a.n a.w.now) c.in-Some.parts c.in-Some.ensures
 
-pub overflow_sub-to : goal.overflow_sub-to
-overflow_sub-to c =
-    let w = c.args.w.now in
-    let e = sym c.is_enclosed.ensures ∙ c.if-not-is_enclosed.false in
-    omega (arith, (enclosed_some w e).0)
-
-pub slice_bounds-read_parts-count : goal.slice_bounds-read_parts-count
-slice_bounds-read_parts-count c =
-    let w = c.args.w.now in
-    let e = sym c.is_enclosed.ensures ∙ c.if-not-is_enclosed.false in
-    omega (arith, (enclosed_some w e).0)
-
-pub slice_bounds-read_parts-start : goal.slice_bounds-read_parts-start
-slice_bounds-read_parts-start c =
-    let w = c.args.w.now in
-    let e = sym c.is_enclosed.ensures ∙ c.if-not-is_enclosed.false in
-    omega (arith, (enclosed_some w e).0)
-
-pub returns : goal.returns
-returns c =
-    let w = c.args.w.now in
-    let e = sym c.is_enclosed.ensures ∙ c.if-not-is_enclosed.false in
-    rw (vector_enclosed c.args.n w e) c.read_parts.ensures
+pub returns-in-None : goal.returns-in-None
+returns-in-None c = let a = c.args in c.no_vector.ensures ∙ vector_flagged_none (vector_said a.n a.w.now) c.in-None.ensures

@@ -1,6 +1,6 @@
--- `vector::no_direction` meets its contract.
+-- `vector::without_direction` meets its contract.
 use Rattle.format.specs.Columns.{eight}
-use Rattle.read_vectors.proofs.vector.no_direction.Goals as goal
+use Rattle.read_vectors.proofs.vector.without_direction.Goals as goal
 
 pub returns : goal.returns
 unfolding eight
