@@ -1,13 +1,10 @@
 -- Laws of loops that store: element by element, and by blocks that may overlap; in a list or in lent bytes.
 -- Assumes nothing.
-use Rattle.std.proofs.Common.{◌≡◌, ℕ, ◌+◌, ◌-◌, ◌*◌, ◌<◌, ◌≤◌, min, List, [], ◌∷◌, ◌++◌, length, get_or, take, drop, ℤ, sym, refl, ap, ◌∙◌, append-nil, add-one, arith, length-append, length-drop, take-append-drop, drop_of_length-le, length-take-le, take_all, drop-cons, take-take, drop-drop, take_at, take-add, drop_at}
+use Rattle.std.proofs.Common.{◌≡◌, ℕ, ◌+◌, ◌-◌, ◌<◌, ◌≤◌, min, List, [], ◌∷◌, ◌++◌, length, get_or, take, drop, ℤ, sym, refl, ap, ◌∙◌, add-one, arith, length-append, length-drop, take-append-drop, drop_of_length-le, length-take-le, take_all, drop-cons, take-take, drop-drop, take_at, take-add, drop_at}
 use lib.Seq.{sets, sets-eq, length-sets, drop-append-add, take-append-le}
 use Rattle.format.specs.Bytes.{over}
-use Rattle.format.specs.Boundary.{words_of_samples}
-use Rattle.format.specs.Descriptors.{little}
-use Rattle.format.specs.Samples.{value_bytes}
 use Rattle.format.proofs.Stores.{sets_then}
-use Rattle.format.proofs.Boundary.{flat_append, length_words, words_flat}
+use Rattle.lent_numbers.specs.Cells.{Stores}
 
 -- ---- how elements are stored: the place of element k, and what stands there
 
@@ -22,19 +19,8 @@ pub record Storing (B A : Type 0) : Type 1 where
 abbrev pub in_list : {A : Type 0} → Storing A A
 in_list = record { store = λ a. a; place = λ k. k; none = refl; join = λ a x. refl; long = λ a. refl; more = λ i j. refl }
 
-pub words_join : (a x : List ℤ) → words_of_samples (a ++ x) ≡ words_of_samples a ++ words_of_samples x
-words_join a x = words_flat (a ++ x) ∙ flat_append (value_bytes 8 little) a x ∙ rw (words_flat a, words_flat x)
-
-pub words_none : words_of_samples [] ≡ []
-unfolding words_of_samples
-words_none = refl
-
-pub words_one : (z : ℤ) → words_of_samples (z ∷ []) ≡ value_bytes 8 little z
-unfolding words_of_samples
-words_one z = append-nil (value_bytes 8 little z)
-
-abbrev pub in_bytes : Storing ℤ ℕ
-in_bytes = record { store = words_of_samples; place = λ k. 8 * k; none = words_none; join = words_join; long = length_words; more = λ i j. omega arith }
+abbrev pub storing : {A : Type 0} {store : List ℤ → List A} {place room : ℕ → ℕ} → Stores store place room → Storing ℤ A
+storing {store = s} {place = p} l = record { store = s; place = p; none = l.none; join = l.join; long = l.long; more = l.more }
 
 -- ---- a run v, stored element by element from place k on: after j of them the rest goes to place o
 
@@ -91,8 +77,11 @@ again {A} l d k j m h g r t =
     ∙ ap (λ (i : ℕ). take (k + m) l ++ drop i d) (sym (length-take-le (k + m) l r))
 
 module _ {B A : Type 0} (f : Storing B A) where
+  pub place_zero : f.place 0 ≡ 0
+  place_zero = sym (f.long []) ∙ ap length f.none
+
   -- the place of a later element
-  place_more : (i j : ℕ) → i ≤ j → f.place i ≤ f.place j
+  pub place_more : (i j : ℕ) → i ≤ j → f.place i ≤ f.place j
   place_more i j h =
       let q : i + (j - i) ≡ j = omega arith in
       omega (arith, f.more i (j - i), ap f.place q)

@@ -1,12 +1,12 @@
 -- Laws of raw samples, each stated once, over the width.
 -- Assumes nothing.
 use Rattle.std.specs.Prelude.{if◌then◌else◌}
-use Rattle.std.proofs.Common.{◌≡◌, ℕ, zero, suc, ◌+◌, ◌-◌, ◌*◌, ◌/◌, ◌%◌, ◌^◌, ◌<◌, ◌≤◌, min, Bool, true, false, ◌&&◌, eqb, ltb, leb, List, reverse, length, get_or, take, drop, set, ℤ, pos, ◌-ℤ◌, sym, refl, ap, ◌∙◌, le_trans, mod-lt, mod-eq_of_lt, suc-mul, add-one, arith, lit≤, length-drop, length-set, get_or-drop, drop-drop, to_z-of_z, w64, SFits, to_z, of_z, ltb-false, ltb-true, le-ltb, lt-ltb, eq-eqb, ne_eqb, eqb-true, le-leb, leb-false, leb-true}
+use Rattle.std.proofs.Common.{◌≡◌, ℕ, zero, suc, ◌+◌, ◌-◌, ◌*◌, ◌/◌, ◌%◌, ◌^◌, ◌<◌, ◌≤◌, min, Bool, true, false, ◌&&◌, eqb, ltb, leb, List, [], ◌∷◌, reverse, length, get_or, take, drop, ℤ, pos, ◌-ℤ◌, sym, refl, ap, ◌∙◌, mod-lt, mod-eq_of_lt, suc-mul, add-one, mul-le-mul_right, arith, lit≤, length-drop, get_or-drop, drop-drop, to_z-of_z, w64, SFits, to_z, of_z, ltb-false, ltb-true, le-ltb, lt-ltb, eq-eqb, ne_eqb, eqb-true, le-leb, leb-false, leb-true}
 use native.Mathlib.Nat.{add-mod_right}
 use mathlib.Core.List.{reverse-append}
 use lib.IntN.{sub_ℕ}
 use lib.ListN.{length-reverse}
-use lib.Seq.{sets}
+use lib.Seq.{sets, length-sets}
 use borrow.Author.Tests.{eqb-false}
 use mir.Facts.{to_z_pos}
 use Rattle.format.specs.Bytes.{over}
@@ -16,6 +16,8 @@ use Rattle.format.specs.Refusals.{bad_sample}
 use Rattle.format.specs.Samples.{Decoded, raw_samples, then_samples, with_sample, stopped, sample_value, value_of_bits, in_type, from_bytes, to_bytes, ordered, to_signed}
 use Rattle.format.proofs.Samples.{AllBytes, all_bytes, length_to_bytes, to_from_bytes, from_bytes_below, ordered_bytes, length_ordered}
 pub use Rattle.lent_numbers.proofs.Halves.{from_append, load_one, sample_is}
+use Rattle.format.proofs.Stores.{sets_then}
+use Rattle.data_raw.proofs.BlockLaws.{Storing, place_more, place_zero}
 pub use Rattle.lent_numbers.proofs.Stores.{sets_over}
 use Rattle.lent_numbers.proofs.Halves.{to_bytes_halves, length_part, halves_less}
 use Rattle.format.proofs.Boundary.{bytes_take, bytes_drop}
@@ -211,120 +213,114 @@ module _ (w e n : ℕ) (s : List ℕ) (d : Width w) (b : (i : ℕ) → get_or s 
 -- ---- the samples one after another
 
 module _ (k : NumberKind) (w e n : ℕ) (s : List ℕ) where
-  -- the samples from a place on, of which j are past
-  abbrev left : ℕ → ℕ → Decoded
-  left at j = raw_samples k w e (n - j) (drop at s)
+  -- the samples from number j on
+  abbrev left : ℕ → Decoded
+  left j = raw_samples k w e (n - j) (drop (j * w) s)
 
   abbrev sample_of : ℕ → ℤ
-  sample_of at = sample_value k e (take w (drop at s))
+  sample_of j = sample_value k e (take w (drop (j * w) s))
 
-  step : (at j : ℕ) → j < n → left at j ≡ then_samples k w (sample_of at) (left (at + w) (j + 1))
+  next_place : (j : ℕ) → j * w + w ≡ (j + 1) * w
+  next_place j = sym (suc-mul j w) ∙ ap (λ (i : ℕ). i * w) (sym (add-one j))
+
+  step : (j : ℕ) → j < n → left j ≡ then_samples k w (sample_of j) (left (j + 1))
   unfolding raw_samples
-  step at j h =
+  step j h =
       let q : n - j ≡ suc (n - (j + 1)) = omega arith in
-      ap (λ (m : ℕ). raw_samples k w e m (drop at s)) q
-      ∙ ap (λ (l : List ℕ). then_samples k w (sample_of at) (raw_samples k w e (n - (j + 1)) l)) (drop-drop w at s)
+      ap (λ (m : ℕ). raw_samples k w e m (drop (j * w) s)) q
+      ∙ ap (λ (l : List ℕ). then_samples k w (sample_of j) (raw_samples k w e (n - (j + 1)) l)) (drop-drop w (j * w) s ∙ ap (λ (i : ℕ). drop i s) (next_place j))
 
-  stepped : (at j : ℕ) → j < n → at + (n - j) * w ≤ length s → (at + w) + (n - (j + 1)) * w ≤ length s
-  stepped at j h r =
-      let q : n - j ≡ suc (n - (j + 1)) = omega arith in
-      omega (arith, ap (λ (m : ℕ). m * w) q, suc-mul (n - (j + 1)) w)
-
-  none_left : (at j : ℕ) → n ≤ j → left at j ≡ raw_samples k w e 0 (drop at s)
-  none_left at j h =
+  none_left : (j : ℕ) → n ≤ j → left j ≡ raw_samples k w e 0 (drop (j * w) s)
+  none_left j h =
       let q : n - j ≡ 0 = omega arith in
       rw q
 
-  all_left : raw_samples k w e n s ≡ left 0 0
+  all_left : raw_samples k w e n s ≡ left 0
   all_left =
       let q : n ≡ n - 0 = omega arith in
-      ap (λ (m : ℕ). raw_samples k w e m s) q
+      let z : 0 ≡ 0 * w = omega arith in
+      ap (λ (m : ℕ). raw_samples k w e m s) q ∙ ap (λ (i : ℕ). raw_samples k w e (n - 0) (drop i s)) z
 
-  room_first : n * w ≤ length s → 0 + (n - 0) * w ≤ length s
-  room_first h =
-      let q : n - 0 ≡ n = omega arith in
-      rw q (omega arith)
+  -- sample j lies inside
+  pub within : {j : ℕ} → j < n → n * w ≤ length s → j * w + w ≤ length s
+  within {j = j} h r = omega (arith, r, next_place j, mul-le-mul_right {m = j + 1} {n = n} w (omega arith))
 
   -- ---- a test of each
 
   -- the samples before j are fine, or one of them is not
-  pub record Testing (fine : Bool) (at j : ℕ) : Type 0 where
+  pub record Testing (fine : Bool) (j : ℕ) : Type 0 where
     pub few : j ≤ n
-    pub room : at + (n - j) * w ≤ length s
-    pub same : (raw_samples k w e n s).number ≡ (if fine then (left at j).number else bad_sample)
+    pub same : (raw_samples k w e n s).number ≡ (if fine then (left j).number else bad_sample)
 
-  pub testing_none : n * w ≤ length s → Testing true 0 0
-  testing_none h = record { few = omega arith; room = room_first h; same = ap (λ (d : Decoded). d.number) all_left }
+  pub testing_none : Testing true 0
+  testing_none = record { few = omega arith; same = ap (λ (d : Decoded). d.number) all_left }
 
-  module _ {at j : ℕ} where
-    module _ (h : j < n) where
-      pub testing_room : {fine : Bool} → Testing fine at j → at + w ≤ length s
-      testing_room t = omega (arith, stepped at j h t.room)
+  module _ {j : ℕ} where
+    pub testing_more : j < n → (fine b : Bool) → Testing fine j → in_type k w (sample_of j) ≡ b → Testing (fine && b) (j + 1)
+    testing_more h true true t q = record { few = omega arith; same = t.same ∙ ap (λ (d : Decoded). d.number) (step j h) ∙ rw q }
+    testing_more h true false t q = record { few = omega arith; same = t.same ∙ ap (λ (d : Decoded). d.number) (step j h) ∙ rw q }
+    testing_more h false b t q = record { few = omega arith; same = t.same }
 
-      pub testing_more : (fine b : Bool) → Testing fine at j → in_type k w (sample_of at) ≡ b → Testing (fine && b) (at + w) (j + 1)
-      testing_more true true t q = record {
-        few = omega arith;
-        room = stepped at j h t.room;
-        same = t.same ∙ ap (λ (d : Decoded). d.number) (step at j h) ∙ rw q;
-      }
-      testing_more true false t q = record {
-        few = omega arith;
-        room = stepped at j h t.room;
-        same = t.same ∙ ap (λ (d : Decoded). d.number) (step at j h) ∙ rw q;
-      }
-      testing_more false b t q = record { few = omega arith; room = stepped at j h t.room; same = t.same }
-
-    pub testing_done : n ≤ j → Testing true at j → (raw_samples k w e n s).number ≡ 0
+    pub testing_done : n ≤ j → Testing true j → (raw_samples k w e n s).number ≡ 0
     unfolding raw_samples
-    testing_done h t = t.same ∙ ap (λ (d : Decoded). d.number) (none_left at j h)
+    testing_done h t = t.same ∙ ap (λ (d : Decoded). d.number) (none_left j h)
 
-  -- ---- a list that is filled
+  -- ---- cells that are filled
 
-  module _ (d₀ : List ℤ) where
-    abbrev Goes : List ℤ → ℕ → ℕ → Type 0
-    Goes d at j = ((left at j).number ≡ 0) × (sets d₀ 0 (raw_samples k w e n s).seen ≡ sets d j (left at j).seen)
+  module _ {A : Type 0} (f : Storing ℤ A) (d₀ : List A) where
+    abbrev Goes : List A → ℕ → Type 0
+    Goes d j = ((left j).number ≡ 0) × (sets d₀ 0 (f.store (raw_samples k w e n s).seen) ≡ sets d (f.place j) (f.store (left j).seen))
 
-    pub record Filling (d : List ℤ) (at j : ℕ) : Type 0 where
+    -- the samples before j are stored
+    pub record Filling (d : List A) (j : ℕ) : Type 0 where
       pub few : j ≤ n
-      pub room : at + (n - j) * w ≤ length s
       pub long : length d ≡ length d₀
-      pub goes : (raw_samples k w e n s).number ≡ 0 → Goes d at j
+      pub goes : (raw_samples k w e n s).number ≡ 0 → Goes d j
 
-    pub filling_none : n * w ≤ length s → Filling d₀ 0 0
-    filling_none h = record {
+    pub filling_none : Filling d₀ 0
+    filling_none = record {
       few = omega arith;
-      room = room_first h;
       long = refl;
-      goes = λ z. (sym (ap (λ (d : Decoded). d.number) all_left) ∙ z, ap (λ (d : Decoded). sets d₀ 0 d.seen) all_left);
+      goes = λ z. (sym (ap (λ (d : Decoded). d.number) all_left) ∙ z, ap (λ (d : Decoded). sets d₀ 0 (f.store d.seen)) all_left ∙ ap (λ (i : ℕ). sets d₀ i (f.store (left 0).seen)) (sym (place_zero f)));
     }
 
-    module _ {d : List ℤ} {at j : ℕ} (f : Filling d at j) where
+    module _ {d : List A} {j : ℕ} (l : Filling d j) where
       module _ (h : j < n) where
-        pub filling_room : at + w ≤ length s
-        filling_room = omega (arith, stepped at j h f.room)
+        -- sample j has its place
+        pub filling_place : f.place n ≤ length d₀ → f.place (j + 1) ≤ length d
+        filling_place g = omega (arith, l.long, g, place_more f (j + 1) n (omega arith))
 
-        goes_on : (x : ℤ) → (in_type k w (sample_of at) ≡ true → x ≡ sample_of at) → Goes d at j → Goes (set d j x) (at + w) (j + 1)
-        goes_on x q g = go (in_type k w (sample_of at)) refl (sym (ap (λ (r : Decoded). r.number) (step at j h)) ∙ g.0) (g.1 ∙ ap (λ (r : Decoded). sets d j r.seen) (step at j h))
+        goes_on : (x : ℤ) (d' : List A) → d' ≡ sets d (f.place j) (f.store (x ∷ [])) → (in_type k w (sample_of j) ≡ true → x ≡ sample_of j) → Goes d j → Goes d' (j + 1)
+        goes_on x d' y q g = go (in_type k w (sample_of j)) refl (sym (ap (λ (r : Decoded). r.number) (step j h)) ∙ g.0) (g.1 ∙ ap (λ (r : Decoded). sets d (f.place j) (f.store r.seen)) (step j h))
           where
             next : Decoded
-            next = left (at + w) (j + 1)
+            next = left (j + 1)
 
-            go : (t : Bool) → in_type k w (sample_of at) ≡ t → (if t then with_sample (sample_of at) next else stopped bad_sample).number ≡ 0
-                → sets d₀ 0 (raw_samples k w e n s).seen ≡ sets d j (if t then with_sample (sample_of at) next else stopped bad_sample).seen
-                → Goes (set d j x) (at + w) (j + 1)
-            go true i z p = (z, p ∙ rw (q i, add-one j))
+            one : f.place (j + 1) ≡ f.place j + length (f.store (x ∷ []))
+            one = f.more j 1 ∙ ap (λ (i : ℕ). f.place j + i) (sym (f.long (x ∷ [])))
+
+            moved : sets d (f.place j) (f.store (x ∷ next.seen)) ≡ sets d' (f.place (j + 1)) (f.store next.seen)
+            moved =
+                ap (sets d (f.place j)) (f.join (x ∷ []) next.seen)
+                ∙ sym (sets_then d (f.store (x ∷ [])) (f.store next.seen) (f.place j) (f.place (j + 1)) one)
+                ∙ ap (λ (u : List A). sets u (f.place (j + 1)) (f.store next.seen)) (sym y)
+
+            go : (t : Bool) → in_type k w (sample_of j) ≡ t → (if t then with_sample (sample_of j) next else stopped bad_sample).number ≡ 0
+                → sets d₀ 0 (f.store (raw_samples k w e n s).seen) ≡ sets d (f.place j) (f.store (if t then with_sample (sample_of j) next else stopped bad_sample).seen)
+                → Goes d' (j + 1)
+            go true i z p = (z, p ∙ ap (λ (v : ℤ). sets d (f.place j) (f.store (v ∷ next.seen))) (sym (q i)) ∙ moved)
             go false i z p = absurd (omega arith)
 
-        pub filling_more : (x : ℤ) → (in_type k w (sample_of at) ≡ true → x ≡ sample_of at) → Filling (set d j x) (at + w) (j + 1)
-        filling_more x q = record {
+        pub filling_more : (x : ℤ) (d' : List A) → d' ≡ sets d (f.place j) (f.store (x ∷ [])) → (in_type k w (sample_of j) ≡ true → x ≡ sample_of j) → Filling d' (j + 1)
+        filling_more x d' y q = record {
           few = omega arith;
-          room = stepped at j h f.room;
-          long = length-set d j x ∙ f.long;
-          goes = λ z. goes_on x q (f.goes z);
+          long = ap length y ∙ length-sets d (f.place j) (f.store (x ∷ [])) ∙ l.long;
+          goes = λ z. goes_on x d' y q (l.goes z);
         }
 
-      pub filling_done : n ≤ j → n ≤ length d₀ → (raw_samples k w e n s).number ≡ 0 → d ≡ over (raw_samples k w e n s).seen d₀
+      pub filling_done : n ≤ j → f.place n ≤ length d₀ → (raw_samples k w e n s).number ≡ 0 → d ≡ over (f.store (raw_samples k w e n s).seen) d₀
       unfolding raw_samples
-      filling_done h l z =
-          sym ((f.goes z).1 ∙ ap (λ (r : Decoded). sets d j r.seen) (none_left at j h))
-          ∙ sets_over (raw_samples k w e n s).seen d₀ (le_trans (raw_few k w e n s) l)
+      filling_done h g z =
+          let few = place_more f (length (raw_samples k w e n s).seen) n (raw_few k w e n s) in
+          sym ((l.goes z).1 ∙ ap (λ (r : Decoded). sets d (f.place j) (f.store r.seen)) (none_left j h) ∙ ap (sets d (f.place j)) f.none)
+          ∙ sets_over (f.store (raw_samples k w e n s).seen) d₀ (omega (arith, f.long (raw_samples k w e n s).seen, few, g))
