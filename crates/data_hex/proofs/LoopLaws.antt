@@ -17,7 +17,7 @@ use Rattle.lent_numbers.specs.Packed.{samples_over}
 use Rattle.lent_numbers.specs.Widths.{Width}
 use Rattle.format.proofs.Boundary.{samples_over_lem}
 use Rattle.lent_numbers.proofs.WidthLaws.{width_le, width_pos}
-pub use Rattle.data_raw.proofs.BlockLaws.{Storing, in_list, in_bytes}
+pub use Rattle.data_raw.proofs.BlockLaws.{Storing, storing, place_more}
 use Rattle.data_hex.specs.Forms.{digits_at, digits_refusal, bytes_of, Enough, Past, Taken, samples_at}
 use Rattle.data_hex.proofs.DigitLaws.{refusal_first, refusal_after}
 use Rattle.data_hex.proofs.JoinLaws.{joined, joined_bad, joined_good, joined_first, raw_then, raw_front, raw_all}
@@ -184,14 +184,6 @@ module _ (k : NumberKind) (w e n : ℕ) (s d : List ℕ) (h : n ≤ length d / 8
   -- samples at the front of lent bytes, by the bytes that hold them
   over_words : (x : List ℕ) → (raw_samples k w e n x).number ≡ 0 → samples_over (raw_samples k w e n x).seen d ≡ over (words_of_samples (raw_samples k w e n x).seen) d
   over_words x z = samples_over_lem d (all_bytes d b) (raw_samples k w e n x).seen (omega (arith, raw_all k w e n x z))
-
-  pub taken_words : (at : ℕ) (x : List ℕ) (next : ℕ) (y : List ℕ) → n * w ≤ length x → Enough s at (n * w) → Taken s at (n * w) x next
-      → ((raw_samples k w e n x).number ≡ 0 → y ≡ samples_over (raw_samples k w e n x).seen d)
-      → (samples_at k w e n s at).number ≡ 0 → y ≡ over (words_of_samples (samples_at k w e n s at).seen) d
-  taken_words at x next y l f t p z =
-      let q : raw_samples k w e n x ≡ samples_at k w e n s at = taken_samples k w e s n at x next l f t in
-      let v : (raw_samples k w e n x).number ≡ 0 = ap (λ (a : Decoded). a.number) q ∙ z in
-      p v ∙ over_words x v ∙ ap (λ (a : Decoded). over (words_of_samples a.seen) d) q
 
   pub hex_words : (y : List ℕ) → (hex_samples k w e n (without_blanks s)).number ≡ 0 → y ≡ over (words_of_samples (hex_samples k w e n (without_blanks s)).seen) d
       → y ≡ samples_over (hex_samples k w e n (without_blanks s)).seen d

@@ -19,6 +19,11 @@ pub trait Cell: Sized {
     fn room(cells: &[Self]) -> usize
         ensures { result ≡ room (length cells.now) };
 
+    // where the cells of sample k begin, of cells that are enough for k samples
+    fn place(cells: &[Self], k: usize) -> usize
+        requires { place k ≤ length cells.now }
+        ensures { result ≡ place k };
+
     fn put(cells: &mut [Self], k: usize, z: i64)
         requires { place (k + 1) ≤ length cells.old }
         ensures { cells.new ≡ sets cells.old (place k) (store (z ∷ [])) };
@@ -37,6 +42,10 @@ impl Cell for i64 {
         cells.len()
     }
 
+    fn place(_: &[i64], k: usize) -> usize {
+        k
+    }
+
     fn put(cells: &mut [i64], k: usize, z: i64) {
         cells[k] = z;
     }
@@ -53,6 +62,10 @@ impl Cell for u8 {
 
     fn room(cells: &[u8]) -> usize {
         cells.len() / 8
+    }
+
+    fn place(_: &[u8], k: usize) -> usize {
+        8 * k
     }
 
     fn put(cells: &mut [u8], k: usize, z: i64) {

@@ -1,25 +1,8 @@
--- `fill` meets its contract: its tests refuse only what the premises rule out.
-use borrow.Author.Rules.{rules}
-use native.Mathlib.Omega.{arith}
-use mathlib.Core.Path.{◌≡◌, refl, sym, ◌∙◌}
-use mathlib.Core.Bool.{true}
-use borrow.Author.Tests.{le-leb}
-use Rattle.lent_numbers.proofs.WidthLaws.{is_width_lem, not_width, not_kept}
-use Rattle.lent_numbers.specs.Widths.{is_width, kind_by, endian_by}
+-- `packed::fill` meets its contract: samples in lent bytes, by the bytes that hold them.
+use Rattle.std.proofs.Common.{rules}
+use Rattle.lent_numbers.specs.Widths.{kind_by, endian_by}
 use Rattle.data_hex.proofs.LoopLaws.{hex_words}
 use Rattle.data_hex.proofs.packed.fill.Goals as goal
 
-pub returns-then-not-is_width : goal.returns-then-not-is_width
-returns-then-not-is_width c = record { kept = λ _. refl; fills = λ d h z. absurd (not_width _ d (sym c.is_width.ensures ∙ c.if-not-is_width.true)) }
-
-pub returns-then-dst-n : goal.returns-then-dst-n
-returns-then-dst-n c = record { kept = λ _. refl; fills = λ d h z. absurd (omega arith) }
-
-pub fill_blocks-requires : goal.fill_blocks-requires
-fill_blocks-requires c = record { width = is_width_lem _ (sym c.is_width.ensures ∙ c.if-not-is_width.false); room = c.if-dst-n.false }
-
-pub returns : goal.returns
-returns c =
-    let a = c.args in
-    let e : is_width a.w ≡ true = sym c.is_width.ensures ∙ c.if-not-is_width.false in
-    record { kept = λ q. absurd (not_kept _ _ e (le-leb _ _ c.if-dst-n.false) q); fills = λ d h z. hex_words (kind_by a.signed) a.w (endian_by a.big) a.n a.s.now a.dst.now h (λ i. search rules) _ z (c.fill_blocks.ensures z) }
+pub returns-clause-fills : goal.returns-clause-fills
+returns-clause-fills c = λ d h z. let a = c.args in hex_words (kind_by a.signed) a.w (endian_by a.big) a.n a.s.now a.dst.now h (λ i. search rules) _ z (c.fill.ensures.fills d h z)

@@ -1,7 +1,7 @@
 -- `has_high` meets its contract. The invariant: the flag tells it of the samples before i.
 use Rattle.data_hex.proofs.HighLaws.{high_none, high_more, high_done}
 use borrow.Author.Rules.{rules}
-use Rattle.data_hex.proofs.list.has_high.Goals as goal
+use Rattle.data_hex.proofs.values.has_high.Goals as goal
 
 pub loop-i-init : goal.loop-i-init
 loop-i-init c = (search rules, high_none c.args.top c.args.bytes.now)

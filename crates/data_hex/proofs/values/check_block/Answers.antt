@@ -5,7 +5,7 @@ use Rattle.format.specs.Descriptors.{unsigned}
 use Rattle.format.specs.Samples.{Decoded}
 use Rattle.lent_numbers.specs.Widths.{endian_by}
 use Rattle.data_hex.proofs.LoopLaws.{taken_samples}
-use Rattle.data_hex.proofs.list.check_block.Goals as goal
+use Rattle.data_hex.proofs.values.check_block.Goals as goal
 
 pub returns : goal.returns
 returns c =

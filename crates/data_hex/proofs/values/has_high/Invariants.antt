@@ -2,7 +2,7 @@
 use Prim.Native.Nat.{◌-◌, ◌≤◌}
 use mathlib.Core.Path.{◌≡◌}
 use Rattle.data_hex.specs.Forms.{has_high}
-use Rattle.data_hex.proofs.list.has_high.Given as goal
+use Rattle.data_hex.proofs.values.has_high.Given as goal
 
 abbrev pub invariant-loop-i : goal.invariant-loop-i
 invariant-loop-i l = (l.i ≤ l.m) × (l.high ≡ has_high l.i l.top l.bytes)

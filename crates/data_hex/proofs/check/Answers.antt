@@ -5,7 +5,7 @@ use mathlib.Core.Bool.{true, false}
 use Rattle.lent_numbers.specs.Widths.{is_width, endian_by}
 use Rattle.lent_numbers.proofs.WidthLaws.{is_width_lem}
 use Rattle.data_hex.proofs.SampleLaws.{signed_told, narrow_told, wide_bad, wide_good}
-use Rattle.data_hex.proofs.list.check.Goals as goal
+use Rattle.data_hex.proofs.check.Goals as goal
 
 pub returns-then-not-is_width : goal.returns-then-not-is_width
 returns-then-not-is_width c =

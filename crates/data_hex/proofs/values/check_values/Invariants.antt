@@ -5,7 +5,7 @@ use lib.ListN.{length}
 use Rattle.format.specs.Descriptors.{unsigned}
 use Rattle.lent_numbers.specs.Widths.{endian_by}
 use Rattle.data_hex.proofs.LoopLaws.{Checking}
-use Rattle.data_hex.proofs.list.check_values.Given as goal
+use Rattle.data_hex.proofs.values.check_values.Given as goal
 
 abbrev pub invariant-loop-k : goal.invariant-loop-k
 invariant-loop-k l = Checking unsigned 8 (endian_by l.big) l.n l.s l.at l.k × ((length l.d ≡ 256) × (length l.bytes ≡ 128))

@@ -5,7 +5,7 @@ use Rattle.format.specs.Descriptors.{unsigned}
 use Rattle.lent_numbers.specs.Widths.{endian_by}
 use Rattle.data_hex.proofs.LoopLaws.{checking_none, checking_bad, checking_more, checking_done}
 use borrow.Author.Rules.{rules}
-use Rattle.data_hex.proofs.list.check_values.Goals as goal
+use Rattle.data_hex.proofs.values.check_values.Goals as goal
 
 pub loop-k-init : goal.loop-k-init
 loop-k-init c = let a = c.args in (checking_none unsigned 8 (endian_by a.big) a.n a.s.now, (refl, refl))
