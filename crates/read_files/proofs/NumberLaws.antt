@@ -54,7 +54,7 @@ module _ {t : List ℕ} {at : ℕ} {p : Place} (n : Next t at p) where
 -- ---- a word as a step
 
 -- by its first byte: a minus
-step_is : (w : List ℕ) → (let m = begins MINUS w in step_said w ≡ sized m (drop (bool_byte m) w))
+pub step_is : (w : List ℕ) → (let m = begins MINUS w in step_said w ≡ sized m (drop (bool_byte m) w))
 unfolding number
 step_is [] = refl
 step_is (b ∷ w) = go (eqb b MINUS)
@@ -64,14 +64,14 @@ step_is (b ∷ w) = go (eqb b MINUS)
     go false = refl
 
 -- by the size that is read, which is 0 for none
-sized_is : (m : Bool) (u : List ℕ) (v : ℕ) → v ≡ size_answer (number u) → sized m u ≡ step_of m v
+pub sized_is : (m : Bool) (u : List ℕ) (v : ℕ) → v ≡ size_answer (number u) → sized m u ≡ step_of m v
 sized_is m u v e = go (eqb v 0) refl
   where
     go : (x : Bool) → eqb v 0 ≡ x → sized m u ≡ step_of m v
     go true q = rw (size_out (number u) (sym e ∙ eqb-true v 0 q), q)
     go false q = let k = size_in (number u) (λ z. eqb-false v 0 q (e ∙ z)) in rw (k.0, k.1, ← e, q)
 
-size_bound : (o : Option ℕ) → size_answer o ≤ max_file_number
+pub size_bound : (o : Option ℕ) → size_answer o ≤ max_file_number
 size_bound none = omega arith
 size_bound (some n) = go (leb n max_size) refl
   where
@@ -135,7 +135,7 @@ pub numbers_few : (falls : Bool) (first last size : ℕ) → first ≤ max_file_
 numbers_few false first last size h k = count_few first last size k
 numbers_few true first last size h k = count_few last first size h
 
-numbers_reach : (falls : Bool) (first last size : ℕ) → (count_numbers falls first last size ≡ 0 → ⊥) → first ≤ max_file_number → last ≤ max_file_number
+pub numbers_reach : (falls : Bool) (first last size : ℕ) → (count_numbers falls first last size ≡ 0 → ⊥) → first ≤ max_file_number → last ≤ max_file_number
     → Reach first falls size (count_numbers falls first last size - 1)
 numbers_reach false first last size n h k = let r = count_reach first last size n in omega arith
 numbers_reach true first last size n h k = let r = count_reach last first size n in omega arith
@@ -149,10 +149,10 @@ numbering_bad first last none e = refl
 numbering_bad first last (some s) e = rw e
 
 -- by the count
-count_zero : (n first size : ℕ) (falls : Bool) → n ≡ 0 → with_some first falls size n ≡ none
+pub count_zero : (n first size : ℕ) (falls : Bool) → n ≡ 0 → with_some first falls size n ≡ none
 count_zero n first size falls e = rw e
 
-count_said : (n first size : ℕ) (falls : Bool) → (n ≡ 0 → ⊥) → with_some first falls size n ≡ some (numbering first falls size (n - 1 + 1))
+pub count_said : (n first size : ℕ) (falls : Bool) → (n ≡ 0 → ⊥) → with_some first falls size n ≡ some (numbering first falls size (n - 1 + 1))
 count_said n first size falls z = let m : n - 1 + 1 ≡ n = omega arith in rw (ne_eqb n 0 z, m)
 
 no_numbering : (t : List ℕ) (at : ℕ) → numbering_of (words (drop at t)) ≡ none

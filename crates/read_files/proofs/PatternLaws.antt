@@ -30,7 +30,7 @@ use Rattle.read_files.proofs.WordLaws.{digits_count, digits_number, begins_withi
 -- ---- a width
 
 -- no digits
-no_digits : (ds : List ℕ) → length ds ≡ 0 → ds ≡ []
+pub no_digits : (ds : List ℕ) → length ds ≡ 0 → ds ≡ []
 no_digits [] h = refl
 no_digits (b ∷ ds) h = absurd (omega arith)
 
@@ -72,11 +72,11 @@ cut_above v m e = go (leb 1 v) refl
     go false q = lt-leb 1 m (omega (arith, leb-false))
 
 -- the test of a width that has digits: s begins with them, and m is their number
-abbrev width_test : List ℕ → ℕ → Bool
+abbrev pub width_test : List ℕ → ℕ → Bool
 width_test s m = (not (eqb (get_or s 0 0) 48) && leb 1 m) && leb m max_width
 
 module _ (zeros : Bool) (s : List ℕ) {d : Digits} (q : d ≡ digits_answer 0 s) where
-  short : d.count ≤ length s
+  pub short : d.count ≤ length s
   short = rw (digits_count d s q) (digits_short s)
 
   pub width_missing : d.count ≡ 0 → WidthRead zeros s record { fine = not zeros; value = 0; length = d.count }
@@ -86,17 +86,17 @@ module _ (zeros : Bool) (s : List ℕ) {d : Digits} (q : d ≡ digits_answer 0 s
       record { fine = rw e; value = λ f. rw e; small = omega arith; digits = digits_count d s q; within = short }
 
   module _ (n : d.count ≡ 0 → ⊥) where
-    there : length (digits_of s) ≡ 0 → ⊥
+    pub there : length (digits_of s) ≡ 0 → ⊥
     there e = n (digits_count d s q ∙ e)
 
-    number_some : number (digits_of s) ≡ some (number_from 0 (digits_of s))
+    pub number_some : number (digits_of s) ≡ some (number_from 0 (digits_of s))
     number_some = number_there (digits_of s) (digits_only s) there
 
     pub some_byte : 0 < length s
     some_byte = omega (arith, short, n)
 
     -- it is the definition's
-    tested : width_test s d.number ≡ width_fine zeros (digits_of s)
+    pub tested : width_test s d.number ≡ width_fine zeros (digits_of s)
     tested =
         let v = number_from 0 (digits_of s) in
         let e = digits_number d s q in
@@ -118,7 +118,7 @@ module _ (zeros : Bool) (s : List ℕ) {d : Digits} (q : d ≡ digits_answer 0 s
 -- ---- what follows the `%`
 
 -- by the first byte: a zero
-percent_is : (s : List ℕ)
+pub percent_is : (s : List ℕ)
     → (let z = begins 48 s in let t = drop (bool_byte z) s in after_percent s ≡ after_width z (digits_of t) (after_digits t))
 unfolding digits_of after_digits
 percent_is [] = refl
@@ -131,14 +131,14 @@ percent_is (b ∷ s) = go (eqb b 48)
     go false = refl
 
 -- by the first byte after the width: a `d`
-width_is : (zeros : Bool) (w r : List ℕ)
+pub width_is : (zeros : Bool) (w r : List ℕ)
     → after_width zeros w r
     ≡ (if begins 100 r && (width_fine zeros w && not (has_percent (drop 1 r))) then some (pattern [] zeros (value_of_number w) (drop 1 r)) else none)
 width_is zeros w [] = refl
 width_is zeros w (b ∷ r) = refl
 
 -- the same tests in another order
-and_turned : (a b c : Bool) → (a && (b && c)) ≡ (b && (a && c))
+pub and_turned : (a b c : Bool) → (a && (b && c)) ≡ (b && (a && c))
 and_turned true b c = refl
 and_turned false true c = refl
 and_turned false false c = refl
@@ -208,7 +208,7 @@ pattern_missing (b ∷ w) e = go (eqb b PERCENT) e (pattern_missing w)
     go false e i = rw (i (omega arith))
 
 -- by what follows the first `%`
-pattern_after : (w : List ℕ) (f z : Bool) (n : ℕ) (a : List ℕ) → before PERCENT w < length w
+pub pattern_after : (w : List ℕ) (f z : Bool) (n : ℕ) (a : List ℕ) → before PERCENT w < length w
     → after_percent (drop (before PERCENT w + 1) w) ≡ (if f then some (pattern [] z n a) else none)
     → pattern_of w ≡ (if f then some (pattern (take (before PERCENT w) w) z n a) else none)
 unfolding before pattern_of

@@ -32,22 +32,22 @@ drop_take (suc k) (suc m) (b ∷ l) = let e : suc m - suc k ≡ m - k = omega ar
 
 -- a part's first bytes, and what follows them, as parts of the text
 module _ (t : List ℕ) (from to k : ℕ) where
-  part_front : from + k ≤ to → take k (part from to t) ≡ part from (from + k) t
+  pub part_front : from + k ≤ to → take k (part from to t) ≡ part from (from + k) t
   part_front h = let e : from + k - from ≡ k = omega arith in rw e (take-take k (to - from) (drop from t) (omega arith))
 
-  part_back : drop k (part from to t) ≡ part (from + k) to t
+  pub part_back : drop k (part from to t) ≡ part (from + k) to t
   part_back =
       let e : to - from - k ≡ to - (from + k) = omega arith in
       drop_take k (to - from) (drop from t) ∙ rw (e, drop-drop k from t)
 
 -- ---- a pattern by its words
 
-numbered_none : (o : Option Pattern) (a : Option (Option ℕ)) → numbered o none a ≡ none
+pub numbered_none : (o : Option Pattern) (a : Option (Option ℕ)) → numbered o none a ≡ none
 numbered_none none a = refl
 numbered_none (some p) a = refl
 
 -- a word that is missing says what an empty one says
-pattern_words : (ws : List (List ℕ)) → pattern_said ws ≡ numbered (pattern_of (first_of ws)) (numbering_of (rest_of ws)) (axes_said (drop 4 ws))
+pub pattern_words : (ws : List (List ℕ)) → pattern_said ws ≡ numbered (pattern_of (first_of ws)) (numbering_of (rest_of ws)) (axes_said (drop 4 ws))
 unfolding pattern_of
 pattern_words [] = refl
 pattern_words (p ∷ []) = sym (numbered_none (pattern_of p) (axes_said (drop 4 (p ∷ []))))
@@ -56,7 +56,7 @@ pattern_words (p ∷ f ∷ l ∷ []) = sym (numbered_none (pattern_of p) (axes_s
 pattern_words (p ∷ f ∷ l ∷ s ∷ more) = refl
 
 -- the words after the first four
-words_after : (ws : List (List ℕ)) → drop 4 ws ≡ rest_of (rest_of (rest_of (rest_of ws)))
+pub words_after : (ws : List (List ℕ)) → drop 4 ws ≡ rest_of (rest_of (rest_of (rest_of ws)))
 words_after [] = refl
 words_after (p ∷ []) = refl
 words_after (p ∷ f ∷ []) = refl

@@ -76,7 +76,7 @@ fn count_up(low: u64, high: u64, size: u64) -> u64
 }
 
 // How many numbers there are from the first to the last: falling ones are as many as rising ones from the last to the first.
-fn count_numbers(falls: bool, first: u64, last: u64, size: u64) -> u64
+pub fn count_numbers(falls: bool, first: u64, last: u64, size: u64) -> u64
     requires { (first ≤ max_file_number) × ((last ≤ max_file_number) × (0 < size)) }
     ensures { result ≡ count_numbers falls first last size }
 {
