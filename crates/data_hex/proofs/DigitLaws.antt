@@ -13,6 +13,8 @@ use lib.ListN.{length, drop, get_or, drop_of_length-le}
 use lib.Seq.{drop-cons, drop-drop}
 use borrow.Author.Tests.{leb-true, leb-false, lt-leb, ne_eqb}
 use Rattle.format.specs.Bytes.{between, is_some, or_default}
+use Rattle.std.specs.Prelude.{Ok, Err}
+use Rattle.format.specs.declared.reason.Reason.TheVariants.{BadSample, DataEndsEarly}
 use Rattle.format.specs.Refusals.{bad_sample, data_ends_early}
 use Rattle.format.specs.Samples.{hex_digit, blank, without_blanks}
 use Rattle.format.proofs.Bytes.{and_left, and_right}
@@ -225,15 +227,15 @@ module _ (s : List ℕ) (need : ℕ) where
 
     -- a byte more
     module _ (h : c < need) where
-      pub reached_end : length s ≤ at → Scanned s need (record { code = data_ends_early; at = at; digits = c })
+      pub reached_end : length s ≤ at → Scanned s need (record { digits = c; outcome = Err DataEndsEarly })
       reached_end l = record { fine = r.passed.fine; whole = λ z. absurd (omega arith); stops = λ z. (h, passed_end s 0 c at r.passed l) }
 
       module _ (l : at < length s) (d b : Bool) (e : d ≡ is_some (hex_digit (get_or s at 0))) (f : b ≡ blank (get_or s at 0)) where
-        pub reached_bad : (d || b) ≡ false → Scanned s need (record { code = bad_sample; at = at; digits = c })
+        pub reached_bad : (d || b) ≡ false → Scanned s need (record { digits = c; outcome = Err BadSample })
         reached_bad g = record { fine = r.passed.fine; whole = λ z. absurd (omega arith); stops = λ z. (h, passed_bad s 0 c at r.passed l (rw (e, f) at g)) }
 
         pub reached_more : (d || b) ≡ true → (o : ℕ) → (o ≡ one_if d) × (o ≤ 1) → Reached s need (at + 1) (c + o)
         reached_more g o q = record { few = omega (arith, q.1); within = omega arith; passed = rw (q.0, e) (passed_more s 0 c at r.passed l (rw (e, f) at g)) }
 
-    pub reached_whole : need ≤ c → Scanned s need (record { code = 0; at = at; digits = c })
+    pub reached_whole : need ≤ c → Scanned s need (record { digits = c; outcome = Ok tt })
     reached_whole h = record { fine = r.passed.fine; whole = λ z. omega (arith, r.few); stops = λ z. absurd (z refl) }

@@ -11,6 +11,8 @@ use lib.Seq.{drop-drop, take_all, take_at, drop_at}
 use Rattle.format.specs.Bytes.{over}
 use Rattle.format.specs.Boundary.{words_of_samples}
 use Rattle.format.specs.Descriptors.{NumberKind}
+use Rattle.format.specs.declared.reason.Reason.{Reason}
+use Rattle.format.specs.Reasons.{reason_number}
 use Rattle.format.specs.Samples.{Decoded, hex_samples, raw_samples, without_blanks}
 use Rattle.format.proofs.Samples.{all_bytes}
 use Rattle.lent_numbers.specs.Packed.{samples_over}
@@ -72,6 +74,10 @@ module _ (k : NumberKind) (w e : ℕ) (s : List ℕ) where
 
 -- ---- a test of each block
 
+-- a reason has a number
+pub some_number : (reason : Reason) → reason_number reason ≡ 0 → ⊥
+some_number reason e = grind arith
+
 module _ (k : NumberKind) (w e n : ℕ) (s : List ℕ) where
   -- nothing of the j samples before a place is refused
   pub record Checking (at j : ℕ) : Type 0 where
@@ -84,25 +90,24 @@ module _ (k : NumberKind) (w e n : ℕ) (s : List ℕ) where
   checking_none = record { few = omega arith; within = omega arith; goes = λ f. (after_none k w e s, refl) }
 
   module _ {at j : ℕ} (c : Checking at j) where
-    module _ (m : ℕ) (h : j + m ≤ n) (code next : ℕ) (l : next ≤ length s)
-        (p : Enough s at (m * w) → Past s at (m * w) next × (code ≡ (samples_at k w e m s at).number)) where
+    module _ (m : ℕ) (h : j + m ≤ n) where
       module _ (f : Enough s 0 (n * w)) where
         place : After k w e s j at
         place = (c.goes f).0
 
-        block : Past s at (m * w) next × (code ≡ (samples_at k w e m s at).number)
-        block = p (block_fine k w e s j m at place n h f)
+        block : Enough s at (m * w)
+        block = block_fine k w e s j m at place n h f
 
-        block_code : (samples_at k w e (j + m) s 0).number ≡ code
-        block_code = ap (λ (d : Decoded). d.number) (block_join k w e s j m at place ∙ joined_good (samples_at k w e j s 0) (samples_at k w e m s at) (c.goes f).1) ∙ sym block.1
+        block_number : (samples_at k w e (j + m) s 0).number ≡ (samples_at k w e m s at).number
+        block_number = ap (λ (d : Decoded). d.number) (block_join k w e s j m at place ∙ joined_good (samples_at k w e j s 0) (samples_at k w e m s at) (c.goes f).1)
 
-      pub checking_bad : (code ≡ 0 → ⊥) → Enough s 0 (n * w) → code ≡ (samples_at k w e n s 0).number
-      checking_bad b f =
-          let q = block_code f in
+      pub checking_bad : (code : ℕ) → (Enough s at (m * w) → code ≡ (samples_at k w e m s at).number) → (code ≡ 0 → ⊥) → Enough s 0 (n * w) → code ≡ (samples_at k w e n s 0).number
+      checking_bad code p b f =
+          let q = block_number f ∙ sym (p (block f)) in
           sym (ap (λ (d : Decoded). d.number) (first_join k w e s n (j + m) h) ∙ joined_bad (samples_at k w e (j + m) s 0) _ (λ z. b (sym q ∙ z)) ∙ q)
 
-      pub checking_more : code ≡ 0 → Checking next (j + m)
-      checking_more z = record { few = h; within = l; goes = λ f. (after_more k w e s j m at (place f) next (block f).0, block_code f ∙ z) }
+      pub checking_more : (next : ℕ) → next ≤ length s → (Enough s at (m * w) → Past s at (m * w) next × ((samples_at k w e m s at).number ≡ 0)) → Checking next (j + m)
+      checking_more next l p = record { few = h; within = l; goes = λ f. (after_more k w e s j m at (place f) next (p (block f)).0, block_number f ∙ (p (block f)).1) }
 
     pub checking_done : n ≤ j → Enough s 0 (n * w) → 0 ≡ (samples_at k w e n s 0).number
     checking_done h f =

@@ -14,12 +14,13 @@ use lib.IntN.{ℤ}
 use lib.ListN.{length, take, drop, length-map}
 use lib.Seq.{drop-drop}
 use Rattle.format.specs.Bytes.{is_some, or_default}
+use Rattle.format.specs.Reasons.{refusal_number}
 use Rattle.format.specs.Refusals.{bad_sample, data_ends_early}
 use Rattle.format.specs.Descriptors.{NumberKind, signed, unsigned}
 use Rattle.format.specs.Samples.{no_hex, hex_run, with_hex_byte, hex_alone, hex_pair, hex_bytes, hex_digit, blank, without_blanks, in_type, sample_value, hex_sample, hex_samples, raw_samples, with_sample, stopped, Decoded}
 use Rattle.data_hex.specs.Forms.{digits_refusal, digit_value, pairs_of, bytes_of, Scanned, samples_at}
 use Rattle.lent_numbers.specs.Widths.{Width}
-use Rattle.data_hex.specs.declared.scan.Count.{Count}
+use Rattle.data_hex.specs.declared.scan.Counted.{Counted}
 use Rattle.data_hex.proofs.DigitLaws.{not_refused, digit_value_lem, refusal_add, refusal_first, refusal_after, refusal_last, refusal_length}
 use Rattle.data_hex.proofs.BlockLaws.{two_more, pairs_drop, pairs_length, pairs_bytes}
 use Rattle.lent_numbers.proofs.WidthLaws.{width_pos}
@@ -162,7 +163,7 @@ bytes_length j s f = omega (arith, refusal_length (2 * j) s f, pairs_length (map
 
 -- ---- what a scan comes to
 
-module _ (k : NumberKind) (w e n : ℕ) (s : List ℕ) (need : ℕ) (r : Count) (p : Scanned s need r) (pos : 0 < 2 * w) (few : need ≤ 2 * (n * w)) (long : need < 2 * (n * w) → length s < need) where
+module _ (k : NumberKind) (w e n : ℕ) (s : List ℕ) (need : ℕ) (r : Counted) (p : Scanned s need r) (pos : 0 < 2 * w) (few : need ≤ 2 * (n * w)) (long : need < 2 * (n * w) → length s < need) where
   -- the samples whose digits are all there
   abbrev pub whole : ℕ
   whole = r.digits / (2 * w)
@@ -177,42 +178,42 @@ module _ (k : NumberKind) (w e n : ℕ) (s : List ℕ) (need : ℕ) (r : Count) 
   whole_fine : digits_refusal (2 * (whole * w)) (without_blanks s) ≡ 0
   whole_fine = refusal_first (without_blanks s) digits_split.0 p.fine
 
-  rest_number : (whole ≤ n) × ((hex_samples k w e (n - whole) (drop (2 * (whole * w)) (without_blanks s))).number ≡ r.code)
+  rest_number : (whole ≤ n) × ((hex_samples k w e (n - whole) (drop (2 * (whole * w)) (without_blanks s))).number ≡ (refusal_number r.outcome))
   unfolding hex_samples
-  rest_number = go (eqb r.code 0) refl
+  rest_number = go (eqb (refusal_number r.outcome) 0) refl
     where
       rest : List ℕ
       rest = drop (2 * (whole * w)) (without_blanks s)
 
-      enough : r.code ≡ 0 → r.digits ≡ n * (2 * w)
+      enough : (refusal_number r.outcome) ≡ 0 → r.digits ≡ n * (2 * w)
       enough z = test (ltb need (2 * (n * w))) refl
         where
           test : (t : Bool) → ltb need (2 * (n * w)) ≡ t → r.digits ≡ n * (2 * w)
           test true q = absurd (omega (arith, long (ltb-true need (2 * (n * w)) q), p.whole z, refusal_length r.digits (without_blanks s) p.fine, without_length s))
           test false q = omega (arith, few, p.whole z, ltb-false need (2 * (n * w)) q, mul_left_comm 2 n w)
 
-      go : (t : Bool) → eqb r.code 0 ≡ t → (whole ≤ n) × ((hex_samples k w e (n - whole) rest).number ≡ r.code)
+      go : (t : Bool) → eqb (refusal_number r.outcome) 0 ≡ t → (whole ≤ n) × ((hex_samples k w e (n - whole) rest).number ≡ (refusal_number r.outcome))
       go true q =
-          let z : r.code ≡ 0 = eqb-true r.code 0 q in
+          let z : (refusal_number r.outcome) ≡ 0 = eqb-true (refusal_number r.outcome) 0 q in
           let l : whole ≡ n = ap (λ (d : ℕ). d / (2 * w)) (enough z) ∙ mul-div_cancel n pos in
           let y : n - whole ≡ 0 = omega arith in
           (omega arith, rw y (sym z))
       go false q =
-          let x = p.stops (eqb-false r.code 0 q) in
+          let x = p.stops (eqb-false (refusal_number r.outcome) 0 q) in
           let l : whole < n = (div-lt_iff_lt-mul pos).1 (omega (arith, x.0, few, mul_left_comm 2 n w)) in
           let y : n - whole ≡ suc (n - whole - 1) = omega arith in
           let j : 2 * (whole * w) ≤ r.digits + 1 = omega (arith, digits_split.0) in
-          let a : digits_refusal (r.digits + 1 - 2 * (whole * w)) rest ≡ r.code = sym (refusal_after (without_blanks s) j whole_fine) ∙ x.1 in
+          let a : digits_refusal (r.digits + 1 - 2 * (whole * w)) rest ≡ (refusal_number r.outcome) = sym (refusal_after (without_blanks s) j whole_fine) ∙ x.1 in
           let i : r.digits + 1 - 2 * (whole * w) ≤ 2 * w = omega (arith, digits_split) in
-          let b : digits_refusal (2 * w) rest ≡ r.code = refusal_last rest i (λ v. eqb-false r.code 0 q (sym a ∙ v)) ∙ a in
-          (omega arith, rw y (ap (λ (d : Decoded). d.number) (hex_none k w e (n - whole - 1) rest r.code b (eqb-false r.code 0 q))))
+          let b : digits_refusal (2 * w) rest ≡ (refusal_number r.outcome) = refusal_last rest i (λ v. eqb-false (refusal_number r.outcome) 0 q (sym a ∙ v)) ∙ a in
+          (omega arith, rw y (ap (λ (d : Decoded). d.number) (hex_none k w e (n - whole - 1) rest (refusal_number r.outcome) b (eqb-false (refusal_number r.outcome) 0 q))))
 
   told : hex_samples k w e n (without_blanks s) ≡ joined (raw_samples k w e whole (bytes_of (without_blanks s))) (hex_samples k w e (n - whole) (drop (2 * (whole * w)) (without_blanks s)))
   told =
       let q : n ≡ whole + (n - whole) = omega (arith, rest_number.0) in
       ap (λ (m : ℕ). hex_samples k w e m (without_blanks s)) q ∙ hex_then k w e whole (n - whole) (without_blanks s) whole_fine
 
-  told_scan : (raw_samples k w e whole (bytes_of (without_blanks s))).number ≡ 0 → r.code ≡ (hex_samples k w e n (without_blanks s)).number
+  told_scan : (raw_samples k w e whole (bytes_of (without_blanks s))).number ≡ 0 → (refusal_number r.outcome) ≡ (hex_samples k w e n (without_blanks s)).number
   told_scan z = sym (rw (told, z) rest_number.1)
 
   told_value : ((raw_samples k w e whole (bytes_of (without_blanks s))).number ≡ 0 → ⊥) → (raw_samples k w e whole (bytes_of (without_blanks s))).number ≡ (hex_samples k w e n (without_blanks s)).number
@@ -220,21 +221,21 @@ module _ (k : NumberKind) (w e n : ℕ) (s : List ℕ) (need : ℕ) (r : Count) 
 
 -- ---- the types of which no value is refused
 
-module _ (w e n : ℕ) (s : List ℕ) (need : ℕ) (r : Count) (p : Scanned s need r) (d : Width w) (few : need ≤ 2 * (n * w)) (long : need < 2 * (n * w) → length s < need) where
+module _ (w e n : ℕ) (s : List ℕ) (need : ℕ) (r : Counted) (p : Scanned s need r) (d : Width w) (few : need ≤ 2 * (n * w)) (long : need < 2 * (n * w) → length s < need) where
   pos : 0 < 2 * w
   pos = omega (arith, width_pos w d)
 
   room : r.digits / (2 * w) * w ≤ length (bytes_of (without_blanks s))
   room = bytes_length (r.digits / (2 * w) * w) (without_blanks s) (whole_fine signed w e n s need r p pos few long)
 
-  pub signed_told : r.code ≡ (hex_samples signed w e n (without_blanks s)).number
+  pub signed_told : (refusal_number r.outcome) ≡ (hex_samples signed w e n (without_blanks s)).number
   signed_told = told_scan signed w e n s need r p pos few long (signed_fine w e (r.digits / (2 * w)) (bytes_of (without_blanks s)) d (pairs_bytes (map digit_value (without_blanks s))) room)
 
-  pub narrow_told : (w ≡ 8 → ⊥) → r.code ≡ (hex_samples unsigned w e n (without_blanks s)).number
+  pub narrow_told : (w ≡ 8 → ⊥) → (refusal_number r.outcome) ≡ (hex_samples unsigned w e n (without_blanks s)).number
   narrow_told f = told_scan unsigned w e n s need r p pos few long (narrow_fine w e (r.digits / (2 * w)) (bytes_of (without_blanks s)) d (pairs_bytes (map digit_value (without_blanks s))) room f)
 
 -- and the one of which some are
-module _ (e n : ℕ) (s : List ℕ) (need : ℕ) (r : Count) (p : Scanned s need r) (few : need ≤ 2 * (n * 8)) (long : need < 2 * (n * 8) → length s < need)
+module _ (e n : ℕ) (s : List ℕ) (need : ℕ) (r : Counted) (p : Scanned s need r) (few : need ≤ 2 * (n * 8)) (long : need < 2 * (n * 8) → length s < need)
     (v : ℕ) (q : digits_refusal (2 * (r.digits / 16 * 8)) (without_blanks s) ≡ 0 → v ≡ (samples_at unsigned 8 e (r.digits / 16) s 0).number) where
   value_is : v ≡ (samples_at unsigned 8 e (r.digits / 16) s 0).number
   value_is = q (whole_fine unsigned 8 e n s need r p (lit< tt) few long)
@@ -242,5 +243,5 @@ module _ (e n : ℕ) (s : List ℕ) (need : ℕ) (r : Count) (p : Scanned s need
   pub wide_bad : (v ≡ 0 → ⊥) → v ≡ (hex_samples unsigned 8 e n (without_blanks s)).number
   wide_bad f = value_is ∙ told_value unsigned 8 e n s need r p (lit< tt) few long (λ z. f (value_is ∙ z))
 
-  pub wide_good : v ≡ 0 → r.code ≡ (hex_samples unsigned 8 e n (without_blanks s)).number
+  pub wide_good : v ≡ 0 → (refusal_number r.outcome) ≡ (hex_samples unsigned 8 e n (without_blanks s)).number
   wide_good z = told_scan unsigned 8 e n s need r p (lit< tt) few long (sym value_is ∙ z)

@@ -2,9 +2,10 @@
 use Rattle.std.specs.Prelude.{ℕ, zero, suc, ◌+◌, ◌*◌, ◌/◌, ◌%◌, ◌≤◌, ◌<◌, ◌≡◌, Bool, true, false, ◌||◌, List, [], ◌∷◌, ◌++◌, map, ◌==◌, nat_le, length, take, drop, slice_index, if◌then◌else◌}
 use Rattle.format.specs.Bytes.{is_some, or_default}
 use Rattle.format.specs.Descriptors.{NumberKind}
+use Rattle.format.specs.Reasons.{refusal_number}
 use Rattle.format.specs.Refusals.{bad_sample, data_ends_early}
 use Rattle.format.specs.Samples.{Decoded, raw_samples, hex_digit, without_blanks}
-use Rattle.data_hex.specs.declared.scan.Count.{Count}
+use Rattle.data_hex.specs.declared.scan.Counted.{Counted}
 
 -- the digits from a place on
 abbrev pub digits_at : List ℕ → ℕ → List ℕ
@@ -38,10 +39,10 @@ pub record Reached (s : List ℕ) (need at c : ℕ) : Type 0 where
   pub passed : Passed s 0 c at
 
 -- r is what the scan for so many digits comes to: they are there, or the one after the digits of r is refused
-pub record Scanned (s : List ℕ) (need : ℕ) (r : Count) : Type 0 where
+pub record Scanned (s : List ℕ) (need : ℕ) (r : Counted) : Type 0 where
   pub fine : digits_refusal r.digits (without_blanks s) ≡ 0
-  pub whole : r.code ≡ 0 → r.digits ≡ need
-  pub stops : (r.code ≡ 0 → ⊥) → (r.digits < need) × (digits_refusal (r.digits + 1) (without_blanks s) ≡ r.code)
+  pub whole : refusal_number r.outcome ≡ 0 → r.digits ≡ need
+  pub stops : (refusal_number r.outcome ≡ 0 → ⊥) → (r.digits < need) × (digits_refusal (r.digits + 1) (without_blanks s) ≡ refusal_number r.outcome)
 
 -- ---- the bytes that they write
 

@@ -7,6 +7,7 @@ ghost use Rattle.format.specs.Reasons.{refusal_number};
 ghost use Rattle.format.specs.Samples.{hex_samples, without_blanks};
 ghost use Rattle.lent_numbers.specs.Widths.{Width, is_width, kind_by, endian_by};
 
+use format::reason::Reason;
 use lent_numbers::cell::Cell;
 
 mod blanks;
@@ -17,25 +18,18 @@ pub mod packed;
 mod scan;
 mod values;
 
-// The refusal that n samples of w bytes come to: 20 or 21, whichever comes first, or 0. It is 0 too where w is no width.
-pub(crate) fn check(s: &[u8], n: usize, w: usize, signed: bool, big: bool) -> u32
-    ensures { result ≡ (if is_width w then (hex_samples (kind_by signed) w (endian_by big) n (without_blanks s.now)).number else 0) }
+// Whether the digits of n samples of w bytes are there, and each is a sample: what comes first in the data is told. Nothing is refused where w is no width.
+pub fn check(s: &[u8], n: usize, w: usize, signed: bool, big: bool) -> Result<(), Reason>
+    ensures { refusal_number result ≡ (if is_width w then (hex_samples (kind_by signed) w (endian_by big) n (without_blanks s.now)).number else 0) }
 {
     if !lent_numbers::is_width(w) {
-        return 0;
+        return Ok(());
     }
-    let c = scan::scan(s, scan::wanted(s.len(), n, w));
-    if signed {
-        return c.code;
+    let scan = scan::scan(s, scan::wanted(s.len(), n, w));
+    if !signed && w == 8 {
+        values::check_values(s, scan.digits / 16, big)?;
     }
-    if w != 8 {
-        return c.code;
-    }
-    let code = values::check_values(s, c.digits / 16, big);
-    if code != 0 {
-        return code;
-    }
-    c.code
+    scan.outcome
 }
 
 // The samples to the front of dst, where none is refused. dst stays as it was where it is too short or w is no width.

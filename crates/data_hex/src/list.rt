@@ -8,7 +8,10 @@ ghost use Rattle.lent_numbers.specs.Widths.{Width, is_width, kind_by, endian_by}
 pub fn check(s: &[u8], n: usize, w: usize, signed: bool, big: bool) -> u32
     ensures { result ≡ (if is_width w then (hex_samples (kind_by signed) w (endian_by big) n (without_blanks s.now)).number else 0) }
 {
-    crate::check(s, n, w, signed, big)
+    match crate::check(s, n, w, signed, big) {
+        Ok(_) => 0,
+        Err(reason) => reason.number(),
+    }
 }
 
 // The samples to the front of dst, where none is refused. dst stays as it was where it is too short or w is no width.

@@ -4,6 +4,7 @@ ghost use Rattle.data_hex.specs.Forms.{Passed, Reached, Scanned};
 ghost use Rattle.lent_numbers.specs.Widths.{Width};
 
 use crate::blanks;
+use format::reason::Reason;
 
 // How many of the 64 bytes from a place on are digits, or 255 where one is neither a digit nor a blank.
 fn block_digits(s: &[u8], at: usize) -> u8
@@ -23,70 +24,64 @@ fn block_digits(s: &[u8], at: usize) -> u8
     if fine { digits } else { 255 }
 }
 
-// What a scan comes to: a refusal or 0, the place, and the digits before it.
+// A place in the data, and the digits before it.
 #[derive(Clone, Copy)]
-pub(crate) struct Count {
-    pub(crate) code: u32,
-    pub(crate) at: usize,
+struct Reach {
+    at: usize,
+    digits: usize,
+}
+
+// What a scan comes to: how many digits were counted, and why no more were, where fewer than wanted.
+#[derive(Clone, Copy)]
+pub(crate) struct Counted {
     pub(crate) digits: usize,
+    pub(crate) outcome: Result<(), Reason>,
 }
 
 // Blocks of digits and blanks, as far as they go.
-fn scan_blocks(s: &[u8], need: usize) -> Count
+fn scan_blocks(s: &[u8], need: usize) -> Reach
     ensures { Reached s.now need result.at result.digits }
 {
     let mut at: usize = 0;
     let mut digits: usize = 0;
+    // a step of 64 bytes, and of as many digits as are among them
     while (64 <= s.len() - at) & (64 <= need - digits) {
         let d = block_digits(s, at);
         if d == 255 {
-            return Count {
-                code: 0,
-                at,
-                digits,
-            };
+            return Reach { at, digits };
         }
         digits += d as usize;
         at += 64;
     }
-    Count {
-        code: 0,
-        at,
-        digits,
-    }
+    Reach { at, digits }
 }
 
 // Whether so many digits are there: the first byte that is none of them, nor a blank, is refused, and so is the end of the data.
-pub(crate) fn scan(s: &[u8], need: usize) -> Count
+pub(crate) fn scan(s: &[u8], need: usize) -> Counted
     ensures { Scanned s.now need result }
 {
-    let first = scan_blocks(s, need);
-    let mut at = first.at;
-    let mut digits = first.digits;
+    let Reach { mut at, mut digits } = scan_blocks(s, need);
     while digits < need {
         if s.len() <= at {
-            return Count {
-                code: format::DATA_ENDS_EARLY,
-                at,
+            return Counted {
                 digits,
+                outcome: Err(Reason::DataEndsEarly),
             };
         }
         let b = s[at];
         let d = data_hex_digits::is_digit(b);
         if !(d | blanks::is_blank(b)) {
-            return Count {
-                code: format::BAD_SAMPLE,
-                at,
+            return Counted {
                 digits,
+                outcome: Err(Reason::BadSample),
             };
         }
         digits += blanks::one_if(d) as usize;
         at += 1;
     }
-    Count {
-        code: 0,
-        at,
+    Counted {
         digits,
+        outcome: Ok(()),
     }
 }
 

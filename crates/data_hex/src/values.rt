@@ -1,18 +1,13 @@
 // The values of unsigned samples of 8 bytes: whether each is at most the largest sample.
-ghost use Rattle.std.specs.Prelude.{◌≡◌, ◌*◌, ◌≤◌, ◌<◌, length};
+ghost use Rattle.std.specs.Prelude.{◌≡◌, ◌*◌, ◌≤◌, ◌<◌, MatchResult, length};
 ghost use Rattle.format.specs.Descriptors.{unsigned};
+ghost use Rattle.format.specs.Reasons.{refusal_number};
 ghost use Rattle.format.specs.Samples.{raw_samples};
 ghost use Rattle.lent_numbers.specs.Widths.{endian_by};
 ghost use Rattle.data_hex.specs.Forms.{Enough, Past, samples_at, top_place, has_high};
 
 use crate::bytes;
-
-// The refusal of samples, or 0, and the place after their digits.
-#[derive(Clone, Copy)]
-struct Checked {
-    code: u32,
-    next: usize,
-}
+use format::reason::Reason;
 
 // The place of the highest byte of a sample of 8 bytes.
 fn top_place(big: bool) -> usize
@@ -36,49 +31,52 @@ fn has_high(bytes: &[u8], m: usize, top: usize) -> bool
     high
 }
 
-// The refusal of m unsigned samples of 8 bytes, for their values. One byte of each tells it.
-fn value_code(bytes: &[u8], m: usize, big: bool) -> u32
+// Whether m unsigned samples of 8 bytes are samples. One byte of each tells it.
+fn check_bytes(bytes: &[u8], m: usize, big: bool) -> Result<(), Reason>
     requires { 8 * m ≤ length bytes.now }
-    ensures { result ≡ (raw_samples unsigned 8 (endian_by big) m bytes.now).number }
+    ensures { refusal_number result ≡ (raw_samples unsigned 8 (endian_by big) m bytes.now).number }
 {
     if has_high(bytes, m, top_place(big)) {
-        format::BAD_SAMPLE
+        Err(Reason::BadSample)
     } else {
-        0
+        Ok(())
     }
 }
 
-// The refusal of the next m unsigned samples of 8 bytes, for their values. Their digits go to d, and what these write to bytes.
-fn check_block(s: &[u8], at: usize, m: usize, big: bool, d: &mut [u8], bytes: &mut [u8]) -> Checked
+// The place after the digits of the next m unsigned samples of 8 bytes, where each is a sample. Their digits go to d, and what these write to bytes.
+fn check_block(
+    s: &[u8],
+    at: usize,
+    m: usize,
+    big: bool,
+    d: &mut [u8],
+    bytes: &mut [u8],
+) -> Result<usize, Reason>
     requires at_within { at ≤ length s.now }
     requires m_up_to_16 { m ≤ 16 }
     requires buffer_of_256 { length d.old ≡ 256 }
     requires block_of_128 { length bytes.old ≡ 128 }
-    ensures within { result.next ≤ length s.now }
-    ensures checked { Enough s.now at (m * 8) → Past s.now at (m * 8) result.next × (result.code ≡ (samples_at unsigned 8 (endian_by big) m s.now at).number) }
+    ensures checked { Enough s.now at (m * 8) → refusal_number result ≡ (samples_at unsigned 8 (endian_by big) m s.now at).number }
+    ensures passed { MatchResult result (λ next. (next ≤ length s.now) × (Enough s.now at (m * 8) → Past s.now at (m * 8) next)) (λ _. Unit) }
 {
     let next = bytes::next_bytes(s, at, m * 8, d, bytes);
-    let code = value_code(bytes, m, big);
-    Checked { code, next }
+    check_bytes(bytes, m, big)?;
+    Ok(next)
 }
 
-// The refusal of n unsigned samples of 8 bytes, for their values, where their digits are there.
-pub(crate) fn check_values(s: &[u8], n: usize, big: bool) -> u32
-    ensures { Enough s.now 0 (n * 8) → result ≡ (samples_at unsigned 8 (endian_by big) n s.now 0).number }
+// Whether n unsigned samples of 8 bytes are samples, where their digits are there.
+pub(crate) fn check_values(s: &[u8], n: usize, big: bool) -> Result<(), Reason>
+    ensures { Enough s.now 0 (n * 8) → refusal_number result ≡ (samples_at unsigned 8 (endian_by big) n s.now 0).number }
 {
     let mut d = [0u8; 256];
     let mut bytes = [0u8; 128];
     let mut at: usize = 0;
     let mut k: usize = 0;
+    // a step of up to 16 samples
     while k < n {
         let m = bytes::least(16, n - k);
-        let c = check_block(s, at, m, big, &mut d, &mut bytes);
-        let code = c.code;
-        if code != 0 {
-            return code;
-        }
-        at = c.next;
+        at = check_block(s, at, m, big, &mut d, &mut bytes)?;
         k += m;
     }
-    0
+    Ok(())
 }

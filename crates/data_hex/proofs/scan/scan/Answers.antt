@@ -3,7 +3,7 @@ use Rattle.data_hex.proofs.DigitLaws.{reached_end, reached_bad, reached_more, re
 use Rattle.data_hex.proofs.scan.scan.Goals as goal
 
 pub loop-digits-init : goal.loop-digits-init
-loop-digits-init c = c.scan_blocks-first.ensures
+loop-digits-init c = c.scan_blocks-at.ensures
 
 pub returns-then-s-at : goal.returns-then-s-at
 returns-then-s-at c =

@@ -1,7 +1,7 @@
--- `value_code` meets its contract: the highest bytes tell what the samples come to.
-use borrow.Author.Rules.{rules}
+-- `check_bytes` meets its contract: the highest bytes tell what the samples come to.
+use Rattle.std.proofs.Common.{rules}
 use Rattle.data_hex.proofs.HighLaws.{high_told}
-use Rattle.data_hex.proofs.values.value_code.Goals as goal
+use Rattle.data_hex.proofs.values.check_bytes.Goals as goal
 
 pub returns-then-has_high : goal.returns-then-has_high
 returns-then-has_high c =
