@@ -1,6 +1,7 @@
 -- Laws of descriptors: where one stands, and what the answers of the leaves say of it.
 -- Assumes nothing.
-use Rattle.std.specs.Prelude.{if◌then◌else◌}
+use Rattle.std.specs.Prelude.{if◌then◌else◌, Some, None}
+use Rattle.std.specs.Prelude.{Option as Answer}
 use Prim.Native.Nat.{ℕ, ◌-◌}
 use mathlib.Core.Path.{◌≡◌, refl, ap, ◌∙◌}
 use mathlib.Core.Bool.{Bool, true, false, ◌&&◌, ◌||◌, false≢true}
@@ -21,7 +22,8 @@ use Rattle.format.specs.DataFiles.{DataFile, data_file_said, cover_said, last_nu
 use Rattle.format.specs.Calls.{padded}
 use Rattle.format.proofs.Bytes.{and_left, and_right}
 use Rattle.format.proofs.Descriptors.{drop_to_descriptor, take_trimmed}
-use Rattle.read_files.specs.Said.{is_listed, cover_code}
+use Rattle.read_files.specs.Said.{is_listed, cover_code, files_answer}
+use Rattle.read_files.specs.declared.FilesSaid.{FilesSaid}
 use Rattle.read_text.specs.Numbers.{no_sizes, sizes_answer}
 use Rattle.read_text.specs.declared.numbers.Sizes.{Sizes}
 use Rattle.read_text.proofs.Places.{eqb_comm}
@@ -29,8 +31,8 @@ use Rattle.read_axes.specs.declared.codes.Codes.{Codes}
 use Rattle.read_axes.specs.declared.strings.Strings.{Strings}
 use Rattle.read_axes.specs.Codes.{codes_answer}
 use Rattle.read_axes.specs.Strings.{strings_answer}
-use Rattle.read_descriptors.specs.declared.check.Checked.{Checked}
-use Rattle.read_descriptors.specs.Checked.{found, answered, checked, asked, oriented, NoneOf}
+use Rattle.read_descriptors.specs.declared.check.Said.{Said}
+use Rattle.read_descriptors.specs.Checked.{spoken, found, said, answered, checked, asked, oriented, NoneOf}
 
 -- ---- where a descriptor stands
 
@@ -45,17 +47,14 @@ descriptor_part f rest from n e i =
     let is : d ≡ from_descriptor f rest = rw e (drop_to_descriptor f rest) in
     rw (i, all) (take_trimmed d ∙ ap trim_end is)
 
--- ---- a field that says no number
+-- ---- a field that keeps no sizes
 
-pub says_none : (b : Bool) → record { fine = b; number = 0; fromend = false; list = false; cover = 0 } ≡ found b 0 false
-says_none true = refl
-says_none false = refl
-
--- the sizes kept are those of before
-pub stay : {x y : Checked} (ns : List ℕ) → x ≡ y → ◌≡◌ {A = Checked × List ℕ} (x, ns) (y, if y.fine then ns else ns)
-stay {x} {y} ns e = rw e (go y.fine)
+-- they are those of before, taken or not
+pub stay : (b : Bool) (y : Said) (ns : List ℕ) {x : Answer Said} → x ≡ (if b then Some y else None)
+    → ◌≡◌ {A = Answer Said × List ℕ} (x, ns) (if b then Some y else None, if b then ns else ns)
+stay b y ns {x} e = rw e (go b)
   where
-    go : (b : Bool) → ◌≡◌ {A = Checked × List ℕ} (y, ns) (y, if b then ns else ns)
+    go : (b : Bool) → ◌≡◌ {A = Answer Said × List ℕ} (if b then Some y else None, ns) (if b then Some y else None, if b then ns else ns)
     go true = refl
     go false = refl
 
@@ -67,13 +66,13 @@ fine_length n ws e = eqb-true (length ws) n (and_left (eqb (length ws) n) (numbe
 
 -- by what is read
 pub sizes_read : (n m : ℕ) (t ns : List ℕ) (r : Sizes) → r ≡ sizes_answer n (words t)
-    → ◌≡◌ {A = Checked × List ℕ} (record { fine = r.fine; number = 0; fromend = false; list = false; cover = 0 }, if r.fine then r.sizes else ns) (checked n m sizes t ns)
+    → ◌≡◌ {A = Answer Said × List ℕ} (found r.fine 0 false, if r.fine then r.sizes else ns) (checked n m sizes t ns)
 unfolding sizes_answer may_describe
 sizes_read n m t ns r e = go (leb n max_axes && sizes_fine n (words t)) refl e
   where
     go : (x : Bool) → (leb n max_axes && sizes_fine n (words t)) ≡ x
         → r ≡ (if x then record { fine = true; sizes = map value_of_number (words t) ++ replicate (max_axes - n) 0 } else no_sizes)
-        → ◌≡◌ {A = Checked × List ℕ} (record { fine = r.fine; number = 0; fromend = false; list = false; cover = 0 }, if r.fine then r.sizes else ns)
+        → ◌≡◌ {A = Answer Said × List ℕ} (found r.fine 0 false, if r.fine then r.sizes else ns)
         (found x 0 false, if x then padded (sizes_said t) else ns)
     go true s q =
         let k = fine_length n (words t) (and_right (leb n max_axes) (sizes_fine n (words t)) s) in
@@ -93,18 +92,12 @@ none_is f (x ∷ gs) h g e = go (eqb g x) refl e (none_is f gs h.0 g)
 
 -- what such a field says goes by `may_describe` alone: it keeps no sizes, and says nothing of the end or of files
 pub other_checked : (n m f : ℕ) (t ns : List ℕ) → NoneOf f asked
-    → ◌≡◌ {A = Checked × List ℕ} (found (may_describe n m f t) (number_said f t) false, ns) (checked n m f t ns)
+    → ◌≡◌ {A = Answer Said × List ℕ} (found (may_describe n m f t) (number_said f t) false, ns) (checked n m f t ns)
 unfolding is_in
-other_checked n m f t ns h = rw (no sizes refl, no byte_skip refl, no data_file refl) (go (may_describe n m f t))
+other_checked n m f t ns h = rw (no sizes refl, no byte_skip refl, no data_file refl) (stay (may_describe n m f t) (spoken (number_said f t) false) ns refl)
   where
     no : (g : ℕ) → is_in g asked ≡ true → eqb g f ≡ false
     no g e = eqb_comm g f ∙ none_is f asked h g e
-
-    go : (b : Bool)
-        → ◌≡◌ {A = Checked × List ℕ} (found b (number_said f t) false, ns)
-        (record { fine = b; number = if b then number_said f t else 0; fromend = b && false; list = false; cover = 0 }, if b then ns else ns)
-    go true = refl
-    go false = refl
 
 -- the arms of `check_axes`, the last one first
 abbrev pub axial : List ℕ
@@ -150,8 +143,12 @@ strings_fine base (some qs) r e = rw e
 -- ---- data files
 
 -- what is said of data files is the answer for that field
-pub files_said : (n m : ℕ) (t : List ℕ) (o : Option DataFile) → data_file_said t ≡ o
-    → record { fine = is_some o; number = last_numbered o; fromend = false; list = is_listed o; cover = cover_code (cover_said o) } ≡ answered n m data_file t
+pub files_said : (n m : ℕ) (t : List ℕ) (r : FilesSaid) → r ≡ files_answer (data_file_said t)
+    → (if r.fine then Some (record { number = r.last; from_end = false; list = r.list; cover = r.cover }) else None) ≡ answered n m data_file t
 unfolding may_describe
-files_said n m t none e = rw e
-files_said n m t (some d) e = rw e
+files_said n m t r e = rw e (go (data_file_said t) refl)
+  where
+    go : (o : Option DataFile) → data_file_said t ≡ o
+        → (if is_some o then Some (record { number = last_numbered o; from_end = false; list = is_listed o; cover = cover_code (cover_said o) }) else None) ≡ answered n m data_file t
+    go none q = rw q
+    go (some d) q = rw q

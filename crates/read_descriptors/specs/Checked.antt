@@ -1,16 +1,20 @@
 -- Internal to the library. The answer of the checker of descriptors, and what it keeps.
-use Rattle.std.specs.Prelude.{ℕ, ◌≡◌, Bool, false, not, ◌&&◌, ◌||◌, List, [], ◌∷◌, ◌==◌, nat_le, if◌then◌else◌}
+use Rattle.std.specs.Prelude.{ℕ, ◌≡◌, Bool, false, not, ◌&&◌, ◌||◌, List, [], ◌∷◌, ◌==◌, nat_le, if◌then◌else◌, Option, Some, None}
 use Rattle.format.specs.Limits.{max_axes}
 use Rattle.format.specs.Fields.{dimension, type, encoding, endian, sizes, line_skip, byte_skip, data_file, space, space_dimension, space_origin, space_directions, measurement_frame}
 use Rattle.format.specs.Descriptors.{is_from_end, byte_skip_said, may_describe, number_said, sizes_said}
 use Rattle.format.specs.DataFiles.{data_file_said, cover_said}
 use Rattle.format.specs.Calls.{padded}
 use Rattle.read_files.specs.Said.{is_listed, cover_code}
-use Rattle.read_descriptors.specs.declared.check.Checked.{Checked}
+use Rattle.read_descriptors.specs.declared.check.Said.{Said}
 
--- an answer for a field other than data file: the number, and whether the data is found from the end, count only where the descriptor is fine
-abbrev pub found : Bool → ℕ → Bool → Checked
-found fine n end = record { fine = fine; number = if fine then n else 0; fromend = fine && end; list = false; cover = 0 }
+-- what a field other than data file says: a number, and whether the data is found from the end
+abbrev pub spoken : ℕ → Bool → Said
+spoken n end = record { number = n; from_end = end; list = false; cover = 0 }
+
+-- the answer for such a field
+abbrev pub found : Bool → ℕ → Bool → Option Said
+found fine n end = if fine then Some (spoken n end) else None
 
 -- whether the descriptor t of the field f is taken in a header of dimension n and a space of dimension m: no header has sizes of more axes than the largest dimension
 abbrev pub takes : ℕ → ℕ → ℕ → List ℕ → Bool
@@ -28,23 +32,20 @@ says_list f t = data_file == f && is_listed (data_file_said t)
 abbrev pub says_cover : ℕ → List ℕ → ℕ
 says_cover f t = if data_file == f then cover_code (cover_said (data_file_said t)) else 0
 
+-- what the field f says with t
+abbrev pub said : ℕ → List ℕ → Said
+said f t = record { number = number_said f t; from_end = says_end f t; list = says_list f t; cover = says_cover f t }
+
 -- the answer for the descriptor t of the field f
-abbrev pub answered : ℕ → ℕ → ℕ → List ℕ → Checked
-answered n m f t =
-    record {
-      fine = takes n m f t;
-      number = if takes n m f t then number_said f t else 0;
-      fromend = takes n m f t && says_end f t;
-      list = says_list f t;
-      cover = says_cover f t;
-    }
+abbrev pub answered : ℕ → ℕ → ℕ → List ℕ → Option Said
+answered n m f t = if takes n m f t then Some (said f t) else None
 
 -- the sizes kept once the field f has the descriptor t: of sizes those that it says, 0 past them, and otherwise those of before
 abbrev pub sizes_kept : ℕ → List ℕ → List ℕ → List ℕ
 sizes_kept f t ns = if sizes == f then padded (sizes_said t) else ns
 
 -- the answer, and the sizes kept
-abbrev pub checked : ℕ → ℕ → ℕ → List ℕ → List ℕ → Checked × List ℕ
+abbrev pub checked : ℕ → ℕ → ℕ → List ℕ → List ℕ → Option Said × List ℕ
 checked n m f t ns = (answered n m f t, if takes n m f t then sizes_kept f t ns else ns)
 
 -- ---- fields that a match has no arm for

@@ -1,5 +1,6 @@
 // Whether a field may have a descriptor, and the number or the sizes that it says.
 ghost use Rattle.std.specs.Prelude.{◌≡◌, false, ◌||◌, List, ℕ, ◌≤◌, length};
+ghost use Rattle.std.specs.Prelude.{Option as Answer};
 ghost use Rattle.std.proofs.Math.Option.{Option};
 ghost use Rattle.format.specs.Bytes.{is_some, or_default};
 ghost use Rattle.format.specs.Limits.{max_size, max_skip, max_header, max_axes};
@@ -11,147 +12,105 @@ ghost use Rattle.format.specs.Words.{number_in, value_of_number};
 ghost use Rattle.format.specs.Descriptors.{may_describe, number_said, is_minus_one, byte_skip_said, bytes_forward, is_from_end};
 ghost use Rattle.read_text.specs.Rows.{row_answer};
 ghost use Rattle.read_axes.specs.Codes.{codes_said};
-ghost use Rattle.read_descriptors.specs.declared.check.Checked.{Checked};
-ghost use Rattle.read_descriptors.specs.Checked.{found, answered, checked, asked, oriented, NoneOf};
+ghost use Rattle.read_descriptors.specs.declared.check.Said.{Said};
+ghost use Rattle.read_descriptors.specs.Checked.{spoken, found, answered, checked, asked, oriented, NoneOf};
 
 use format::field;
 
-// Whether the descriptor is one that the field may have; the number that it says, 0 where it says none or is wrong; whether it says that the data is found from the end;
-// whether it is LIST, after which names stand on lines of their own; and how many axes one data file covers, as `read_files::said` tells it.
+// What a descriptor says: the number, 0 where it says none; whether the data is found from the end; whether it is LIST, after which names stand on lines of their own;
+// and how many axes one data file covers, as `read_files::said` tells it.
 #[derive(Clone, Copy)]
-pub struct Checked {
-    pub fine: bool,
+pub struct Said {
     pub number: u32,
-    pub fromend: bool,
+    pub from_end: bool,
     pub list: bool,
     pub cover: u32,
 }
 
-// A descriptor that is fine or not, and says no number.
-fn says_none(fine: bool) -> Checked
-    ensures { result ≡ found fine 0 false }
+// A number, and nothing else.
+fn only(number: u32) -> Said
+    ensures { result ≡ spoken number false }
 {
-    Checked {
-        fine: fine,
-        number: 0,
-        fromend: false,
+    Said {
+        number,
+        from_end: false,
         list: false,
         cover: 0,
     }
 }
 
+// A descriptor that is fine or not, and says no number.
+fn says_none(fine: bool) -> Option<Said>
+    ensures { result ≡ found fine 0 false }
+{
+    fine.then_some(only(0))
+}
+
 // A number from the least to the most.
-fn check_number(t: &[u8], least: u64, most: u64) -> Checked
+fn check_number(t: &[u8], least: u64, most: u64) -> Option<Said>
     requires { most ≤ max_size }
     ensures { result ≡ found (number_in least most t.now) (value_of_number t.now) false }
 {
-    let wrong = Checked {
-        fine: false,
-        number: 0,
-        fromend: false,
-        list: false,
-        cover: 0,
-    };
-    let x = read_text::numbers::read_number(t);
-    match x {
-        Some(n) => {
-            if n < least {
-                return wrong;
-            }
-            if most < n {
-                return wrong;
-            }
-            Checked {
-                fine: true,
-                number: n as u32,
-                fromend: false,
-                list: false,
-                cover: 0,
-            }
-        }
-        None => wrong,
+    match read_text::numbers::read_number(t) {
+        Some(n) if least <= n && n <= most => Some(only(n as u32)),
+        _ => None,
     }
 }
 
 // A number of bytes to skip, or -1.
-fn check_byte_skip(t: &[u8]) -> Checked
+fn check_byte_skip(t: &[u8]) -> Option<Said>
     ensures { result ≡ found (is_minus_one t.now || number_in 0 max_skip t.now) (bytes_forward (byte_skip_said t.now)) (is_from_end (byte_skip_said t.now)) }
 {
     if read_text::bytes::is_same(t, b"-1") {
-        return Checked {
-            fine: true,
-            number: 0,
-            fromend: true,
-            list: false,
-            cover: 0,
-        };
+        return Some(Said {
+            from_end: true,
+            ..only(0)
+        });
     }
     check_number(t, 0, format::MAX_SKIP)
 }
 
 // A name that has a row.
-fn check_row(row: Option<u32>) -> Checked
+fn check_row(row: Option<u32>) -> Option<Said>
     ensures { (o : Option ℕ) (d : ℕ) → row ≡ row_answer o → result ≡ found (is_some o) (or_default d o) false }
 {
     match row {
-        Some(n) => Checked {
-            fine: true,
-            number: n,
-            fromend: false,
-            list: false,
-            cover: 0,
-        },
-        None => Checked {
-            fine: false,
-            number: 0,
-            fromend: false,
-            list: false,
-            cover: 0,
-        },
+        Some(n) => Some(only(n)),
+        None => None,
     }
 }
 
 // As many sizes as the dimension: they are kept.
-fn check_sizes(t: &[u8], dimension: u32, kept: &mut [u64; format::AXES]) -> Checked
-    ensures { (m : ℕ) → ◌≡◌ {A = Checked × List ℕ} (result, kept.new) (checked dimension m sizes t.now kept.old) }
+fn check_sizes(t: &[u8], dimension: u32, kept: &mut [u64; format::AXES]) -> Option<Said>
+    ensures { (m : ℕ) → ◌≡◌ {A = Answer Said × List ℕ} (result, kept.new) (checked dimension m sizes t.now kept.old) }
 {
     let x = read_text::numbers::read_sizes(t, dimension as usize);
     if !x.fine {
-        return Checked {
-            fine: false,
-            number: 0,
-            fromend: false,
-            list: false,
-            cover: 0,
-        };
+        return None;
     }
     let said = x.sizes;
     *kept = said;
-    Checked {
-        fine: true,
-        number: 0,
-        fromend: false,
-        list: false,
-        cover: 0,
-    }
+    Some(only(0))
 }
 
 // What a data file descriptor says: a name, a pattern with its numbers, or LIST.
-fn check_files(t: &[u8]) -> Checked
+fn check_files(t: &[u8]) -> Option<Said>
     ensures { (n m : ℕ) → result ≡ answered n m data_file t.now }
 {
     let x = read_files::said(t);
-    Checked {
-        fine: x.fine,
+    if !x.fine {
+        return None;
+    }
+    Some(Said {
         number: x.last,
-        fromend: false,
+        from_end: false,
         list: x.list,
         cover: x.cover,
-    }
+    })
 }
 
 // So many vectors in a space of this dimension. No space has more dimensions, and no header is longer: both are told here once for all that follows.
-fn check_vectors(t: &[u8], count: u32, space: u32) -> Checked
+fn check_vectors(t: &[u8], count: u32, space: u32) -> Option<Said>
     ensures { space ≤ max_space → length t.now ≤ max_header → result ≡ found (is_some (vectors_said count space t.now)) 0 false }
 {
     let n = space as usize;
@@ -165,7 +124,7 @@ fn check_vectors(t: &[u8], count: u32, space: u32) -> Checked
 }
 
 // The same with a direction for each of so many axes.
-fn check_directions(t: &[u8], count: u32, space: u32) -> Checked
+fn check_directions(t: &[u8], count: u32, space: u32) -> Option<Said>
     ensures { space ≤ max_space → length t.now ≤ max_header → result ≡ found (is_some (directions_said count space t.now)) 0 false }
 {
     let n = space as usize;
@@ -179,7 +138,7 @@ fn check_directions(t: &[u8], count: u32, space: u32) -> Checked
 }
 
 // A word for each axis: a kind, or else a centring. No header has more than 16 axes: that is tested here.
-fn check_codes(t: &[u8], dimension: u32, kinds: bool) -> Checked
+fn check_codes(t: &[u8], dimension: u32, kinds: bool) -> Option<Said>
     ensures { dimension ≤ max_axes → result ≡ found (is_some (codes_said kinds dimension t.now)) 0 false }
 {
     let n = dimension as usize;
@@ -191,7 +150,7 @@ fn check_codes(t: &[u8], dimension: u32, kinds: bool) -> Checked
 }
 
 // A string in quotes for each axis. No header has more than 16 axes, and none is longer than the limit: both are tested here.
-fn check_strings(t: &[u8], dimension: u32) -> Checked
+fn check_strings(t: &[u8], dimension: u32) -> Option<Said>
     ensures { dimension ≤ max_axes → length t.now ≤ max_header → result ≡ found (is_some (strings_said dimension t.now)) 0 false }
 {
     let n = dimension as usize;
@@ -206,7 +165,7 @@ fn check_strings(t: &[u8], dimension: u32) -> Checked
 }
 
 // The descriptor t of the field f that is centers, labels, units or kinds, or a carried one, in a header of this dimension.
-fn check_axes(f: usize, t: &[u8], dimension: u32) -> Checked
+fn check_axes(f: usize, t: &[u8], dimension: u32) -> Option<Said>
     ensures { (m : ℕ) → NoneOf f asked → NoneOf f oriented → dimension ≤ max_axes → length t.now ≤ max_header → result ≡ found (may_describe dimension m f t.now) (number_said f t.now) false }
 {
     match f {
@@ -219,7 +178,7 @@ fn check_axes(f: usize, t: &[u8], dimension: u32) -> Checked
 }
 
 // The descriptor t of the field f that is one of the five of the orientation, or one that is handed to `check_axes`, in a header of this dimension and a space of this one.
-fn check_orientation(f: usize, t: &[u8], dimension: u32, space: u32) -> Checked
+fn check_orientation(f: usize, t: &[u8], dimension: u32, space: u32) -> Option<Said>
     ensures { NoneOf f asked → dimension ≤ max_axes → space ≤ max_space → length t.now ≤ max_header → result ≡ found (may_describe dimension space f t.now) (number_said f t.now) false }
 {
     match f {
@@ -239,8 +198,8 @@ pub fn check(
     dimension: u32,
     space: u32,
     kept: &mut [u64; format::AXES],
-) -> Checked
-    ensures { dimension ≤ max_axes → space ≤ max_space → length t.now ≤ max_header → ◌≡◌ {A = Checked × List ℕ} (result, kept.new) (checked dimension space f t.now kept.old) }
+) -> Option<Said>
+    ensures { dimension ≤ max_axes → space ≤ max_space → length t.now ≤ max_header → ◌≡◌ {A = Answer Said × List ℕ} (result, kept.new) (checked dimension space f t.now kept.old) }
 {
     match f {
         field::DIMENSION => check_number(t, 1, format::MAX_AXES),

@@ -1,8 +1,10 @@
 -- `check::check_files` meets its contract. Assumes nothing.
-use mathlib.Core.Path.{refl}
-use Rattle.format.specs.DataFiles.{data_file_said}
+use borrow.Author.Tests.{not-true, not-false}
 use Rattle.read_descriptors.proofs.Checking.{files_said}
 use Rattle.read_descriptors.proofs.check.check_files.Goals as goal
 
+pub returns-then-not-x : goal.returns-then-not-x
+returns-then-not-x c n m = rw (not-true _ c.if-not-x.true) at (files_said n m c.args.t.now c.said-x.result c.said-x.ensures)
+
 pub returns : goal.returns
-returns c n m = let t = c.args.t.now in rw c.said-x.ensures (files_said n m t (data_file_said t) refl)
+returns c n m = rw (not-false _ c.if-not-x.false) at (files_said n m c.args.t.now c.said-x.result c.said-x.ensures)

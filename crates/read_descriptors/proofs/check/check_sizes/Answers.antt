@@ -13,4 +13,4 @@ pub returns : goal.returns
 returns c m =
     let a = c.args in
     let s = c.read_sizes-x in
-    rw (not-false s.result.fine c.if-not-x.false) at (sizes_read a.dimension m a.t.now a.kept.now s.result s.ensures)
+    rw c.only.ensures (rw (not-false s.result.fine c.if-not-x.false) at (sizes_read a.dimension m a.t.now a.kept.now s.result s.ensures))
