@@ -22,9 +22,15 @@ use Rattle.format.specs.DataFiles.{is_many_form}
 use Rattle.format.specs.Header.{Judged, wrong, unescaped, on_pair, on_field, on_kind, judge}
 use Rattle.format.proofs.Descriptors.{descriptor_le}
 use Rattle.format.proofs.Judged.{judge_by_text}
+use Rattle.std.specs.Prelude.{Result, Ok, Err, IsErrAnd}
+use Rattle.std.proofs.lemmas.Result.{err_from_is_err_and}
+use Rattle.format.specs.declared.reason.Reason.{Reason}
+use Rattle.format.specs.Reasons.{reason_number}
+use Rattle.read_fields.specs.declared.state.State.{State}
 use Rattle.read_fields.specs.declared.state.Step.{Step}
-use Rattle.read_fields.specs.States.{flags, space_for, described, step_of, stepped, wrong_of}
-use Rattle.read_fields.proofs.States.{flags_at}
+use Rattle.read_fields.specs.declared.state.Step.TheVariants.{Closes, Passes, Gives}
+use Rattle.read_fields.specs.States.{flags, Known, space_for, described, numbered, step_of, stepped, wrong_of}
+use Rattle.read_fields.proofs.States.{flags_at, reason_some}
 
 -- ---- the fields given, by number
 
@@ -111,67 +117,71 @@ described_for n m f t = go (ltb f space) refl
 
 -- ---- a pair along its tests
 
-module _ (version : ℕ) (v : List ℕ) where
-  pub pair_no_key : (k : List ℕ) → length k ≡ 0 → on_pair version k v ≡ wrong no_mark
-  unfolding on_pair
-  pair_no_key [] h = refl
-  pair_no_key (b ∷ k) h = absurd (let z : ⊥ = omega arith in z)
+-- by its escapes
+escapes_tests : (k v : Option (List ℕ)) → wrong_of (unescaped k v) ≡ (if not (is_some k) then bad_backslash else if not (is_some v) then bad_backslash else 0)
+escapes_tests none v = refl
+escapes_tests (some k) none = refl
+escapes_tests (some k) (some v) = refl
 
-  pub pair_old : (k : List ℕ) → (length k ≡ 0 → ⊥) → version < pairs_since → on_pair version k v ≡ wrong not_in_version
-  unfolding on_pair
-  pair_old [] h n = absurd (h refl)
-  pair_old (b ∷ k) h n = rw (lt-ltb version pairs_since n)
-
-  pair_new : (k : List ℕ) → (length k ≡ 0 → ⊥) → pairs_since ≤ version
-      → on_pair version k v ≡ unescaped (unescape k) (unescape v)
-  unfolding on_pair
-  pair_new [] h n = absurd (h refl)
-  pair_new (b ∷ k) h n = rw (le-ltb version pairs_since n)
-
-  -- by the escapes of its key and of its value
-  pub pair_escapes : (k : List ℕ) → (length k ≡ 0 → ⊥) → pairs_since ≤ version
-      → wrong_of (on_pair version k v) ≡ (if is_some (unescape k) && is_some (unescape v) then 0 else bad_backslash)
-  pair_escapes k h n = ap wrong_of (pair_new k h n) ∙ go (unescape k) (unescape v)
-    where
-      go : (o q : Option (List ℕ)) → wrong_of (unescaped o q) ≡ (if is_some o && is_some q then 0 else bad_backslash)
-      go none q = refl
-      go (some a) none = refl
-      go (some a) (some c) = refl
-
--- a pair's step: it gives no field
-pair_step : (version : ℕ) (ns k v : List ℕ) → stepped (wrong (wrong_of (on_pair version k v))) ns ≡ stepped (on_pair version k v) ns
+pub pair_tests : (version : ℕ) (k v : List ℕ)
+    → wrong_of (on_pair version k v) ≡ (if eqb (length k) 0 then no_mark else if ltb version pairs_since then not_in_version else if not (is_some (unescape k)) then bad_backslash else if not (is_some (unescape v)) then bad_backslash else 0)
 unfolding on_pair
-pair_step version ns [] v = refl
-pair_step version ns (b ∷ k) v = go (ltb version pairs_since) (unescape (b ∷ k)) (unescape v)
+pair_tests version [] v = refl
+pair_tests version (b ∷ k) v = let some : eqb (length (b ∷ k)) 0 ≡ false = ne_eqb _ _ (λ e. omega (arith, e)) in rw some (go (ltb version pairs_since))
+  where
+    go : (old : Bool) → wrong_of (if old then wrong not_in_version else unescaped (unescape (b ∷ k)) (unescape v)) ≡ (if old then not_in_version else if not (is_some (unescape (b ∷ k))) then bad_backslash else if not (is_some (unescape v)) then bad_backslash else 0)
+    go true = refl
+    go false = escapes_tests (unescape (b ∷ k)) (unescape v)
+
+-- ---- a line that gives no field
+
+-- its step by the number of its refusal, 0 where it is right
+abbrev pub passed : ℕ → Result Step ℕ
+passed n = if eqb n 0 then Ok Passes else Err n
+
+-- of a refusal that is handed on
+pub err_step : (s : State) (r : Result Step Reason) (w : Reason) → IsErrAnd r (λ e. e ≡ w) → ◌≡◌ {A = Result Step ℕ × State} (numbered r, s) (Err (reason_number w), s)
+err_step s r w h = let e = err_from_is_err_and r h in rw (e.1, e.2)
+
+-- no byte is refused
+pub all_plain : (b : Bool) → 0 ≡ (if b then 0 else bad_byte) → b ≡ true
+all_plain true e = refl
+all_plain false e = absurd (omega (arith, e))
+
+-- a pair's: it gives no field
+pair_step : (version : ℕ) (s : State) (k v : List ℕ) → ◌≡◌ {A = Result Step ℕ × State} (passed (wrong_of (on_pair version k v)), s) (stepped (on_pair version k v) s)
+unfolding on_pair
+pair_step version s [] v = refl
+pair_step version s (b ∷ k) v = go (ltb version pairs_since) (unescape (b ∷ k)) (unescape v)
   where
     go : (x : Bool) (o q : Option (List ℕ))
-        → stepped (wrong (wrong_of (if x then wrong not_in_version else unescaped o q))) ns ≡ stepped (if x then wrong not_in_version else unescaped o q) ns
+        → ◌≡◌ {A = Result Step ℕ × State} (passed (wrong_of (if x then wrong not_in_version else unescaped o q)), s) (stepped (if x then wrong not_in_version else unescaped o q) s)
     go true o q = refl
     go false none q = refl
     go false (some a) none = refl
     go false (some a) (some c) = refl
 
--- ---- refused, or right without a field: the sizes stay
-
-pub without_field : {r : Step} {w : ℕ} {j : Judged} (ns : List ℕ) → r ≡ step_of (wrong w) → j ≡ wrong w → ◌≡◌ {A = Step × List ℕ} (r, ns) (stepped j ns)
-without_field ns e q = rw (e, q)
-
 -- the line of a pair, and a line with no mark: a byte that they may not hold comes first
-module _ (version : ℕ) (gs : List Given) (t ns : List ℕ) where
-  plain_step : (n : ℕ) (j : Judged) → stepped (wrong n) ns ≡ stepped j ns
-      → stepped (wrong (if every plain t then n else bad_byte)) ns ≡ stepped (if not (every plain t) then wrong bad_byte else j) ns
+module _ (version : ℕ) (gs : List Given) (t : List ℕ) (s : State) where
+  plain_step : (n : ℕ) (j : Judged) → ◌≡◌ {A = Result Step ℕ × State} (passed n, s) (stepped j s)
+      → ◌≡◌ {A = Result Step ℕ × State} (passed (if every plain t then n else bad_byte), s) (stepped (if not (every plain t) then wrong bad_byte else j) s)
   plain_step n j e = go (every plain t)
     where
-      go : (x : Bool) → stepped (wrong (if x then n else bad_byte)) ns ≡ stepped (if not x then wrong bad_byte else j) ns
+      go : (x : Bool) → ◌≡◌ {A = Result Step ℕ × State} (passed (if x then n else bad_byte), s) (stepped (if not x then wrong bad_byte else j) s)
       go true = e
       go false = refl
 
-  pub pair_line : (k v : List ℕ)
-      → stepped (wrong (if every plain t then wrong_of (on_pair version k v) else bad_byte)) ns ≡ stepped (on_kind version gs t (other_line (pair_mark k v))) ns
-  pair_line k v = plain_step (wrong_of (on_pair version k v)) (on_pair version k v) (pair_step version ns k v)
+  pub pair_line : (k v : List ℕ) {n : ℕ} → n ≡ (if every plain t then wrong_of (on_pair version k v) else bad_byte)
+      → ◌≡◌ {A = Result Step ℕ × State} (passed n, s) (stepped (on_kind version gs t (other_line (pair_mark k v))) s)
+  pair_line k v {n} e = rw e (plain_step (wrong_of (on_pair version k v)) (on_pair version k v) (pair_step version s k v))
 
-  pub unmarked_line : stepped (wrong (if every plain t then no_mark else bad_byte)) ns ≡ stepped (on_kind version gs t (other_line unmarked)) ns
-  unmarked_line = plain_step no_mark (wrong no_mark) refl
+  pub unmarked_line : {n : ℕ} → n ≡ (if every plain t then 0 else bad_byte)
+      → ◌≡◌ {A = Result Step ℕ × State} (if eqb n 0 then Err no_mark else passed n, s) (stepped (on_kind version gs t (other_line unmarked)) s)
+  unmarked_line e = rw e (go (every plain t))
+    where
+      go : (x : Bool) → ◌≡◌ {A = Result Step ℕ × State} (if eqb (if x then 0 else bad_byte) 0 then Err no_mark else passed (if x then 0 else bad_byte), s) (stepped (if not x then wrong bad_byte else wrong no_mark) s)
+      go true = refl
+      go false = refl
 
 -- ---- whether this version has a field with its descriptor
 
@@ -231,14 +241,14 @@ module _ (version : ℕ) (gs : List Given) (f : ℕ) (rest : List ℕ) where
     field_here g o = rw (n, g, o)
 
 -- a field that comes here, by what `take_field` answers of its descriptor t in a header of dimension k, with m handed on for the space
-pub take_known : (version : ℕ) (gs : List Given) (f : ℕ) (rest ns : List ℕ) {k m : ℕ} {t : List ℕ} {x : Step × List ℕ}
+pub take_known : (version : ℕ) (gs : List Given) (f : ℕ) (rest : List ℕ) (s : State) {k m : ℕ} {t : List ℕ} {x : Result Step ℕ × State}
     → k ≡ dimension_of gs → m ≡ space_for f (space_size_of gs) → t ≡ descriptor f rest → length rest ≤ max_header → dimension_of gs ≤ max_axes → space_size_of gs ≤ max_space
     → on_field version gs (some f) rest ≡ described (dimension_of gs) (space_size_of gs) f (descriptor f rest)
-    → (k ≤ max_axes → m ≤ max_space → length t ≤ max_header → x ≡ stepped (described k m f t) ns) → x ≡ stepped (on_field version gs (some f) rest) ns
-take_known version gs f rest ns {k} {m} {t} p q d l a s here taken =
+    → (k ≤ max_axes → m ≤ max_space → length t ≤ max_header → x ≡ stepped (described k m f t) s) → x ≡ stepped (on_field version gs (some f) rest) s
+take_known version gs f rest s {k} {m} {t} p q d l a b here taken =
     let short = descriptor_le f rest in
     let size : length t ≤ max_header = rw d (omega arith) in
-    rw here (rw (p, q, d, described_for (dimension_of gs) (space_size_of gs) f (descriptor f rest)) at (taken (rw p a) (rw q (space_for_le f s)) size))
+    rw here (rw (p, q, d, described_for (dimension_of gs) (space_size_of gs) f (descriptor f rest)) at (taken (rw p a) (rw q (space_for_le f b)) size))
 
 -- ---- a line by its text
 
@@ -250,5 +260,5 @@ to_end t i = rw (← length-drop i t, take-length)
 pub rest_le : (t : List ℕ) (i : ℕ) {most : ℕ} → length t ≤ most → length (take (length t - i) (drop i t)) ≤ most
 rest_le t i l = let e = length-drop i t in rw (to_end t i) (omega arith)
 
-pub line_is : (version : ℕ) (gs : List Given) (t ns : List ℕ) {k : LineKind} → names_follow gs ≡ false → kind_of t ≡ k → stepped (on_kind version gs t k) ns ≡ stepped (judge version gs t) ns
-line_is version gs t ns n e = rw (judge_by_text version gs t n, e)
+pub line_is : (version : ℕ) (gs : List Given) (t : List ℕ) (s : State) {k : LineKind} → names_follow gs ≡ false → kind_of t ≡ k → stepped (on_kind version gs t k) s ≡ stepped (judge version gs t) s
+line_is version gs t s n e = rw (judge_by_text version gs t n, e)

@@ -22,8 +22,7 @@ use Rattle.format.proofs.Rules.{files_covered}
 use Rattle.format.proofs.Named.{Counts, said_counts, one_file_lem, product_drop, product_positive, files_divide, sample_some}
 use Rattle.read_text.proofs.Places.{eqb_comm}
 use Rattle.read_files.specs.Said.{cover_code}
-use Rattle.read_fields.specs.States.{Kept, Holds}
-use Rattle.read_fields.proofs.States.{number_at}
+use Rattle.read_fields.specs.States.{Kept}
 use Rattle.read_fields.specs.Shares.{slices_fit, slabs_fit, fits, fits_by}
 
 -- ---- parts of sizes
@@ -160,10 +159,7 @@ module _ (gs : List Given) (k : Kept gs) (given : is_given sizes gs ≡ true) (s
           let b = le_of_dvd (product_positive (sizes_of gs) k.wholes) (dvd_of_mod-eq-zero (file_count_of gs) w.shares) in
           omega (arith, b, samples_few)
 
--- the same by what is kept
-pub files_are : {marks : List Bool} {numbers ns : List ℕ} {end : Bool} {cover files : ℕ} {gs : List Given} → Holds marks numbers ns end cover gs → is_given sizes gs ≡ true → extent_of gs ≤ max_extent → files ≡ file_count_of gs
-    → fits_by (get_or numbers dimension 0) (take (get_or numbers dimension 0) ns) files cover ≡ files_fine gs
-files_are {marks} {numbers} {ns} {end} {cover} {files} {gs} h g small f =
-    let n = number_at h dimension (omega arith) in
-    let s = take_at (sizes_of gs) (replicate (max_axes - length (sizes_of gs)) 0) (dimension_of gs) (h.kept.sized g) in
-    files_asked gs h.kept g small files n (rw (n, h.sizes_are) s) h.cover_is f
+-- the same by the sizes themselves
+pub files_are : (gs : List Given) → Kept gs → is_given sizes gs ≡ true → extent_of gs ≤ max_extent → {ns : List ℕ} {cover files : ℕ} → ns ≡ sizes_of gs → cover ≡ cover_code (cover_of gs) → files ≡ file_count_of gs
+    → fits_by (length ns) ns files cover ≡ files_fine gs
+files_are gs k g small {ns} {cover} {files} p q f = files_asked gs k g small files (rw p (k.sized g)) p q f

@@ -1,7 +1,7 @@
 -- Laws of what the reader keeps: what one more field makes of it, what the header's end makes of it, and what the walk keeps.
 -- Assumes nothing.
 use Rattle.std.specs.Prelude.{if◌then◌else◌}
-use Prim.Native.Nat.{ℕ, zero, suc, ◌+◌, ◌≤◌, ◌<◌, ◌-◌}
+use Prim.Native.Nat.{ℕ, zero, suc, ◌+◌, ◌≤◌, ◌<◌, ◌-◌, ◌^◌, min}
 use Prim.Native.String.{String}
 use native.Mathlib.Nat.{zero-add}
 use native.Mathlib.Omega.{arith}
@@ -9,19 +9,20 @@ use mathlib.Core.Path.{◌≡◌, refl, sym, ap, subst, ◌∙◌}
 use mathlib.Core.Bool.{Bool, true, false, not, ◌&&◌, ◌||◌, false≢true}
 use mathlib.Core.List.{List, [], ◌∷◌, map}
 use mathlib.Core.Option.{Option, none, some, none-ne-some, some-injective}
-use lib.Dec.{eqb, leb}
+use lib.Dec.{eqb, leb, ltb}
 use lib.ListN.{length, replicate, take, get_or, set, length-map}
 use lib.Seq.{take_at}
-use borrow.Author.Tests.{lt-ltb, le-ltb, le-leb, leb-true, eqb-true, eq-eqb, ne_eqb}
+use borrow.Author.Tests.{lt-ltb, le-ltb, ltb-true, ltb-false, le-leb, leb-true, eqb-true, eq-eqb, ne_eqb}
 use mir.Val.{bool_byte}
 use Rattle.format.specs.declared.Reading.{Reading}
+use Rattle.format.specs.declared.ReadAnswer.{ReadAnswer}
 use Rattle.format.specs.Bytes.{is_any, is_some, row_from, or_default, each}
 use Rattle.format.specs.Limits.{max_axes, max_size, max_extent}
 use Rattle.format.specs.Refusals.{bad_descriptor, missing_field, extent_too_large, refusal, fine}
 use Rattle.format.specs.Fields.{names_of, field_table, field_at, field_count, field_named, Given, given, named, descriptor_of, is_given, dimension, type, encoding, endian, sizes, line_skip, byte_skip, data_file, space, space_dimension, space_origin, space_directions, measurement_frame, needs_dimension}
 use Rattle.format.specs.Spaces.{Space, space_row, spaces, space_axes, space_at, space_size, max_space}
 use Rattle.format.specs.Words.{number, number_in, numbers_in, value_of_number, within, words}
-use Rattle.format.specs.Descriptors.{forward, byte_skip_said, bytes_forward, is_from_end, byte_skip_of, raw, end_is_raw, meaning, is_detached, may_describe, number_said, number_of, dimension_of, no_space, space_size_of, sizes_said, sizes_of, endian_needed, has_needed, extent, extent_of, names_follow, file_count_of, cover_of, files_fine}
+use Rattle.format.specs.Descriptors.{forward, byte_skip_said, bytes_forward, is_from_end, byte_skip_of, raw, end_is_raw, meaning, is_detached, may_describe, number_said, number_of, dimension_of, no_space, space_size_of, sizes_said, sizes_of, endian_needed, has_needed, capped, extent_of, names_follow, file_count_of, cover_of, files_fine}
 use Rattle.format.specs.DataFiles.{is_list, DataFile, one_file, numbered_files, listed_files, data_file_said, cover_said}
 use Rattle.format.specs.Laws.{Each}
 use Rattle.read_files.specs.Said.{is_listed, cover_code}
@@ -32,11 +33,21 @@ use Rattle.format.proofs.Bytes.{and_left, and_right, each_from, each_same}
 use Rattle.format.proofs.Judged.{is_field, is_name, judge_keeps, after_cases}
 use Rattle.format.proofs.Rules.{needed_of}
 use Rattle.format.proofs.Named.{Counts, said_counts}
-use Rattle.read_descriptors.specs.declared.check.Checked.{Checked}
-use Rattle.read_descriptors.specs.Checked.{takes, says_end, says_list, says_cover, sizes_kept, checked}
+use Rattle.std.specs.Prelude.{Result, Ok, Err, IsErrAnd, Some, None}
+use Rattle.std.specs.Prelude.{Option as Answer}
+use Rattle.format.specs.declared.reason.Reason.{Reason}
+use Rattle.format.specs.declared.reason.Reason.TheVariants.{FileTooLong, NoMagic, HeaderTooLong, TooManyLines, BadByte, NoMark, UnknownField, NotInVersion, RepeatedField, OutOfOrder, BadDescriptor, BadBackslash, NoEnd, MissingField, ExtentTooLarge, SkipPastEnd, PlaceTooLarge, DataTooShort, FloatSamples, BadSample, DataEndsEarly, LentTooShort, BadCoordinates, BadKey, BadValue, WrongTable, WrongCount, NoSweep, NoSuchFile, SeveralFiles}
+use Rattle.format.specs.declared.reason.Refused.{Refused}
+use Rattle.format.specs.Reasons.{reason_number, without_line}
+use Rattle.format.specs.Answers.{reading_answered}
+use Rattle.std.proofs.lemmas.Result.{err_from_is_err_and}
+use Rattle.read_descriptors.specs.declared.check.Said.{Said}
+use Rattle.read_descriptors.specs.Checked.{takes, said, sizes_kept, checked}
 use Rattle.read_descriptors.proofs.Checking.{fine_length}
+use Rattle.read_fields.specs.declared.state.State.{State}
 use Rattle.read_fields.specs.declared.state.Step.{Step}
-use Rattle.read_fields.specs.States.{flags, numbers_of, Kept, Holds, Known, described, field_given, number_given, end_given, list_given, cover_given, cover_kept, sizes_given, step_of, stepped, kept_at, complete_number, finished}
+use Rattle.read_fields.specs.declared.state.Step.TheVariants.{Closes, Passes, Gives}
+use Rattle.read_fields.specs.States.{flags, numbers_of, Kept, Holds, Known, described, step_given, numbered, with_sizes, sizes_given, step_of, stepped, kept_at, kept, no_state, cover_kept, complete_number, finished}
 
 -- ---- what a data file's descriptor says
 
@@ -71,8 +82,8 @@ pub flags_at : (gs : List Given) (f : ℕ) → f < field_count → get_or (flags
 flags_at gs f h = each_at (λ g. is_given g gs) false f h
 
 -- the flag of a field
-pub given_at : {marks : List Bool} {numbers : List ℕ} {gs : List Given} → Known marks numbers gs → (f : ℕ) → f < field_count → get_or marks f false ≡ is_given f gs
-given_at {marks} {numbers} {gs} h f l = rw h.marks_are (flags_at gs f l)
+pub given_at : {s : State} {gs : List Given} → Known s gs → (f : ℕ) → f < field_count → get_or s.given f false ≡ is_given f gs
+given_at {s} {gs} h f l = rw h.marks_are (flags_at gs f l)
 
 -- the number of a field
 pub number_of_lem : (gs : List Given) {numbers : List ℕ} → numbers ≡ numbers_of gs → (f : ℕ) → f < field_count → get_or numbers f 0 ≡ number_of f gs
@@ -104,7 +115,7 @@ module _ (f : ℕ) (d : List ℕ) (gs : List Given) where
       each_set (λ g. number_of g gs) (λ g. number_of g (given f d ∷ gs)) (number_said f d) 0 field_count f f
       (λ g n. rw (other_descriptor g n)) (rw own_descriptor) (omega arith) h
 
-  end_after : is_given f gs ≡ false → is_from_end (byte_skip_of (given f d ∷ gs)) ≡ (end_given (some (given f d)) || is_from_end (byte_skip_of gs))
+  end_after : is_given f gs ≡ false → is_from_end (byte_skip_of (given f d ∷ gs)) ≡ ((said f d).from_end || is_from_end (byte_skip_of gs))
   unfolding descriptor_of
   end_after new = go (eqb byte_skip f) refl
     where
@@ -123,7 +134,7 @@ module _ (f : ℕ) (d : List ℕ) (gs : List Given) where
           rw none_before (or-false (is_from_end (byte_skip_said d)))
       go false e = refl
 
-  cover_after : is_given f gs ≡ false → cover_code (cover_of (given f d ∷ gs)) ≡ cover_kept (cover_given (some (given f d))) (cover_code (cover_of gs))
+  cover_after : is_given f gs ≡ false → cover_code (cover_of (given f d ∷ gs)) ≡ cover_kept (said f d).cover (cover_code (cover_of gs))
   unfolding descriptor_of
   cover_after new = go (eqb data_file f) refl
     where
@@ -153,8 +164,13 @@ module _ (f : ℕ) (d : List ℕ) (gs : List Given) where
 
 -- ---- a field with its descriptor, refused or taken
 
--- taken, by the checker's answer and the sizes that it leaves
-module _ (n m f : ℕ) (t ns : List ℕ) (x : Checked) (after : List ℕ) (e : ◌≡◌ {A = Checked × List ℕ} (x, after) (checked n m f t ns)) (h : n ≤ max_axes) where
+-- the step by the checker's answer
+abbrev pub taken : ℕ → Answer Said → Result Step ℕ
+taken f (Some y) = Ok (Gives f y)
+taken f None = Err bad_descriptor
+
+-- it is taken, by that answer and the sizes that it leaves
+module _ (n m f : ℕ) (t ns : List ℕ) (x : Answer Said) (after : List ℕ) (e : ◌≡◌ {A = Answer Said × List ℕ} (x, after) (checked n m f t ns)) (h : n ≤ max_axes) where
   axes_fit : takes n m f t ≡ may_describe n m f t
   axes_fit = rw (le-leb n max_axes h) (go (eqb sizes f))
     where
@@ -162,32 +178,16 @@ module _ (n m f : ℕ) (t ns : List ℕ) (x : Checked) (after : List ℕ) (e : �
       go true = refl
       go false = refl
 
-  pub check_taken
-      : ◌≡◌ {A = Step × List ℕ}
-      (if x.fine then record { wrong = 0; closes = false; field = f; number = x.number; fromend = x.fromend; list = x.list; cover = x.cover } else step_of (wrong bad_descriptor), after)
-      (stepped (described n m f t) ns)
-  check_taken = go (may_describe n m f t) (rw axes_fit at e)
+  pub check_taken : (s : State) → s.sizes ≡ ns
+      → ◌≡◌ {A = Result Step ℕ × State} (taken f x, with_sizes s after) (stepped (described n m f t) s)
+  check_taken s is = go (may_describe n m f t) (rw axes_fit at e)
     where
-      go : (b : Bool) → ◌≡◌ {A = Checked × List ℕ} (x, after) (record { fine = b; number = if b then number_said f t else 0; fromend = b && says_end f t; list = says_list f t; cover = says_cover f t }, if b then sizes_kept f t ns else ns)
-          → ◌≡◌ {A = Step × List ℕ}
-          (if x.fine then record { wrong = 0; closes = false; field = f; number = x.number; fromend = x.fromend; list = x.list; cover = x.cover } else step_of (wrong bad_descriptor), after)
-          (stepped (if not b then wrong bad_descriptor else right (field f t)) ns)
-      go true q = rw (ap (λ (y : Checked × List ℕ). y.0) q, ap (λ (y : Checked × List ℕ). y.1) q)
-      go false q = rw (ap (λ (y : Checked × List ℕ). y.0) q, ap (λ (y : Checked × List ℕ). y.1) q)
+      go : (b : Bool) → ◌≡◌ {A = Answer Said × List ℕ} (x, after) (if b then Some (said f t) else None, if b then sizes_kept f t ns else ns)
+          → ◌≡◌ {A = Result Step ℕ × State} (taken f x, with_sizes s after) (stepped (if not b then wrong bad_descriptor else right (field f t)) s)
+      go true q = rw (ap (λ (y : Answer Said × List ℕ). y.0) q, ap (λ (y : Answer Said × List ℕ). y.1) q, is)
+      go false q = rw (ap (λ (y : Answer Said × List ℕ). y.0) q, ap (λ (y : Answer Said × List ℕ). y.1) q, is)
 
 -- ---- the end of the header
-
--- what the flags and numbers say of `has_needed`
-abbrev pub needed_by : List Bool → List ℕ → Bool
-needed_by marks numbers =
-    let g : ℕ → Bool = λ f. get_or marks f false in
-    let n : ℕ → ℕ = λ f. get_or numbers f 0 in
-    g dimension && (g type && (g encoding && (g sizes && (g endian || not (endian_needed (n type) (n encoding))))))
-
-pub needed_is : (gs : List Given) {marks : List Bool} {numbers : List ℕ} → marks ≡ flags gs → numbers ≡ numbers_of gs
-    → needed_by marks numbers ≡ has_needed gs
-unfolding each has_needed
-needed_is gs a b = rw (a, b)
 
 pub needs_sizes : (gs : List Given) → has_needed gs ≡ true → is_given sizes gs ≡ true
 needs_sizes gs e = (needed_of gs e).has_sizes
@@ -200,86 +200,150 @@ bytes_kept gs = go (descriptor_of byte_skip gs)
     go none = refl
     go (some t) = refl
 
--- the reading by the flags, numbers, sizes, and whether the data is found from the end, with the skips, the extent x, the space's dimension and the number of files
-abbrev pub reading_by : ℕ → List Bool → List ℕ → List ℕ → Bool → ℕ → ℕ → ℕ → ℕ → ℕ → ℕ → ℕ → ℕ → Reading
-reading_by version marks numbers ns end skip skipped x size files bytes count before =
-    let n : ℕ → ℕ = λ f. get_or numbers f 0 in
-    record {
-      version = version;
-      form = bool_byte (get_or marks data_file false);
-      dimension = n dimension;
-      sampletype = n type;
-      encoding = n encoding;
-      endian = n endian;
-      sizes = ns;
-      lineskip = skip;
-      byteskip = skipped;
-      extent = x;
-      length = bytes;
-      lines = count;
-      fromend = end;
-      origin = get_or marks space_origin false;
-      directions = get_or marks space_directions false;
-      frame = get_or marks measurement_frame false;
-      space = n space;
-      spacedimension = size;
-      files = files;
-      fieldlines = before;
-    }
+module _ (s : State) (gs : List Given) (h : Holds s gs) where
+  flag_at : (f : ℕ) → f < field_count → get_or s.given f false ≡ is_given f gs
+  flag_at f l = rw h.marks_are (flags_at gs f l)
 
-module _ {marks : List Bool} {numbers ns : List ℕ} {end : Bool} {cover : ℕ} {gs : List Given} (h : Holds marks numbers ns end cover gs) where
-  -- a number that is kept
-  pub number_at : (f : ℕ) → f < field_count → get_or numbers f 0 ≡ number_of f gs
+  pub number_at : (f : ℕ) → f < field_count → get_or s.numbers f 0 ≡ number_of f gs
   number_at = number_of_lem gs h.numbers_are
 
-  pub axes_at : get_or numbers dimension 0 ≤ max_axes
-  axes_at = rw (number_at dimension (omega arith)) h.kept.axes
+  -- a data file is given
+  pub detached_is : get_or s.given data_file false ≡ is_detached gs
+  detached_is = flag_at data_file (omega arith)
 
-  -- the extent
-  pub extent_is : is_given sizes gs ≡ true → extent (take (get_or numbers dimension 0) ns) (get_or numbers type 0) ≡ extent_of gs
-  extent_is e =
-      let s = take_at (sizes_of gs) (replicate (max_axes - length (sizes_of gs)) 0) (dimension_of gs) (h.kept.sized e) in
-      rw (number_at dimension (omega arith), number_at type (omega arith), h.sizes_are, s)
+  -- the fields that are needed
+  pub needed_is : (get_or s.given dimension false && (get_or s.given type false && (get_or s.given encoding false && (get_or s.given sizes false && (get_or s.given endian false || not (endian_needed (get_or s.numbers type 0) (get_or s.numbers encoding 0))))))) ≡ has_needed gs
+  unfolding each has_needed
+  needed_is = rw (h.marks_are, h.numbers_are)
 
   -- whether a byte skip of -1, if it is one, stands with raw
-  pub fits_is : (not end || eqb (get_or numbers encoding 0) raw) ≡ end_is_raw gs
+  pub raw_is : (not s.from_end || eqb (get_or s.numbers encoding 0) raw) ≡ end_is_raw gs
   unfolding end_is_raw
-  fits_is = rw (h.end_is, number_at encoding (omega arith))
+  raw_is = rw (h.end_is, number_at encoding (omega arith))
+
+  -- the sizes
+  pub axes_are : is_given sizes gs ≡ true → take (min (get_or s.numbers dimension 0) max_axes) s.sizes ≡ sizes_of gs
+  axes_are e =
+      let few : min (dimension_of gs) max_axes ≡ dimension_of gs = omega (arith, h.kept.axes) in
+      rw (number_at dimension (omega arith), few, h.sizes_are, take_at (sizes_of gs) (replicate (max_axes - length (sizes_of gs)) 0) (dimension_of gs) (h.kept.sized e))
 
   -- the reading that they make
-  pub reading_is : (version bytes count before : ℕ) {skip skipped x size files : ℕ} → skip ≡ get_or numbers line_skip 0 → skipped ≡ get_or numbers byte_skip 0 → x ≡ extent_of gs → size ≡ space_size_of gs → files ≡ file_count_of gs
-      → reading_by version marks numbers ns end skip skipped x size files bytes count before ≡ reading_at version gs bytes count before
-  unfolding each
-  reading_is version bytes count before p q e s k = rw (p, s, k, q ∙ number_at byte_skip (omega arith) ∙ bytes_kept gs, h.marks_are, h.numbers_are, h.sizes_are, h.end_is, e, form_of (is_detached gs))
+  pub reading_is : (version bytes count before last : ℕ) {x size : ℕ} → last + 1 ≡ file_count_of gs → x ≡ extent_of gs → size ≡ space_size_of gs → file_count_of gs ≤ max_extent → 0 ≡ complete_number gs
+      → ◌≡◌ {A = ReadAnswer} (record {
+        refusal = fine;
+        reading = record {
+          version = version;
+          form = bool_byte (get_or s.given data_file false);
+          dimension = get_or s.numbers dimension 0;
+          sampletype = get_or s.numbers type 0;
+          encoding = get_or s.numbers encoding 0;
+          endian = get_or s.numbers endian 0;
+          sizes = s.sizes;
+          lineskip = get_or s.numbers line_skip 0;
+          byteskip = get_or s.numbers byte_skip 0;
+          extent = x;
+          length = bytes;
+          lines = count;
+          fromend = s.from_end;
+          origin = get_or s.given space_origin false;
+          directions = get_or s.given space_directions false;
+          frame = get_or s.given measurement_frame false;
+          space = get_or s.numbers space 0;
+          spacedimension = size;
+          files = min (last + 1) (2 ^ 32 - 1);
+          fieldlines = before;
+        };
+      }) (finished version gs bytes count before)
+  unfolding finished each
+  reading_is version bytes count before last {x} {size} f e z few c =
+      let k : min (last + 1) (2 ^ 32 - 1) ≡ file_count_of gs = omega (arith, f, few) in
+      rw (k, e, z, ← c, number_at byte_skip (omega arith), bytes_kept gs, h.marks_are, h.numbers_are, h.sizes_are, h.end_is, form_of (is_detached gs)) refl
     where
       form_of : (b : Bool) → bool_byte b ≡ (if b then 1 else 0)
       form_of true = refl
       form_of false = refl
 
-module _ (version : ℕ) (gs : List Given) (bytes count before : ℕ) where
-  -- the answer: a field is missing, the skip does not fit, the extent is too large, the files do not fit, or nothing is refused
-  pub finished_missing : has_needed gs ≡ false → finished version gs bytes count before ≡ read_answer (refused (refusal missing_field))
-  unfolding finished complete_number
-  finished_missing e = rw e
+-- ---- the refusal at the end, by the tests in their order
 
-  pub finished_unfit : has_needed gs ≡ true → end_is_raw gs ≡ false → finished version gs bytes count before ≡ read_answer (refused (refusal bad_descriptor))
-  unfolding finished complete_number
-  finished_unfit e s = rw (e, s)
+module _ (gs : List Given) where
+  pub complete_missing : has_needed gs ≡ false → missing_field ≡ complete_number gs
+  unfolding complete_number
+  complete_missing e = rw e refl
 
-  pub finished_large : has_needed gs ≡ true → end_is_raw gs ≡ true → max_extent < extent_of gs
-      → finished version gs bytes count before ≡ read_answer (refused (refusal extent_too_large))
-  unfolding finished complete_number
-  finished_large e s l = rw (e, s, lt-ltb max_extent (extent_of gs) l)
+  pub complete_unfit : has_needed gs ≡ true → end_is_raw gs ≡ false → bad_descriptor ≡ complete_number gs
+  unfolding complete_number
+  complete_unfit e s = rw (e, s) refl
 
-  pub finished_uneven : has_needed gs ≡ true → end_is_raw gs ≡ true → extent_of gs ≤ max_extent → files_fine gs ≡ false
-      → finished version gs bytes count before ≡ read_answer (refused (refusal bad_descriptor))
-  unfolding finished complete_number
-  finished_uneven e s l f = rw (e, s, le-ltb max_extent (extent_of gs) l, f)
+  pub complete_large : has_needed gs ≡ true → end_is_raw gs ≡ true → max_extent < extent_of gs → extent_too_large ≡ complete_number gs
+  unfolding complete_number
+  complete_large e s l = rw (e, s, lt-ltb max_extent (extent_of gs) l) refl
 
-  pub finished_fine : has_needed gs ≡ true → end_is_raw gs ≡ true → extent_of gs ≤ max_extent → files_fine gs ≡ true
-      → finished version gs bytes count before ≡ record { refusal = fine; reading = reading_at version gs bytes count before }
-  unfolding finished complete_number
-  finished_fine e s l f = rw (e, s, le-ltb max_extent (extent_of gs) l, f)
+  pub complete_uneven : has_needed gs ≡ true → end_is_raw gs ≡ true → extent_of gs ≤ max_extent → files_fine gs ≡ false → bad_descriptor ≡ complete_number gs
+  unfolding complete_number
+  complete_uneven e s l f = rw (e, s, le-ltb max_extent (extent_of gs) l, f) refl
+
+  pub complete_fine : has_needed gs ≡ true → end_is_raw gs ≡ true → extent_of gs ≤ max_extent → files_fine gs ≡ true → 0 ≡ complete_number gs
+  unfolding complete_number
+  complete_fine e s l f = rw (e, s, le-ltb max_extent (extent_of gs) l, f) refl
+
+-- nothing is refused
+pub record Complete (gs : List Given) : Type 0 where
+  pub needed : has_needed gs ≡ true
+  pub within : extent_of gs ≤ max_extent
+  pub shared : files_fine gs ≡ true
+
+pub complete_is : (gs : List Given) → 0 ≡ complete_number gs → Complete gs
+unfolding complete_number
+complete_is gs z = go (has_needed gs) refl (end_is_raw gs) (ltb max_extent (extent_of gs)) refl (files_fine gs) refl z
+  where
+    go : (n : Bool) → has_needed gs ≡ n → (r l : Bool) → ltb max_extent (extent_of gs) ≡ l → (f : Bool) → files_fine gs ≡ f
+        → 0 ≡ (if not n then missing_field else if not r then bad_descriptor else if l then extent_too_large else if not f then bad_descriptor else 0) → Complete gs
+    go false e r l g f k q = absurd (omega (arith, q))
+    go true e false l g f k q = absurd (omega (arith, q))
+    go true e true true g f k q = absurd (omega (arith, q))
+    go true e true false g false k q = absurd (omega (arith, q))
+    go true e true false g true k q = record { needed = e; within = ltb-false max_extent (extent_of gs) g; shared = k }
+
+-- no reason has the number 0
+pub reason_some : (w : Reason) → eqb (reason_number w) 0 ≡ false
+reason_some FileTooLong = refl
+reason_some NoMagic = refl
+reason_some HeaderTooLong = refl
+reason_some TooManyLines = refl
+reason_some BadByte = refl
+reason_some NoMark = refl
+reason_some UnknownField = refl
+reason_some NotInVersion = refl
+reason_some RepeatedField = refl
+reason_some OutOfOrder = refl
+reason_some BadDescriptor = refl
+reason_some BadBackslash = refl
+reason_some NoEnd = refl
+reason_some MissingField = refl
+reason_some ExtentTooLarge = refl
+reason_some SkipPastEnd = refl
+reason_some PlaceTooLarge = refl
+reason_some DataTooShort = refl
+reason_some FloatSamples = refl
+reason_some BadSample = refl
+reason_some DataEndsEarly = refl
+reason_some LentTooShort = refl
+reason_some BadCoordinates = refl
+reason_some BadKey = refl
+reason_some BadValue = refl
+reason_some WrongTable = refl
+reason_some WrongCount = refl
+reason_some NoSweep = refl
+reason_some NoSuchFile = refl
+reason_some SeveralFiles = refl
+
+-- the answer of what is refused at the end
+pub finish_refused : (version : ℕ) (gs : List Given) (bytes count before : ℕ) (r : Result Reading Refused) (w : Reason) → IsErrAnd r (λ e. e ≡ without_line w) → reason_number w ≡ complete_number gs
+    → reading_answered r ≡ finished version gs bytes count before
+unfolding finished
+finish_refused version gs bytes count before r w q z =
+    let e = err_from_is_err_and r q in
+    rw (← z, reason_some w, e.1, e.2) refl
 
 -- the reading of an accepted header, by its fields
 pub reading_at_lem : (es : List Entry) (gs : List Given) → reading_of es gs ≡ reading_at (version_of es) gs (header_length es) (length es) (field_lines es)
@@ -440,48 +504,56 @@ kept_next version gs t i k e = after_cases version gs t Kept e k (λ f d s. kept
 -- ---- what is kept once a line is read
 
 -- no field is given
-pub holds_none : Holds (flags []) (numbers_of []) (padded []) false 0 []
+pub holds_none : (version : ℕ) → Holds (no_state version) []
 unfolding descriptor_of
-holds_none = record { marks_are = refl; numbers_are = refl; sizes_are = refl; end_is = refl; cover_is = refl; kept = kept_none }
+holds_none version = record { marks_are = refl; numbers_are = refl; sizes_are = refl; end_is = refl; cover_is = refl; kept = kept_none }
 
 -- a name changes nothing of what is kept
-pub holds_name : {marks : List Bool} {numbers ns : List ℕ} {end : Bool} {cover : ℕ} {gs : List Given} (n : List ℕ) → Holds marks numbers ns end cover gs → Holds marks numbers ns end cover (named n ∷ gs)
+pub holds_name : {s : State} {gs : List Given} (n : List ℕ) → Holds s gs → Holds s (named n ∷ gs)
 unfolding descriptor_of
-holds_name {marks} {numbers} {ns} {end} {cover} {gs} n h =
+holds_name {s} {gs} n h =
     record { marks_are = h.marks_are; numbers_are = h.numbers_are; sizes_are = h.sizes_are; end_is = h.end_is; cover_is = h.cover_is; kept = kept_name gs n h.kept }
 
--- what is kept once a line is read, by the field that it gives
-abbrev pub HoldsAfter : List Bool → List ℕ → List ℕ → Bool → ℕ → List Given → Option Given → Type 0
-HoldsAfter marks numbers ns end cover gs o =
-    Holds (kept_at (field_given o) true marks) (kept_at (field_given o) (number_given o) numbers) (sizes_given o ns) (end_given o || end) (cover_kept (cover_given o) cover) (with_field o gs)
+-- what the reader keeps of a step
+abbrev pub kept_step : Step → State → State
+kept_step Closes s = s
+kept_step Passes s = s
+kept_step (Gives f x) s = kept f x s
 
-pub holds_next : (version : ℕ) {marks : List Bool} {numbers ns : List ℕ} {end : Bool} {cover : ℕ} {gs : List Given} (t : List ℕ) (i : Item)
-    → Holds marks numbers ns end cover gs → judge version gs t ≡ right i → HoldsAfter marks numbers ns end cover gs (given_of i)
-holds_next version {marks} {numbers} {ns} {end} {cover} {gs} t i h j = go (given_of i) refl
+-- the state once a line is read, by what it gives
+pub holds_next : (t : List ℕ) (i : Item) {s : State} {gs : List Given}
+    → Holds s gs → judge s.version gs t ≡ right i → Holds (kept_step (step_given (given_of i)) (with_sizes s (sizes_given (given_of i) s.sizes))) (after_item i gs)
+holds_next t i {s} {gs} h j = go (given_of i) refl
   where
-    go : (o : Option Given) → given_of i ≡ o → HoldsAfter marks numbers ns end cover gs o
+    go : (o : Option Given) → given_of i ≡ o → Holds (kept_step (step_given o) (with_sizes s (sizes_given o s.sizes))) (with_field o gs)
     go none e = h
     go (some (named n)) e = holds_name n h
     go (some (given f d)) e =
-        let s : FieldLine version gs t f d = subst (Keeps version gs t) (is_field i e) (judge_keeps version gs t j) in
-        let b = field_below s.name f s.named in
+        let k : FieldLine s.version gs t f d = subst (Keeps s.version gs t) (is_field i e) (judge_keeps s.version gs t j) in
+        let b = field_below k.name f k.named in
         let l = lt-ltb f field_count b in
         record {
           marks_are = rw (l, h.marks_are) (sym (flags_after f d gs b));
           numbers_are = rw (l, h.numbers_are) (sym (numbers_after f d gs b));
           sizes_are = rw h.sizes_are (sym (sizes_after f d gs));
-          end_is = rw h.end_is (sym (end_after f d gs s.new));
-          cover_is = rw h.cover_is (sym (cover_after f d gs s.new));
-          kept = kept_field version f d h.kept s;
+          end_is = rw h.end_is (sym (end_after f d gs k.new));
+          cover_is = rw h.cover_is (sym (cover_after f d gs k.new));
+          kept = kept_field s.version f d h.kept k;
         }
 
 -- what the judgement of a line has to know
-pub known_of : {marks : List Bool} {numbers ns : List ℕ} {end : Bool} {cover : ℕ} {gs : List Given} → Holds marks numbers ns end cover gs → names_follow gs ≡ false → Known marks numbers gs
+pub known_of : {s : State} {gs : List Given} → Holds s gs → names_follow gs ≡ false → Known s gs
 known_of h n = record { marks_are = h.marks_are; numbers_are = h.numbers_are; axes = h.kept.axes; spaces = h.kept.spaces; no_names = n }
 
 -- ---- names follow exactly where the line says LIST
 
-pub list_after : (version : ℕ) (gs : List Given) (t : List ℕ) (i : Item) → judge version gs t ≡ right i → names_follow gs ≡ false → names_follow (after_item i gs) ≡ list_given (given_of i)
+-- whether a step says that names follow
+abbrev pub lists : Step → Bool
+lists Closes = false
+lists Passes = false
+lists (Gives f x) = x.list
+
+pub list_after : (version : ℕ) (gs : List Given) (t : List ℕ) (i : Item) → judge version gs t ≡ right i → names_follow gs ≡ false → names_follow (after_item i gs) ≡ lists (step_given (given_of i))
 unfolding names_follow descriptor_of may_describe
 list_after version gs t i j n = go (given_of i) refl
   where
@@ -490,7 +562,7 @@ list_after version gs t i j n = go (given_of i) refl
     field_after f d s true e = sym (listed_is d (subst (λ g. may_describe (dimension_of gs) (space_size_of gs) g d ≡ true) (sym (eqb-true data_file f e)) s.described))
     field_after f d s false e = n
 
-    go : (o : Option Given) → given_of i ≡ o → names_follow (with_field o gs) ≡ list_given o
+    go : (o : Option Given) → given_of i ≡ o → names_follow (with_field o gs) ≡ lists (step_given o)
     go none e = n
     go (some (given f d)) e = field_after f d (subst (Keeps version gs t) (is_field i e) (judge_keeps version gs t j)) (eqb data_file f) refl
     go (some (named u)) e = absurd (false≢true (sym n ∙ (subst (Keeps version gs t) (is_name i e) (judge_keeps version gs t j)).follows))

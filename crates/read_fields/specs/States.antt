@@ -1,5 +1,5 @@
 -- Internal to the library. What the reader keeps of the fields given so far, and its steps.
-use Rattle.std.specs.Prelude.{ℕ, ◌+◌, ◌-◌, ◌≤◌, ◌≡◌, Bool, true, false, not, List, nat_lt, ◌==◌, length, set, if◌then◌else◌}
+use Rattle.std.specs.Prelude.{ℕ, ◌+◌, ◌-◌, ◌≤◌, ◌≡◌, Bool, true, false, not, ◌||◌, List, [], nat_lt, ◌==◌, length, set, if◌then◌else◌, Result, Ok, Err}
 use Rattle.std.proofs.Math.Option.{Option, none, some}
 use Rattle.format.specs.declared.ReadAnswer.{ReadAnswer}
 use Rattle.format.specs.Bytes.{is_some, each}
@@ -13,8 +13,13 @@ use Rattle.format.specs.Calls.{no_reading, padded, reading_at}
 use Rattle.format.specs.DataFiles.{data_file_said}
 use Rattle.format.specs.Laws.{Each}
 use Rattle.read_files.specs.Said.{cover_code}
-use Rattle.read_descriptors.specs.Checked.{says_end, says_list, says_cover, sizes_kept}
+use Rattle.format.specs.declared.reason.Reason.{Reason}
+use Rattle.format.specs.Reasons.{reason_number}
+use Rattle.read_descriptors.specs.declared.check.Said.{Said}
+use Rattle.read_descriptors.specs.Checked.{said, sizes_kept}
+use Rattle.read_fields.specs.declared.state.State.{State}
 use Rattle.read_fields.specs.declared.state.Step.{Step}
+use Rattle.read_fields.specs.declared.state.Step.TheVariants.{Closes, Passes, Gives}
 
 -- whether each field is given
 abbrev pub flags : List Given → List Bool
@@ -38,19 +43,19 @@ pub record Kept (gs : List Given) : Type 0 where
   pub wholes : Each (λ (n : ℕ). 1 ≤ n) (sizes_of gs)
   pub filed : (d : List ℕ) → descriptor_of data_file gs ≡ some d → is_some (data_file_said d) ≡ true
 
--- the flags, the numbers, the sizes, whether the data is found from the end, and how many axes a data file covers, are those of the fields given
-pub record Holds (marks : List Bool) (numbers ns : List ℕ) (end : Bool) (cover : ℕ) (gs : List Given) : Type 0 where
-  pub marks_are : marks ≡ flags gs
-  pub numbers_are : numbers ≡ numbers_of gs
-  pub sizes_are : ns ≡ padded (sizes_of gs)
-  pub end_is : end ≡ is_from_end (byte_skip_of gs)
-  pub cover_is : cover ≡ cover_code (cover_of gs)
+-- the state is that of the fields given: the flags, the numbers, the sizes, whether the data is found from the end, and how many axes a data file covers
+pub record Holds (s : State) (gs : List Given) : Type 0 where
+  pub marks_are : s.given ≡ flags gs
+  pub numbers_are : s.numbers ≡ numbers_of gs
+  pub sizes_are : s.sizes ≡ padded (sizes_of gs)
+  pub end_is : s.from_end ≡ is_from_end (byte_skip_of gs)
+  pub cover_is : s.cover ≡ cover_code (cover_of gs)
   pub kept : Kept gs
 
 -- what the judgement of a line has to know of the fields given: which they are, their numbers, and that no names follow them
-pub record Known (marks : List Bool) (numbers : List ℕ) (gs : List Given) : Type 0 where
-  pub marks_are : marks ≡ flags gs
-  pub numbers_are : numbers ≡ numbers_of gs
+pub record Known (s : State) (gs : List Given) : Type 0 where
+  pub marks_are : s.given ≡ flags gs
+  pub numbers_are : s.numbers ≡ numbers_of gs
   pub axes : dimension_of gs ≤ max_axes
   pub spaces : space_size_of gs ≤ max_space
   pub no_names : names_follow gs ≡ false
@@ -59,38 +64,23 @@ pub record Known (marks : List Bool) (numbers : List ℕ) (gs : List Given) : Ty
 abbrev pub described : ℕ → ℕ → ℕ → List ℕ → Judged
 described n m f t = if not (may_describe n m f t) then wrong bad_descriptor else right (field f t)
 
--- the field that a line gives, or the first number that is none, and the number that it says
-abbrev pub field_given : Option Given → ℕ
-field_given none = field_count
-field_given (some (given f d)) = f
-field_given (some (named t)) = field_count
+-- ---- steps
 
-abbrev pub number_given : Option Given → ℕ
-number_given none = 0
-number_given (some (given f d)) = number_said f d
-number_given (some (named t)) = 0
+-- what a right line comes to, by what it gives
+abbrev pub step_given : Option Given → Step
+step_given none = Passes
+step_given (some (given f d)) = Gives f (said f d)
+step_given (some (named t)) = Passes
 
--- whether it says that the data is found from the end
-abbrev pub end_given : Option Given → Bool
-end_given none = false
-end_given (some (given f d)) = says_end f d
-end_given (some (named t)) = false
+-- a line's step by what the line was judged to be, or the number of its refusal
+abbrev pub step_of : Judged → Result Step ℕ
+step_of (wrong w) = Err w
+step_of (right i) = Ok (if closes i then Closes else step_given (given_of i))
 
--- whether it says that names follow
-abbrev pub list_given : Option Given → Bool
-list_given none = false
-list_given (some (given f d)) = says_list f d
-list_given (some (named t)) = false
-
--- how many axes a data file covers, 0 where it says nothing of it
-abbrev pub cover_given : Option Given → ℕ
-cover_given none = 0
-cover_given (some (given f d)) = says_cover f d
-cover_given (some (named t)) = 0
-
--- the same once the line is read
-abbrev pub cover_kept : ℕ → ℕ → ℕ
-cover_kept new old = if new == 0 then old else new
+-- the same of an answer
+abbrev pub numbered : Result Step Reason → Result Step ℕ
+numbered (Ok step) = Ok step
+numbered (Err reason) = Err (reason_number reason)
 
 -- the sizes once the line is read
 abbrev pub sizes_given : Option Given → List ℕ → List ℕ
@@ -98,22 +88,43 @@ sizes_given none ns = ns
 sizes_given (some (given f d)) ns = sizes_kept f d ns
 sizes_given (some (named t)) ns = ns
 
--- a line's step by what the line was judged to be
-abbrev pub step_of : Judged → Step
-step_of (wrong w) = record { wrong = w; closes = false; field = field_count; number = 0; fromend = false; list = false; cover = 0 }
-step_of (right i) = record { wrong = 0; closes = closes i; field = field_given (given_of i); number = number_given (given_of i); fromend = end_given (given_of i); list = list_given (given_of i); cover = cover_given (given_of i) }
-
 abbrev pub sizes_after : Judged → List ℕ → List ℕ
 sizes_after (wrong w) ns = ns
 sizes_after (right i) ns = sizes_given (given_of i) ns
 
--- the step, and the sizes as it leaves them
-abbrev pub stepped : Judged → List ℕ → Step × List ℕ
-stepped j ns = (step_of j, sizes_after j ns)
+-- the state with other sizes
+abbrev pub with_sizes : State → List ℕ → State
+with_sizes s ns = record { version = s.version; given = s.given; numbers = s.numbers; sizes = ns; from_end = s.from_end; cover = s.cover }
+
+-- the step, and the state as the judgement leaves it
+abbrev pub stepped : Judged → State → Result Step ℕ × State
+stepped j s = (step_of j, with_sizes s (sizes_after j s.sizes))
+
+-- ---- what is kept
 
 -- a list with x for the field f; past the last field nothing changes
 abbrev pub kept_at : {A : Type 0} → ℕ → A → List A → List A
 kept_at f x l = if nat_lt f field_count then set l f x else l
+
+-- how many axes a data file covers once a line is read: as it says, or as before where it says nothing of it
+abbrev pub cover_kept : ℕ → ℕ → ℕ
+cover_kept new old = if new == 0 then old else new
+
+-- the state once the field f is given and says x
+abbrev pub kept : ℕ → Said → State → State
+kept f x s =
+    record {
+      version = s.version;
+      given = kept_at f true s.given;
+      numbers = kept_at f x.number s.numbers;
+      sizes = s.sizes;
+      from_end = x.from_end || s.from_end;
+      cover = cover_kept x.cover s.cover;
+    }
+
+-- no field is given
+abbrev pub no_state : ℕ → State
+no_state version = record { version = version; given = flags []; numbers = numbers_of []; sizes = padded []; from_end = false; cover = 0 }
 
 -- the number of a refusal, 0 for none
 abbrev pub wrong_of : Judged → ℕ

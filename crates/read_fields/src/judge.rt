@@ -1,38 +1,42 @@
-// One line after line 1: what it is, or the number of its refusal, 5 to 12 in order; and the end of the header.
-ghost use Rattle.std.specs.Prelude.{◌≡◌, not, ◌||◌, List, ℕ, ◌+◌, ◌≤◌, ◌<◌, nat_lt, length, take, drop, if◌then◌else◌};
+// One line after line 1: what it is, or why it is refused, for one of the reasons 5 to 12 in order; and the end of the header.
+ghost use Rattle.std.specs.Prelude.{◌≡◌, not, ◌||◌, List, ℕ, ◌+◌, ◌≤◌, ◌<◌, nat_lt, length, take, drop, if◌then◌else◌, Result};
 ghost use Rattle.std.proofs.Math.Option.{some};
 ghost use Rattle.format.specs.Bytes.{every};
 ghost use Rattle.format.specs.Limits.{max_axes, max_header};
 ghost use Rattle.format.specs.Spaces.{max_space};
 ghost use Rattle.format.specs.Refusals.{bad_byte};
+ghost use Rattle.format.specs.Reasons.{refusal_number};
 ghost use Rattle.format.specs.Pairs.{plain, field_mark, other_line};
 ghost use Rattle.format.specs.Fields.{Given, field_count, is_given, dimension, is_repeated, needs_dimension, in_order};
 ghost use Rattle.format.specs.Descriptors.{since, space_size_of};
-ghost use Rattle.format.specs.Header.{wrong, on_pair, on_field, on_kind, judge};
+ghost use Rattle.format.specs.Header.{on_pair, on_field, on_kind, judge};
+ghost use Rattle.read_fields.specs.declared.state.State.{State};
 ghost use Rattle.read_fields.specs.declared.state.Step.{Step};
-ghost use Rattle.read_fields.specs.States.{wrong_of, flags, numbers_of, space_for, Known, described, step_of, stepped};
+ghost use Rattle.read_fields.specs.States.{wrong_of, flags, space_for, Known, described, numbered, stepped};
 
-use crate::state::Step;
+use crate::state::{State, Step};
 use format::field;
+use format::reason::Reason;
 use read_text::lines::Kind;
 
-// A pair: the number of its refusal, or 0.
-fn on_pair(version: u32, key: &[u8], value: &[u8]) -> u32
-    ensures { result ≡ wrong_of (on_pair version key.now value.now) }
+// A pair: is it right?
+#[tactic(auto, using(crate::proofs::Judging::pair_tests))]
+fn on_pair(version: u32, key: &[u8], value: &[u8]) -> Result<(), Reason>
+    ensures { refusal_number result ≡ wrong_of (on_pair version key.now value.now) }
 {
-    if key.len() == 0 {
-        return format::NO_MARK;
+    if key.is_empty() {
+        return Err(Reason::NoMark);
     }
     if version < format::PAIRS_SINCE {
-        return format::NOT_IN_VERSION;
+        return Err(Reason::NotInVersion);
     }
     if !read_text::escapes::unescapes(key) {
-        return format::BAD_BACKSLASH;
+        return Err(Reason::BadBackslash);
     }
     if !read_text::escapes::unescapes(value) {
-        return format::BAD_BACKSLASH;
+        return Err(Reason::BadBackslash);
     }
-    0
+    Ok(())
 }
 
 // Whether dimension is given where the field comes after it.
@@ -71,28 +75,13 @@ fn is_repeated(f: usize, given: &[bool; field::COUNT]) -> bool
 }
 
 // The dimension of the space for the field: 0 for a field before space, whose descriptor does not depend on it.
-fn space_for(f: usize, given: &[bool; field::COUNT], numbers: &[u32; field::COUNT]) -> u32
-    ensures { (gs : List Given) → given.now ≡ flags gs → numbers.now ≡ numbers_of gs → result ≡ space_for f (space_size_of gs) }
+fn space_for(f: usize, state: &State) -> u32
+    ensures { (gs : List Given) → Known state.now gs → result ≡ space_for f (space_size_of gs) }
 {
     if f < field::SPACE {
         return 0;
     }
-    crate::state::space_size(given, numbers)
-}
-
-// The step of a line that gives no field and does not close: the number of its refusal, 0 where it is right.
-fn without_field(number: u32) -> Step
-    ensures { result ≡ step_of (wrong number) }
-{
-    Step {
-        wrong: number,
-        closes: false,
-        field: field::COUNT,
-        number: 0,
-        fromend: false,
-        list: false,
-        cover: 0,
-    }
+    state.space_size()
 }
 
 // The field f with the descriptor t: bad descriptor 11. Right sizes change the sizes.
@@ -101,22 +90,13 @@ fn take_field(
     t: &[u8],
     dimension: u32,
     space: u32,
-    sizes: &mut [u64; format::AXES],
-) -> Step
-    ensures { dimension ≤ max_axes → space ≤ max_space → length t.now ≤ max_header → ◌≡◌ {A = Step × List ℕ} (result, sizes.new) (stepped (described dimension space f t.now) sizes.old) }
+    state: &mut State,
+) -> Result<Step, Reason>
+    ensures { dimension ≤ max_axes → space ≤ max_space → length t.now ≤ max_header → ◌≡◌ {A = Result Step ℕ × State} (numbered result, state.new) (stepped (described dimension space f t.now) state.old) }
 {
-    let x = read_descriptors::check::check(f, t, dimension, space, sizes);
-    if !x.fine {
-        return without_field(format::BAD_DESCRIPTOR);
-    }
-    Step {
-        wrong: 0,
-        closes: false,
-        field: f,
-        number: x.number,
-        fromend: x.fromend,
-        list: x.list,
-        cover: x.cover,
+    match read_descriptors::check::check(f, t, dimension, space, &mut state.sizes) {
+        Some(said) => Ok(Step::Gives(f, said)),
+        None => Err(Reason::BadDescriptor),
     }
 }
 
@@ -137,87 +117,72 @@ fn is_too_new(version: u32, f: usize, t: &[u8]) -> bool
 }
 
 // A known field: not in this version 8, repeated 9, out of order 10, bad descriptor 11.
-fn on_known(
-    version: u32,
-    given: &[bool; field::COUNT],
-    numbers: &[u32; field::COUNT],
-    f: usize,
-    rest: &[u8],
-    sizes: &mut [u64; format::AXES],
-) -> Step
+fn on_known(f: usize, rest: &[u8], state: &mut State) -> Result<Step, Reason>
     requires { f < field_count }
-    ensures { (gs : List Given) → Known given.now numbers.now gs → length rest.now ≤ max_header → ◌≡◌ {A = Step × List ℕ} (result, sizes.new) (stepped (on_field version gs (some f) rest.now) sizes.old) }
+    ensures { (gs : List Given) → Known state.old gs → length rest.now ≤ max_header → ◌≡◌ {A = Result Step ℕ × State} (numbered result, state.new) (stepped (on_field state.old.version gs (some f) rest.now) state.old) }
 {
     let t = read_descriptors::place::descriptor_of(f, rest);
-    if is_too_new(version, f, t) {
-        return without_field(format::NOT_IN_VERSION);
+    if is_too_new(state.version, f, t) {
+        return Err(Reason::NotInVersion);
     }
-    if is_repeated(f, given) {
-        return without_field(format::REPEATED_FIELD);
+    if is_repeated(f, &state.given) {
+        return Err(Reason::RepeatedField);
     }
-    if !is_in_order(f, given) {
-        return without_field(format::OUT_OF_ORDER);
+    if !is_in_order(f, &state.given) {
+        return Err(Reason::OutOfOrder);
     }
-    let dimension = numbers[field::DIMENSION];
-    let space = space_for(f, given, numbers);
-    take_field(f, t, dimension, space, sizes)
+    let dimension = state.numbers[field::DIMENSION];
+    let space = space_for(f, state);
+    take_field(f, t, dimension, space, state)
+}
+
+// Each byte of the line is one that it may hold: bad byte 5.
+fn plain_first(t: &[u8]) -> Result<(), Reason>
+    ensures { refusal_number result ≡ (if every plain t.now then 0 else bad_byte) }
+{
+    if read_text::bytes::is_plain(t) {
+        Ok(())
+    } else {
+        Err(Reason::BadByte)
+    }
 }
 
 // The line t of a field whose mark stands at i: a byte that it may not hold 5, unknown 7, not in this version 8, repeated 9, out of order 10, bad descriptor 11.
-fn on_field(
-    version: u32,
-    given: &[bool; field::COUNT],
-    numbers: &[u32; field::COUNT],
-    t: &[u8],
-    i: usize,
-    sizes: &mut [u64; format::AXES],
-) -> Step
+fn on_field(t: &[u8], i: usize, state: &mut State) -> Result<Step, Reason>
     requires { i + 2 ≤ length t.now }
-    ensures { (gs : List Given) → Known given.now numbers.now gs → length t.now ≤ max_header → ◌≡◌ {A = Step × List ℕ} (result, sizes.new) (stepped (on_kind version gs t.now (other_line (field_mark (take i t.now) (drop (i + 2) t.now)))) sizes.old) }
+    ensures { (gs : List Given) → Known state.old gs → length t.now ≤ max_header → ◌≡◌ {A = Result Step ℕ × State} (numbered result, state.new) (stepped (on_kind state.old.version gs t.now (other_line (field_mark (take i t.now) (drop (i + 2) t.now)))) state.old) }
 {
-    if !read_text::bytes::is_plain(t) {
-        return without_field(format::BAD_BYTE);
-    }
-    let row = read_text::words::field_named(&t[..i]);
-    match row {
-        Some(f) => on_known(version, given, numbers, f as usize, &t[i + 2..], sizes),
-        None => without_field(format::UNKNOWN_FIELD),
+    plain_first(t)?;
+    match read_text::words::field_named(&t[..i]) {
+        Some(f) => on_known(f as usize, &t[i + 2..], state),
+        None => Err(Reason::UnknownField),
     }
 }
 
-// The number of the refusal of a line: 5 before any other.
-fn plain_first(t: &[u8], number: u32) -> u32
-    ensures { result ≡ (if every plain t.now then number else bad_byte) }
+// The line t of a pair whose mark stands at i: a byte that it may not hold 5 before what the pair is refused for.
+fn on_pair_line(version: u32, t: &[u8], i: usize) -> Result<(), Reason>
+    requires { i + 2 ≤ length t.now }
+    ensures { refusal_number result ≡ (if every plain t.now then wrong_of (on_pair version (take i t.now) (drop (i + 2) t.now)) else bad_byte) }
 {
-    if read_text::bytes::is_plain(t) {
-        return number;
-    }
-    format::BAD_BYTE
+    plain_first(t)?;
+    on_pair(version, &t[..i], &t[i + 2..])
 }
 
 // One line after line 1, by its text, after the fields given, by what is kept of them, where no names follow them: with no mark 6. A right line of sizes changes the sizes.
-pub fn judge_line(
-    version: u32,
-    given: &[bool; field::COUNT],
-    numbers: &[u32; field::COUNT],
-    t: &[u8],
-    sizes: &mut [u64; format::AXES],
-) -> Step
-    ensures { (gs : List Given) → Known given.now numbers.now gs → length t.now ≤ max_header → ◌≡◌ {A = Step × List ℕ} (result, sizes.new) (stepped (judge version gs t.now) sizes.old) }
+pub fn judge_line(t: &[u8], state: &mut State) -> Result<Step, Reason>
+    ensures { (gs : List Given) → Known state.old gs → length t.now ≤ max_header → ◌≡◌ {A = Result Step ℕ × State} (numbered result, state.new) (stepped (judge state.old.version gs t.now) state.old) }
 {
     match read_text::lines::kind_of(t) {
-        Kind::Empty => Step {
-            wrong: 0,
-            closes: true,
-            field: field::COUNT,
-            number: 0,
-            fromend: false,
-            list: false,
-            cover: 0,
-        },
-        Kind::Comment => without_field(0),
-        Kind::Field(i) => on_field(version, given, numbers, t, i, sizes),
-        Kind::Pair(i) => without_field(plain_first(t, on_pair(version, &t[..i], &t[i + 2..]))),
-        Kind::Neither => without_field(plain_first(t, format::NO_MARK)),
+        Kind::Empty => Ok(Step::Closes),
+        Kind::Comment => Ok(Step::Passes),
+        Kind::Field(i) => on_field(t, i, state),
+        Kind::Pair(i) => {
+            on_pair_line(state.version, t, i)?;
+            Ok(Step::Passes)
+        }
+        Kind::Neither => {
+            plain_first(t)?;
+            Err(Reason::NoMark)
+        }
     }
 }

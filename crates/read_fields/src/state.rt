@@ -1,123 +1,35 @@
-// What the reader keeps of the fields given so far: flags, numbers, sizes, whether the data is found from the end, and how many axes a data file covers; and the answer that they make.
-ghost use Rattle.std.specs.Prelude.{◌≡◌, true, not, ◌||◌, List, [], ◌+◌, ◌≤◌, ◌==◌, take};
-ghost use Rattle.format.specs.Limits.{max_axes, max_extent};
-ghost use Rattle.format.specs.Refusals.{at_line};
-ghost use Rattle.format.specs.Fields.{Given};
-ghost use Rattle.format.specs.Descriptors.{raw, space_size_of, endian_needed, extent, has_needed, capped, file_count_of};
-ghost use Rattle.format.specs.Header.{refused};
-ghost use Rattle.format.specs.Calls.{padded, read_answer};
-ghost use Rattle.read_fields.specs.States.{flags, numbers_of, kept_at, cover_kept, Holds, finished};
+// What the reader keeps of the fields given so far, and the reading that they make.
+ghost use Rattle.std.specs.Prelude.{◌≡◌, ◌+◌, ◌≤◌, true, false, List, length, IfOk};
+ghost use Rattle.format.specs.Limits.{max_axes};
+ghost use Rattle.format.specs.Fields.{Given, is_given, sizes};
+ghost use Rattle.format.specs.Descriptors.{endian_needed, sizes_of, space_size_of, has_needed, end_is_raw, capped, extent_of, file_count_of, is_detached, names_follow};
+ghost use Rattle.format.specs.Reasons.{refusal_number};
+ghost use Rattle.format.specs.Answers.{reading_answered};
+ghost use Rattle.read_fields.specs.States.{flags, numbers_of, Holds, no_state, kept, complete_number, finished};
 
-use format::{ReadAnswer, Reading, field};
-use format_values::{products, refusals, types};
+use format::reason::{Reason, Refused};
+use format::{Reading, field};
+use format_values::{products, types};
+use read_descriptors::check::Said;
 
-// What a line comes to: the number of its refusal or 0, whether it closes the header, and the field that it gives, `field::COUNT` where it gives none, with its number
-// whether it says that the data is found from the end, whether it says that names follow, and how many axes a data file covers, as `read_files::said` tells it.
+// Of the lines so far: the version, which fields are given, their numbers, the sizes, whether the data is found from the end, and how many axes a data file covers,
+// as `read_files::said` tells it.
 #[derive(Clone, Copy)]
-pub struct Step {
-    pub wrong: u32,
-    pub closes: bool,
-    pub field: usize,
-    pub number: u32,
-    pub fromend: bool,
-    pub list: bool,
+pub struct State {
+    pub version: u32,
+    pub given: [bool; field::COUNT],
+    pub numbers: [u32; field::COUNT],
+    pub sizes: [u64; format::AXES],
+    pub from_end: bool,
     pub cover: u32,
 }
 
-// No field is given: the flags.
-pub fn no_flags() -> [bool; field::COUNT]
-    ensures { result ≡ flags [] }
-{
-    [false; field::COUNT]
-}
-
-// No field is given: the numbers.
-pub fn no_numbers() -> [u32; field::COUNT]
-    ensures { result ≡ numbers_of [] }
-{
-    let mut numbers = [0u32; field::COUNT];
-    numbers[field::ENDIAN] = format::NO_ENDIAN;
-    numbers[field::SPACE] = format::NO_SPACE;
-    numbers
-}
-
-// No field is given: the sizes.
-pub fn no_sizes() -> [u64; format::AXES]
-    ensures { result ≡ padded [] }
-{
-    [0u64; format::AXES]
-}
-
-// Keeps that the field f is given, and its number; for `field::COUNT` nothing changes.
-pub fn keep(
-    given: &mut [bool; field::COUNT],
-    numbers: &mut [u32; field::COUNT],
-    f: usize,
-    number: u32,
-)
-    ensures { (given.new ≡ kept_at f true given.old) × (numbers.new ≡ kept_at f number numbers.old) }
-{
-    if f < field::COUNT {
-        given[f] = true;
-        numbers[f] = number;
-    }
-}
-
-// How many axes a data file covers once a line is read: as it says, or as before where it says nothing of it.
-pub fn keep_cover(new: u32, old: u32) -> u32
-    ensures { result ≡ cover_kept new old }
-{
-    if new == 0 {
-        return old;
-    }
-    new
-}
-
-// A refusal at a line, 0 where no line is meant.
-pub fn refuse(number: u32, line: u32) -> ReadAnswer
-    ensures { result ≡ read_answer (refused (at_line number line)) }
-{
-    ReadAnswer {
-        refusal: refusals::refusal_at(number, line),
-        reading: Reading {
-            version: 0,
-            form: 0,
-            dimension: 0,
-            sampletype: 0,
-            encoding: 0,
-            endian: 0,
-            sizes: [0u64; format::AXES],
-            lineskip: 0,
-            byteskip: 0,
-            extent: 0,
-            length: 0,
-            lines: 0,
-            fromend: false,
-            origin: false,
-            directions: false,
-            frame: false,
-            space: 0,
-            spacedimension: 0,
-            files: 0,
-            fieldlines: 0,
-        },
-    }
-}
-
-pub(crate) fn wide(n: u32) -> u64
-    ensures { result ≡ n }
-{
-    n as u64
-}
-
-// The dimension of the space, by its name or as it is given.
-pub(crate) fn space_size(given: &[bool; field::COUNT], numbers: &[u32; field::COUNT]) -> u32
-    ensures { (gs : List Given) → given.now ≡ flags gs → numbers.now ≡ numbers_of gs → result ≡ space_size_of gs }
-{
-    if given[field::SPACE] {
-        return format_values::spaces::size(numbers[field::SPACE]);
-    }
-    numbers[field::SPACE_DIMENSION]
+// What a right line comes to: it closes the header, it gives nothing, as a comment or a pair, or it gives a field, which says something.
+#[derive(Clone, Copy)]
+pub enum Step {
+    Closes,
+    Passes,
+    Gives(usize, Said),
 }
 
 // Whether the order of a sample's bytes matters: raw or hex samples of several bytes.
@@ -127,114 +39,161 @@ fn endian_needed(t: u32, e: u32) -> bool
     (1 < types::sample_bytes(t as u64)) & ((e == format::RAW) | (e == format::HEX))
 }
 
-// Whether the fields that are needed are given.
-fn has_needed(given: &[bool; field::COUNT], numbers: &[u32; field::COUNT]) -> bool
-    ensures { (gs : List Given) → given.now ≡ flags gs → numbers.now ≡ numbers_of gs → result ≡ has_needed gs }
-{
-    let endian = given[field::ENDIAN]
-        | !endian_needed(numbers[field::TYPE], numbers[field::ENCODING]);
-    given[field::DIMENSION]
-        & (given[field::TYPE] & (given[field::ENCODING] & (given[field::SIZES] & endian)))
-}
+impl State {
+    // No field is given.
+    #[tactic(auto, unfolding(format::specs::Fields::descriptor_of, format::specs::Bytes::each))]
+    pub fn new(version: u32) -> State
+        ensures { result ≡ no_state version }
+    {
+        let mut numbers = [0u32; field::COUNT];
+        numbers[field::ENDIAN] = format::NO_ENDIAN;
+        numbers[field::SPACE] = format::NO_SPACE;
+        State {
+            version,
+            given: [false; field::COUNT],
+            numbers,
+            sizes: [0u64; format::AXES],
+            from_end: false,
+            cover: 0,
+        }
+    }
 
-// Whether a byte skip from the end, if it is one, stands with raw.
-fn end_is_raw(fromend: bool, encoding: u32) -> bool
-    ensures { result ≡ (not fromend || encoding == raw) }
-{
-    !fromend | (encoding == format::RAW)
-}
+    // Keeps that the field f is given, and what it says; no flag and no number changes for `field::COUNT`.
+    pub fn keep(&mut self, f: usize, said: Said)
+        ensures { self.new ≡ kept f said self.old }
+    {
+        if f < field::COUNT {
+            self.given[f] = true;
+            self.numbers[f] = said.number;
+        }
+        self.from_end = said.from_end | self.from_end;
+        if said.cover != 0 {
+            self.cover = said.cover;
+        }
+    }
 
-// The extent, or the least number that is none where it is above.
-fn extent(dimension: u32, sampletype: u32, sizes: [u64; format::AXES]) -> u64
-    ensures { dimension ≤ max_axes → result ≡ capped (extent (take dimension sizes) sampletype) }
-{
-    let n = dimension as usize;
-    // no header has more axes
-    if format::AXES < n {
-        return 0;
+    // Whether a data file is given.
+    #[tactic(auto, using(crate::proofs::States::detached_is))]
+    pub fn is_detached(&self) -> bool
+        ensures { (gs : List Given) → Holds self.now gs → result ≡ is_detached gs }
+    {
+        self.given[field::DATA_FILE]
     }
-    products::times(
-        types::sample_bytes(sampletype as u64),
-        products::product(&sizes[..n]),
-    )
-}
 
-// How many files there are where the last one has this number, counted from 0.
-fn count_files(last: u32) -> u32
-    ensures { last + 1 ≤ max_extent → result ≡ last + 1 }
-{
-    // no accepted header has more files than samples
-    if last < u32::MAX {
-        return last + 1;
+    // The dimension of the space, by its name or as it is given.
+    #[tactic(auto, using(crate::proofs::States::size_is))]
+    pub(crate) fn space_size(&self) -> u32
+        ensures { (gs : List Given) → self.now.given ≡ flags gs → self.now.numbers ≡ numbers_of gs → result ≡ space_size_of gs }
+    {
+        if self.given[field::SPACE] {
+            format_values::spaces::size(self.numbers[field::SPACE])
+        } else {
+            self.numbers[field::SPACE_DIMENSION]
+        }
     }
-    last
-}
 
-// The answer at the end of a header of so many bytes and lines, `before` of them before the names under LIST; `last` is the number of the last data file, counted from 0.
-pub fn finish(
-    version: u32,
-    given: &[bool; field::COUNT],
-    numbers: &[u32; field::COUNT],
-    sizes: [u64; format::AXES],
-    fromend: bool,
-    cover: u32,
-    last: u32,
-    bytes: usize,
-    count: u32,
-    before: u32,
-) -> ReadAnswer
-    ensures { (gs : List Given) → Holds given.now numbers.now sizes fromend cover gs → last + 1 ≡ file_count_of gs → result ≡ finished version gs bytes count before }
-{
-    if !has_needed(given, numbers) {
-        return refuse(format::MISSING_FIELD, 0);
+    // Whether the fields that are needed are given.
+    #[tactic(auto, using(crate::proofs::States::needed_is))]
+    fn has_needed(&self) -> bool
+        ensures { (gs : List Given) → Holds self.now gs → result ≡ has_needed gs }
+    {
+        let endian = self.given[field::ENDIAN]
+            | !endian_needed(self.numbers[field::TYPE], self.numbers[field::ENCODING]);
+        self.given[field::DIMENSION]
+            & (self.given[field::TYPE]
+                & (self.given[field::ENCODING] & (self.given[field::SIZES] & endian)))
     }
-    let encoding = numbers[field::ENCODING];
-    if !end_is_raw(fromend, encoding) {
-        return refuse(format::BAD_DESCRIPTOR, 0);
+
+    // Whether a byte skip from the end, if it is one, stands with raw.
+    #[tactic(auto, using(crate::proofs::States::raw_is))]
+    fn end_is_raw(&self) -> bool
+        ensures { (gs : List Given) → Holds self.now gs → result ≡ end_is_raw gs }
+    {
+        !self.from_end | (self.numbers[field::ENCODING] == format::RAW)
     }
-    let dimension = numbers[field::DIMENSION];
-    let sampletype = numbers[field::TYPE];
-    let x = extent(dimension, sampletype, sizes);
-    if format::MAX_EXTENT < x {
-        return refuse(format::EXTENT_TOO_LARGE, 0);
+
+    // The sizes given; no header has more axes than there is room for.
+    #[tactic(auto, using(crate::proofs::States::axes_are))]
+    pub(crate) fn axes(&self) -> &[u64]
+        ensures sizes { (gs : List Given) → Holds self.now gs → is_given sizes gs ≡ true → result.now ≡ sizes_of gs }
+        ensures few { length result.now ≤ max_axes }
+    {
+        let n = (self.numbers[field::DIMENSION] as usize).min(format::AXES);
+        &self.sizes[..n]
     }
-    if !crate::files::fit(dimension, sizes, cover, last) {
-        return refuse(format::BAD_DESCRIPTOR, 0);
+
+    // The extent, or the least number that is none where it is above.
+    fn extent(&self) -> u64
+        ensures { (gs : List Given) → Holds self.now gs → is_given sizes gs ≡ true → result ≡ capped (extent_of gs) }
+    {
+        products::times(
+            types::sample_bytes(self.numbers[field::TYPE] as u64),
+            products::product(self.axes()),
+        )
     }
-    let files = count_files(last);
-    let endian = numbers[field::ENDIAN];
-    let form = given[field::DATA_FILE] as u32;
-    let lineskip = wide(numbers[field::LINE_SKIP]);
-    let byteskip = wide(numbers[field::BYTE_SKIP]);
-    let length = bytes as u64;
-    let space = numbers[field::SPACE];
-    let spacedimension = space_size(given, numbers);
-    let origin = given[field::SPACE_ORIGIN];
-    let directions = given[field::SPACE_DIRECTIONS];
-    let frame = given[field::MEASUREMENT_FRAME];
-    ReadAnswer {
-        refusal: refusals::FINE,
-        reading: Reading {
-            version: version,
-            form: form,
-            dimension: dimension,
-            sampletype: sampletype,
-            encoding: encoding,
-            endian: endian,
-            sizes: sizes,
-            lineskip: lineskip,
-            byteskip: byteskip,
-            extent: x,
-            length: length,
-            lines: count,
-            fromend: fromend,
-            origin: origin,
-            directions: directions,
-            frame: frame,
-            space: space,
-            spacedimension: spacedimension,
-            files: files,
-            fieldlines: before,
-        },
+
+    // The extent of a header that these fields make; `last` is the number of the last data file, counted from 0.
+    fn complete(&self, last: u32) -> Result<u64, Reason>
+        ensures refused { (gs : List Given) → Holds self.now gs → last + 1 ≡ file_count_of gs → refusal_number result ≡ complete_number gs }
+        ensures extent { (gs : List Given) → Holds self.now gs → last + 1 ≡ file_count_of gs → IfOk result (λ x. x ≡ extent_of gs) }
+    {
+        if !self.has_needed() {
+            return Err(Reason::MissingField);
+        }
+        if !self.end_is_raw() {
+            return Err(Reason::BadDescriptor);
+        }
+        let extent = self.extent();
+        if format::MAX_EXTENT < extent {
+            return Err(Reason::ExtentTooLarge);
+        }
+        if !crate::files::fit(self.axes(), self.cover, last) {
+            return Err(Reason::BadDescriptor);
+        }
+        Ok(extent)
+    }
+
+    // The reading at the end of a header of so many bytes and lines, `fieldlines` of them before the names under LIST; `last` is the number of the last data file,
+    // counted from 0.
+    pub fn finish(
+        &self,
+        last: u32,
+        bytes: usize,
+        lines: u32,
+        fieldlines: u32,
+    ) -> Result<Reading, Refused>
+        ensures { (gs : List Given) → Holds self.now gs → last + 1 ≡ file_count_of gs → reading_answered result ≡ finished self.now.version gs bytes lines fieldlines }
+    {
+        let extent = self.complete(last)?;
+        Ok(Reading {
+            version: self.version,
+            form: self.given[field::DATA_FILE] as u32,
+            dimension: self.numbers[field::DIMENSION],
+            sampletype: self.numbers[field::TYPE],
+            encoding: self.numbers[field::ENCODING],
+            endian: self.numbers[field::ENDIAN],
+            sizes: self.sizes,
+            lineskip: self.numbers[field::LINE_SKIP] as u64,
+            byteskip: self.numbers[field::BYTE_SKIP] as u64,
+            extent,
+            length: bytes as u64,
+            lines,
+            fromend: self.from_end,
+            origin: self.given[field::SPACE_ORIGIN],
+            directions: self.given[field::SPACE_DIRECTIONS],
+            frame: self.given[field::MEASUREMENT_FRAME],
+            space: self.numbers[field::SPACE],
+            spacedimension: self.space_size(),
+            files: last.saturating_add(1),
+            fieldlines,
+        })
+    }
+
+    // The number of the last data file, counted from 0, where no names follow.
+    #[tactic(auto, using(crate::proofs::States::number_at, crate::proofs::Sharing::last_file))]
+    pub fn last_file(&self) -> u32
+        ensures { (gs : List Given) → Holds self.now gs → names_follow gs ≡ false → result + 1 ≡ file_count_of gs }
+    {
+        self.numbers[field::DATA_FILE]
     }
 }

@@ -1,18 +1,14 @@
 -- `judge::take_field` meets its contract: the step is made of the checker's answer. Assumes nothing.
-use borrow.Author.Tests.{not-true, not-false}
+use Rattle.std.proofs.Common.{refl}
 use Rattle.read_fields.proofs.States.{check_taken}
 use Rattle.read_fields.proofs.judge.take_field.Goals as goal
 
-pub returns-then-not-x : goal.returns-then-not-x
-returns-then-not-x c h m l =
+pub returns-in-Some : goal.returns-in-Some
+returns-in-Some c d m l =
     let a = c.args in
-    let k = c.check-x in
-    let t = check_taken a.dimension a.space a.f a.t.now a.sizes.now k.result _ (k.ensures h m l) h in
-    rw c.without_field.ensures (rw (not-true k.result.fine c.if-not-x.true) at t)
+    rw c.in-Some.is at (check_taken a.dimension a.space a.f a.t.now a.state.now.sizes c.check.result _ (c.check.ensures d m l) d a.state.now refl)
 
-pub returns : goal.returns
-returns c h m l =
+pub returns-in-None : goal.returns-in-None
+returns-in-None c d m l =
     let a = c.args in
-    let k = c.check-x in
-    let t = check_taken a.dimension a.space a.f a.t.now a.sizes.now k.result _ (k.ensures h m l) h in
-    rw (not-false k.result.fine c.if-not-x.false) at t
+    rw c.in-None.is at (check_taken a.dimension a.space a.f a.t.now a.state.now.sizes c.check.result _ (c.check.ensures d m l) d a.state.now refl)
