@@ -26,7 +26,7 @@ use Rattle.format.specs.Descriptors.{forward, byte_skip_said, bytes_forward, is_
 use Rattle.format.specs.DataFiles.{is_list, DataFile, one_file, numbered_files, listed_files, data_file_said, cover_said}
 use Rattle.format.specs.Laws.{Each}
 use Rattle.read_files.specs.Said.{is_listed, cover_code}
-use Rattle.format.specs.Header.{Item, field, given_of, Entry, wrong, right, judge, refused, with_field, after_item, version_of, header_length, field_lines}
+use Rattle.format.specs.Header.{Item, field, given_of, closes, Entry, wrong, right, judge, refused, with_field, after_item, version_of, header_length, field_lines}
 use Rattle.format.specs.Rules.{FieldLine, Keeps}
 use Rattle.format.specs.Calls.{read_answer, padded, reading_at, reading_of}
 use Rattle.format.proofs.Bytes.{and_left, and_right, each_from, each_same}
@@ -47,7 +47,7 @@ use Rattle.read_descriptors.proofs.Checking.{fine_length}
 use Rattle.read_fields.specs.declared.state.State.{State}
 use Rattle.read_fields.specs.declared.state.Step.{Step}
 use Rattle.read_fields.specs.declared.state.Step.TheVariants.{Closes, Passes, Gives}
-use Rattle.read_fields.specs.States.{flags, numbers_of, Kept, Holds, Known, described, step_given, numbered, with_sizes, sizes_given, step_of, stepped, kept_at, kept, no_state, cover_kept, complete_number, finished}
+use Rattle.read_fields.specs.States.{flags, numbers_of, Kept, Holds, Known, described, step_given, step_right, numbered, with_sizes, sizes_given, step_of, stepped, kept_at, kept, kept_step, shuts, lists, no_state, cover_kept, complete_number, finished}
 
 -- ---- what a data file's descriptor says
 
@@ -514,11 +514,14 @@ unfolding descriptor_of
 holds_name {s} {gs} n h =
     record { marks_are = h.marks_are; numbers_are = h.numbers_are; sizes_are = h.sizes_are; end_is = h.end_is; cover_is = h.cover_is; kept = kept_name gs n h.kept }
 
--- what the reader keeps of a step
-abbrev pub kept_step : Step → State → State
-kept_step Closes s = s
-kept_step Passes s = s
-kept_step (Gives f x) s = kept f x s
+pub shuts_is : (i : Item) → shuts (step_right i) ≡ closes i
+shuts_is i = go (closes i) (given_of i)
+  where
+    go : (b : Bool) (o : Option Given) → shuts (if b then Closes else step_given o) ≡ b
+    go true o = refl
+    go false none = refl
+    go false (some (given f d)) = refl
+    go false (some (named t)) = refl
 
 -- the state once a line is read, by what it gives
 pub holds_next : (t : List ℕ) (i : Item) {s : State} {gs : List Given}
@@ -546,12 +549,6 @@ pub known_of : {s : State} {gs : List Given} → Holds s gs → names_follow gs 
 known_of h n = record { marks_are = h.marks_are; numbers_are = h.numbers_are; axes = h.kept.axes; spaces = h.kept.spaces; no_names = n }
 
 -- ---- names follow exactly where the line says LIST
-
--- whether a step says that names follow
-abbrev pub lists : Step → Bool
-lists Closes = false
-lists Passes = false
-lists (Gives f x) = x.list
 
 pub list_after : (version : ℕ) (gs : List Given) (t : List ℕ) (i : Item) → judge version gs t ≡ right i → names_follow gs ≡ false → names_follow (after_item i gs) ≡ lists (step_given (given_of i))
 unfolding names_follow descriptor_of may_describe

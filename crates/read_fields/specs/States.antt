@@ -8,7 +8,7 @@ use Rattle.format.specs.Spaces.{max_space}
 use Rattle.format.specs.Refusals.{bad_descriptor, missing_field, extent_too_large, refusal, fine}
 use Rattle.format.specs.Fields.{Given, given, named, field_count, descriptor_of, is_given, dimension, sizes, data_file, space}
 use Rattle.format.specs.Descriptors.{is_from_end, number_said, number_of, dimension_of, space_size_of, byte_skip_of, sizes_of, may_describe, names_follow, has_needed, end_is_raw, extent_of, cover_of, files_fine}
-use Rattle.format.specs.Header.{Judged, wrong, right, field, given_of, closes, Outcome, refused, accepted, header_length, field_lines}
+use Rattle.format.specs.Header.{Item, Judged, wrong, right, field, given_of, closes, Outcome, refused, accepted, header_length, field_lines}
 use Rattle.format.specs.Calls.{no_reading, padded, reading_at}
 use Rattle.format.specs.DataFiles.{data_file_said}
 use Rattle.format.specs.Laws.{Each}
@@ -72,10 +72,25 @@ step_given none = Passes
 step_given (some (given f d)) = Gives f (said f d)
 step_given (some (named t)) = Passes
 
+abbrev pub step_right : Item → Step
+step_right i = if closes i then Closes else step_given (given_of i)
+
 -- a line's step by what the line was judged to be, or the number of its refusal
 abbrev pub step_of : Judged → Result Step ℕ
 step_of (wrong w) = Err w
-step_of (right i) = Ok (if closes i then Closes else step_given (given_of i))
+step_of (right i) = Ok (step_right i)
+
+-- whether a step closes the header
+abbrev pub shuts : Step → Bool
+shuts Closes = true
+shuts Passes = false
+shuts (Gives f x) = false
+
+-- whether a step says that names follow
+abbrev pub lists : Step → Bool
+lists Closes = false
+lists Passes = false
+lists (Gives f x) = x.list
 
 -- the same of an answer
 abbrev pub numbered : Result Step Reason → Result Step ℕ
@@ -121,6 +136,12 @@ kept f x s =
       from_end = x.from_end || s.from_end;
       cover = cover_kept x.cover s.cover;
     }
+
+-- once a step is kept
+abbrev pub kept_step : Step → State → State
+kept_step Closes s = s
+kept_step Passes s = s
+kept_step (Gives f x) s = kept f x s
 
 -- no field is given
 abbrev pub no_state : ℕ → State

@@ -5,7 +5,7 @@ ghost use Rattle.format.specs.Fields.{Given, is_given, sizes};
 ghost use Rattle.format.specs.Descriptors.{endian_needed, sizes_of, space_size_of, has_needed, end_is_raw, capped, extent_of, file_count_of, is_detached, names_follow};
 ghost use Rattle.format.specs.Reasons.{refusal_number};
 ghost use Rattle.format.specs.Answers.{reading_answered};
-ghost use Rattle.read_fields.specs.States.{flags, numbers_of, Holds, no_state, kept, complete_number, finished};
+ghost use Rattle.read_fields.specs.States.{flags, numbers_of, Holds, no_state, shuts, lists, kept_step, complete_number, finished};
 
 use format::reason::{Reason, Refused};
 use format::{Reading, field};
@@ -30,6 +30,25 @@ pub enum Step {
     Closes,
     Passes,
     Gives(usize, Said),
+}
+
+impl Step {
+    // Whether it closes the header.
+    pub fn closes(self) -> bool
+        ensures { result ≡ shuts self }
+    {
+        matches!(self, Step::Closes)
+    }
+
+    // Whether it says that names follow.
+    pub fn lists(self) -> bool
+        ensures { result ≡ lists self }
+    {
+        match self {
+            Step::Gives(_, said) => said.list,
+            _ => false,
+        }
+    }
 }
 
 // Whether the order of a sample's bytes matters: raw or hex samples of several bytes.
@@ -58,17 +77,19 @@ impl State {
         }
     }
 
-    // Keeps that the field f is given, and what it says; no flag and no number changes for `field::COUNT`.
-    pub fn keep(&mut self, f: usize, said: Said)
-        ensures { self.new ≡ kept f said self.old }
+    // Keeps what a line gives: that the field is given, and what it says; no flag and no number changes past the last field.
+    pub fn keep(&mut self, step: Step)
+        ensures { self.new ≡ kept_step step self.old }
     {
-        if f < field::COUNT {
-            self.given[f] = true;
-            self.numbers[f] = said.number;
-        }
-        self.from_end = said.from_end | self.from_end;
-        if said.cover != 0 {
-            self.cover = said.cover;
+        if let Step::Gives(f, said) = step {
+            if f < field::COUNT {
+                self.given[f] = true;
+                self.numbers[f] = said.number;
+            }
+            self.from_end = said.from_end | self.from_end;
+            if said.cover != 0 {
+                self.cover = said.cover;
+            }
         }
     }
 

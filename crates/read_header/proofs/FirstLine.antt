@@ -3,12 +3,17 @@
 use Prim.Native.Nat.{ℕ, suc, ◌+◌, ◌-◌, ◌≤◌, ◌<◌}
 use native.Mathlib.Nat.{zero-add}
 use native.Mathlib.Omega.{arith}
-use mathlib.Core.Path.{◌≡◌, refl, sym, ◌∙◌}
+use mathlib.Core.Path.{◌≡◌, refl, sym, ap, ◌∙◌}
+use mathlib.Core.Bool.{Bool, true, false}
 use mathlib.Core.List.{List, [], ◌∷◌}
 use mathlib.Core.Option.{Option, none, some}
 use lib.ListN.{length, take, drop}
 use borrow.Author.Tests.{lt-ltb, le-ltb}
-use Rattle.format.specs.Bytes.{or_default}
+use Rattle.std.specs.Prelude.{if◌then◌else◌, Some, None}
+use Rattle.std.specs.Prelude.{Option as Answer}
+use Rattle.std.proofs.lemmas.Option.{none-some}
+use Rattle.format.specs.Bytes.{bytes, same}
+use Rattle.read_header.specs.Listed.{version_told}
 use Rattle.format.specs.Limits.{max_file}
 use Rattle.format.specs.Refusals.{file_too_long, no_magic}
 use Rattle.format.specs.Lines.{Ending, lf, crlf, eof, Line, line, size, lines}
@@ -37,13 +42,35 @@ ended_version t lf h = refl
 ended_version t crlf h = refl
 ended_version t eof h = absurd (h refl)
 
--- the version by its number, 0 for none
-by_number : (l : Line) (v : ℕ) → v ≡ or_default 0 (version_of_line l) → (v ≡ 0 → version_of_line l ≡ none) × ((v ≡ 0 → ⊥) → version_of_line l ≡ some v)
-by_number l v = go (version_of_line l) refl
+-- by the tests in their order
+pub magic_tests : (t : List ℕ)
+    → (if same t (bytes "NRRD0001") then Some 1 else if same t (bytes "NRRD00.01") then Some 1 else if same t (bytes "NRRD0002") then Some 2 else if same t (bytes "NRRD0003") then Some 3 else if same t (bytes "NRRD0004") then Some 4 else if same t (bytes "NRRD0005") then Some 5 else None)
+    ≡ version_told (magic_version t)
+unfolding magic_version
+magic_tests t = go (same t (bytes "NRRD0001")) (same t (bytes "NRRD00.01")) (same t (bytes "NRRD0002")) (same t (bytes "NRRD0003")) (same t (bytes "NRRD0004")) (same t (bytes "NRRD0005"))
   where
-    go : (o : Option ℕ) → version_of_line l ≡ o → v ≡ or_default 0 o → (v ≡ 0 → o ≡ none) × ((v ≡ 0 → ⊥) → o ≡ some v)
-    go none e h = (λ z. refl, λ n. absurd (n h))
-    go (some w) e h = (λ z. absurd (let f : ⊥ = omega (arith, magic_line l e) in f), λ n. rw h)
+    go : (a b c d e f : Bool)
+        → (if a then Some 1 else if b then Some 1 else if c then Some 2 else if d then Some 3 else if e then Some 4 else if f then Some 5 else None)
+        ≡ version_told (if a then some 1 else if b then some 1 else if c then some 2 else if d then some 3 else if e then some 4 else if f then some 5 else none)
+    go true b c d e f = refl
+    go false true c d e f = refl
+    go false false true d e f = refl
+    go false false false true e f = refl
+    go false false false false true f = refl
+    go false false false false false true = refl
+    go false false false false false false = refl
+
+version_none : (o : Option ℕ) → None ≡ version_told o → o ≡ none
+version_none none e = refl
+version_none (some v) e = absurd (none-some v e)
+
+version_some : (o : Option ℕ) (v : ℕ) → Some v ≡ version_told o → o ≡ some v
+version_some none v e = absurd (none-some v (sym e))
+version_some (some w) v e = ap (λ (x : Answer ℕ). some (version_in x)) (sym e)
+  where
+    version_in : Answer ℕ → ℕ
+    version_in None = 0
+    version_in (Some v) = v
 
 -- ---- the answer
 
@@ -82,20 +109,20 @@ module _ (file : List ℕ) where
       pub read_unended : text_end ≡ next → refused_at no_magic 1 ≡ read_header_call file
       read_unended e = no_magic_lem _ _ w.cut (rw (w.unended.0 e))
 
-      module _ (ended : text_end ≡ next → ⊥) (v : ℕ) (is : v ≡ or_default 0 (magic_version (take (text_end - 0) (drop 0 file)))) where
+      module _ (ended : text_end ≡ next → ⊥) where
         l : Line
         l = line (take (text_end - 0) (drop 0 file)) w.ending
 
-        version : (v ≡ 0 → version_of_line l ≡ none) × ((v ≡ 0 → ⊥) → version_of_line l ≡ some v)
+        version : version_of_line l ≡ magic_version (take (text_end - 0) (drop 0 file))
         unfolding l
-        version = by_number l v (rw (ended_version (take (text_end - 0) (drop 0 file)) w.ending (λ x. ended (w.unended.1 x))) is)
+        version = ended_version (take (text_end - 0) (drop 0 file)) w.ending (λ x. ended (w.unended.1 x))
 
-        pub read_other : v ≡ 0 → refused_at no_magic 1 ≡ read_header_call file
+        pub read_other : None ≡ version_told (magic_version (take (text_end - 0) (drop 0 file))) → refused_at no_magic 1 ≡ read_header_call file
         unfolding l
-        read_other z = no_magic_lem l _ w.cut (version.0 z)
+        read_other z = no_magic_lem l _ w.cut (version ∙ version_none _ z)
 
-        pub read_on : (v ≡ 0 → ⊥) → answer_at file v [] 2 next ≡ read_header_call file
+        pub read_on : (v : ℕ) → Some v ≡ version_told (magic_version (take (text_end - 0) (drop 0 file))) → answer_at file v [] 2 next ≡ read_header_call file
         unfolding l
-        read_on z =
+        read_on v z =
             let b : size l ≡ next = rw zero-add at w.bytes in
-            sym (cut_first l _ w.cut ∙ rw (version.1 z, first_answer l v (walk v 2 (size l) [] (lines (drop next file))), b))
+            sym (cut_first l _ w.cut ∙ rw (version ∙ version_some _ v z, first_answer l v (walk v 2 (size l) [] (lines (drop next file))), b))

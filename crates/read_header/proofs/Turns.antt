@@ -20,7 +20,7 @@ use Rattle.format.specs.Pairs.{plain}
 use Rattle.format.specs.Fields.{Given, named, descriptor_of, file_names, data_file}
 use Rattle.format.specs.DataFiles.{is_list}
 use Rattle.format.specs.Descriptors.{meaning, has_needed, end_is_raw, extent_of, files_fine, is_detached, names_follow, list_empty, file_count_of}
-use Rattle.format.specs.Header.{Item, magic, comment, field, pair, file_name, closing, is_file_name, entry, Judged, wrong, right, on_name, judge, Outcome, refused, accepted, with_entry, closes, after_item, complete, on_judged, walk, header_length, before_names, field_lines}
+use Rattle.format.specs.Header.{Item, given_of, magic, comment, field, pair, file_name, closing, is_file_name, entry, Judged, wrong, right, on_name, judge, Outcome, refused, accepted, with_entry, closes, after_item, complete, on_judged, walk, header_length, before_names, field_lines}
 use Rattle.format.specs.Calls.{no_reading, padded, reading_at, read_answer}
 use Rattle.format.proofs.Lines.{lines_none, length_unlines_cons}
 use Rattle.format.proofs.Bytes.{and_right}
@@ -28,11 +28,18 @@ use Rattle.format.proofs.Judged.{is_closing, judge_named, names_still, no_names}
 use Rattle.format.proofs.Header.{walk_sound}
 use Rattle.format.proofs.Named.{name_follows, list_begins}
 use Rattle.format.proofs.Numbered.{Numbered, judge_numbered}
+use Rattle.std.specs.Prelude.{Result, Ok, Err}
+use Rattle.std.specs.Result.{is_err}
+use Rattle.format.specs.declared.reason.Reason.{Reason}
+use Rattle.format.specs.declared.reason.Refused.{Refused}
+use Rattle.format.specs.Reasons.{reason_number, without_line}
+use Rattle.format.specs.Answers.{reading_answered}
+use Rattle.read_fields.specs.declared.state.State.{State}
 use Rattle.read_fields.specs.declared.state.Step.{Step}
-use Rattle.read_fields.specs.States.{flags, numbers_of, Holds, Known, stepped, kept_at, cover_kept, complete_number, finished, answer_from, named_from}
+use Rattle.read_fields.specs.declared.state.Step.TheVariants.{Closes, Passes, Gives}
+use Rattle.read_fields.specs.States.{Holds, Known, step_given, step_right, stepped, with_sizes, sizes_given, kept_step, shuts, lists, no_state, complete_number, finished, answer_from, named_from}
 use Rattle.read_lines.specs.Spans.{LineAt, PastAt}
-use Rattle.read_fields.proofs.States.{given_at, number_at, holds_none, holds_name, holds_next, known_of, list_after}
-use Rattle.read_fields.proofs.Sharing.{last_file}
+use Rattle.read_fields.proofs.States.{shuts_is, holds_none, holds_name, holds_next, known_of, list_after}
 use Rattle.read_header.specs.Listed.{names_ended}
 
 -- ---- answers
@@ -112,15 +119,31 @@ complete_empty : (n : ℕ) (gs : List Given) (ls : List Line) → list_empty gs 
 unfolding complete
 complete_empty n gs ls e = rw e
 
+-- the answer of a refusal
+abbrev pub refused_at : ℕ → ℕ → ReadAnswer
+refused_at w n = read_answer (refused (at_line w n))
+
+-- a refusal for a reason, at a line
+pub refuses : (w : Reason) (n : ℕ) {r : Refused} → r.reason ≡ w → r.line ≡ n → reading_answered (Err r) ≡ refused_at (reason_number w) n
+refuses w n e f = rw (e, f)
+
+pub refuses_file : (w : Reason) {r : Refused} → r ≡ without_line w → reading_answered (Err r) ≡ refused_at (reason_number w) 0
+refuses_file w e = rw e
+
 -- ---- a turn
+
+-- the number of a refusal, and the step
+abbrev number_in : Result Step ℕ → ℕ
+number_in (Ok step) = 0
+number_in (Err v) = v
+
+abbrev step_in : Result Step ℕ → Step
+step_in (Ok step) = step
+step_in (Err v) = Passes
 
 -- the answer from line n on, which starts at `at`, after the fields gs
 abbrev pub answer_at : List ℕ → ℕ → List Given → ℕ → ℕ → ReadAnswer
 answer_at file version gs n at = answer_from version n at (walk version n at gs (lines (drop at file)))
-
--- the answer of a refusal
-abbrev pub refused_at : ℕ → ℕ → ReadAnswer
-refused_at w n = read_answer (refused (at_line w n))
 
 module _ (file : List ℕ) (version : ℕ) (gs : List Given) (n at : ℕ) where
   -- at the end of the bytes
@@ -157,47 +180,48 @@ module _ (file : List ℕ) (version : ℕ) (gs : List Given) (n at : ℕ) where
     unfolding walk t
     judged h j e = rw (w.cut, not_past, le-ltb max_lines n h, e, w.bytes)
 
-    -- a step, by what the line was judged to be
-    module _ (few : n ≤ max_lines) (some : 1 ≤ n) (s : Step) (ns ns' : List ℕ)
-        (is : ◌≡◌ {A = Step × List ℕ} (s, ns') (stepped (judge version gs (take (text_end - at) (drop at file))) ns)) where
-      -- the line is refused
-      pub turn_wrong : (s.wrong ≡ 0 → ⊥) → answer_at file version gs n at ≡ refused_at s.wrong n
-      unfolding t
-      turn_wrong h = go (judge version gs t) refl is
-        where
-          go : (j : Judged) → judge version gs t ≡ j → ◌≡◌ {A = Step × List ℕ} (s, ns') (stepped j ns) → answer_at file version gs n at ≡ refused_at s.wrong n
-          go (wrong v) e q = judged few (wrong v) e ∙ ap (λ (x : Step × List ℕ). refused_at x.0.wrong n) (sym q)
-          go (right i) e q = absurd (h (ap (λ (x : Step × List ℕ). x.0.wrong) q))
+    -- by what the line was judged to be after the fields of the state s, which the judgement leaves as s'
+    module _ (few : n ≤ max_lines) (some : 1 ≤ n) (s s' : State) where
+      abbrev pub Judges : Result Step ℕ → Type 0
+      Judges r = ◌≡◌ {A = Result Step ℕ × State} (r, s') (stepped (judge version gs (take (text_end - at) (drop at file))) s)
 
-      module _ (fine : s.wrong ≡ 0) where
+      -- the line is refused
+      pub turn_wrong : (v : ℕ) → Judges (Err v) → answer_at file version gs n at ≡ refused_at v n
+      unfolding t
+      turn_wrong v is = go (judge version gs t) refl is
+        where
+          go : (j : Judged) → judge version gs t ≡ j → ◌≡◌ {A = Result Step ℕ × State} (Err v, s') (stepped j s) → answer_at file version gs n at ≡ refused_at v n
+          go (wrong u) e q = judged few (wrong u) e ∙ ap (λ (x : Result Step ℕ × State). refused_at (number_in x.0) n) (sym q)
+          go (right i) e q = absurd (false≢true (sym (ap (λ (x : Result Step ℕ × State). is_err x.0) q)))
+
+      module _ (step : Step) (is : Judges (Ok step)) where
         -- the line is right
         pub record Right : Type 0 where
           pub item : Item
           pub is_right : judge version gs (take (text_end - at) (drop at file)) ≡ right item
-          pub stepped_is : ◌≡◌ {A = Step × List ℕ} (s, ns') (stepped (right item) ns)
+          pub step_is : step ≡ step_right item
+          pub state_is : s' ≡ with_sizes s (sizes_given (given_of item) s.sizes)
 
         right_of : Right
         unfolding t
-        right_of = go (judge version gs t) refl is (judge_numbered version gs t)
+        right_of = go (judge version gs t) refl is
           where
-            go : (j : Judged) → judge version gs t ≡ j → ◌≡◌ {A = Step × List ℕ} (s, ns') (stepped j ns) → Numbered j → Right
-            go (wrong v) e q b = absurd (let f : ⊥ = omega (arith, ap (λ (x : Step × List ℕ). x.0.wrong) q) in f)
-            go (right i) e q b = record { item = i; is_right = e; stepped_is = q }
-
-        -- what is kept once it is read
-        kept_after : {marks : List Bool} {numbers : List ℕ} {end : Bool} {cover : ℕ} → Holds marks numbers ns end cover gs
-            → Holds (kept_at s.field true marks) (kept_at s.field s.number numbers) ns' (s.fromend || end) (cover_kept s.cover cover) (after_item right_of.item gs)
-        kept_after {marks} {numbers} {end} {cover} h =
-            subst (λ (x : Step × List ℕ). Holds (kept_at x.0.field true marks) (kept_at x.0.field x.0.number numbers) x.1 (x.0.fromend || end) (cover_kept x.0.cover cover) (after_item right_of.item gs))
-            (sym right_of.stepped_is)
-            (holds_next version (take (text_end - at) (drop at file)) right_of.item h right_of.is_right)
+            go : (j : Judged) → judge version gs t ≡ j → ◌≡◌ {A = Result Step ℕ × State} (Ok step, s') (stepped j s) → Right
+            go (wrong v) e q = absurd (false≢true (ap (λ (x : Result Step ℕ × State). is_err x.0) q))
+            go (right i) e q =
+                record {
+                  item = i;
+                  is_right = e;
+                  step_is = ap (λ (x : Result Step ℕ × State). step_in x.0) q;
+                  state_is = ap (λ (x : Result Step ℕ × State). x.1) q;
+                }
 
         -- the line closes the header
-        pub turn_closes : s.closes ≡ true → list_empty gs ≡ false → answer_at file version gs n at ≡ finished version gs next n n
+        pub turn_closes : shuts step ≡ true → list_empty gs ≡ false → answer_at file version gs n at ≡ finished version gs next n n
         unfolding t
         turn_closes h u =
             let i = right_of.item in
-            let c : closes i ≡ true = ap (λ (x : Step × List ℕ). x.0.closes) (sym right_of.stepped_is) ∙ h in
+            let c : closes i ≡ true = sym (shuts_is i) ∙ ap shuts (sym right_of.step_is) ∙ h in
             let m : n + 1 - 1 ≡ n = omega arith in
             judged few (right i) right_of.is_right
             ∙ rw (
@@ -209,33 +233,40 @@ module _ (file : List ℕ) (version : ℕ) (gs : List Given) (n at : ℕ) where
             )
 
         -- it gives no field
-        pub holds_closed : s.closes ≡ true → {marks : List Bool} {numbers : List ℕ} {end : Bool} {cover : ℕ} → Holds marks numbers ns end cover gs → Holds marks numbers ns' end cover gs
+        pub holds_closed : shuts step ≡ true → Holds s gs → Holds s' gs
         holds_closed h k =
-            let q = right_of.stepped_is in
-            let c = is_closing right_of.item (ap (λ (x : Step × List ℕ). x.0.closes) (sym q) ∙ h) in
-            rw (ap (λ (x : Step × List ℕ). x.1) q, c) k
+            let i = right_of.item in
+            let c = is_closing i (sym (shuts_is i) ∙ ap shuts (sym right_of.step_is) ∙ h) in
+            rw (right_of.state_is, c) k
+
+        -- the version stays
+        pub version_stays : s'.version ≡ s.version
+        version_stays = ap (λ (x : State). x.version) right_of.state_is
 
         -- the header goes on, with the fields gs': names follow exactly where the line says so
-        pub record Next (marks : List Bool) (numbers : List ℕ) (end : Bool) (cover : ℕ) : Type 0 where
+        pub record Next : Type 0 where
           pub gs' : List Given
-          pub holds : Holds (kept_at s.field true marks) (kept_at s.field s.number numbers) ns' (s.fromend || end) (cover_kept s.cover cover) gs'
+          pub holds : Holds (kept_step step s') gs'
           pub answer : answer_at file version gs n at ≡ answer_at file version gs' (n + 1) next
-          pub names : names_follow gs' ≡ s.list
+          pub names : names_follow gs' ≡ lists step
           pub unnamed : file_names gs' ≡ file_names gs
 
-        pub turn_next : s.closes ≡ false → names_follow gs ≡ false → {marks : List Bool} {numbers : List ℕ} {end : Bool} {cover : ℕ} → Holds marks numbers ns end cover gs → Next marks numbers end cover
+        pub turn_next : shuts step ≡ false → names_follow gs ≡ false → s.version ≡ version → Holds s gs → Next
         unfolding t
-        turn_next h u k =
+        turn_next h u v k =
             let i = right_of.item in
-            let c : closes i ≡ false = ap (λ (x : Step × List ℕ). x.0.closes) (sym right_of.stepped_is) ∙ h in
+            let c : closes i ≡ false = sym (shuts_is i) ∙ ap shuts (sym right_of.step_is) ∙ h in
             let f = no_name version gs t u right_of.is_right in
+            let gives : step ≡ step_given (given_of i) = right_of.step_is ∙ rw c in
             record {
               gs' = after_item i gs;
-              holds = kept_after k;
+              holds =
+                  subst (λ x. Holds (kept_step step x) (after_item i gs)) (sym right_of.state_is)
+                  (subst (λ x. Holds (kept_step x (with_sizes s (sizes_given (given_of i) s.sizes))) (after_item i gs)) (sym gives) (holds_next t i k (ap (λ x. judge x gs t) v ∙ right_of.is_right)));
               answer =
                   judged few (right i) right_of.is_right
                   ∙ rw (c, answer_entry version n at (line t w.ending) i (walk version (n + 1) next (after_item i gs) (lines (drop next file))) some f, w.bytes);
-              names = list_after version gs t i right_of.is_right u ∙ ap (λ (x : Step × List ℕ). x.0.list) (sym right_of.stepped_is);
+              names = list_after version gs t i right_of.is_right u ∙ ap lists (sym gives);
               unnamed = names_stay i gs f;
             }
 
@@ -349,10 +380,11 @@ module _ (list : ℕ) (file : List ℕ) (version : ℕ) (gs : List Given) (n at 
 
 -- ---- the loop over the lines after line 1, which ends at `from`
 
--- line n, which starts at `at`, is to be read, with this kept of the fields given, which no names follow: the answer from there on is the whole answer
-pub record Going (file : List ℕ) (version from : ℕ) (marks : List Bool) (numbers ns : List ℕ) (end : Bool) (cover at n : ℕ) : Type 0 where
+-- line n, which starts at `at`, is to be read, after the fields of the state s, which no names follow: the answer from there on is the whole answer
+pub record Going (file : List ℕ) (version from : ℕ) (s : State) (at n : ℕ) : Type 0 where
   pub gs : List Given
-  pub holds : Holds marks numbers ns end cover gs
+  pub holds : Holds s gs
+  pub versioned : s.version ≡ version
   pub no_names : names_follow gs ≡ false
   pub unnamed : file_names gs ≡ []
   pub same : answer_at file version gs n at ≡ answer_at file version [] 2 from
@@ -362,13 +394,13 @@ pub record Going (file : List ℕ) (version from : ℕ) (marks : List Bool) (num
   pub high : n ≤ max_lines + 1
 
 -- the first of those lines
-pub going_start : (file : List ℕ) (version from : ℕ) {marks : List Bool} {numbers ns : List ℕ} → marks ≡ flags [] → numbers ≡ numbers_of [] → ns ≡ padded []
-    → from ≤ length file → from ≤ max_header → Going file version from marks numbers ns false 0 from 2
+pub going_start : (file : List ℕ) (version from : ℕ) {s : State} → s ≡ no_state version → from ≤ length file → from ≤ max_header → Going file version from s from 2
 unfolding file_names
-going_start file version from a b c h k =
+going_start file version from e h k =
     record {
       gs = [];
-      holds = rw (a, b, c) holds_none;
+      holds = rw e (holds_none version);
+      versioned = rw e;
       no_names = no_names;
       unnamed = refl;
       same = refl;
@@ -378,30 +410,17 @@ going_start file version from a b c h k =
       high = omega arith;
     }
 
--- the same by other names
-holds_as : {marks marks' : List Bool} {numbers numbers' ns : List ℕ} {end : Bool} {cover cover' : ℕ} {gs : List Given} → marks' ≡ marks → numbers' ≡ numbers → cover' ≡ cover
-    → Holds marks numbers ns end cover gs → Holds marks' numbers' ns end cover' gs
-holds_as a b c h = rw (a, b, c) h
-
-module _ {file : List ℕ} {version from : ℕ} {marks : List Bool} {numbers ns : List ℕ} {end : Bool} {cover at n : ℕ}
-    (g : Going file version from marks numbers ns end cover at n) where
-  known : Known marks numbers g.gs
-  known = known_of g.holds g.no_names
-
-  -- the flag of data file
-  detached : get_or marks data_file false ≡ is_detached g.gs
-  detached = given_at known data_file (omega arith)
-
-  -- the number of the last file
-  pub going_last : get_or numbers data_file 0 + 1 ≡ file_count_of g.gs
-  going_last = rw (number_at g.holds data_file (omega arith)) (last_file g.gs g.holds.kept g.no_names)
+module _ {file : List ℕ} {version from : ℕ} {s : State} {at n : ℕ} (g : Going file version from s at n) where
+  -- an answer by the state's version is one by the header's
+  by_version : {x : ReadAnswer} (bytes count before : ℕ) → x ≡ finished s.version g.gs bytes count before → x ≡ finished version g.gs bytes count before
+  by_version {x} bytes count before e = e ∙ ap (λ v. finished v g.gs bytes count before) g.versioned
 
   -- at the end of the bytes
-  pub going_end : length file ≤ at → get_or marks data_file false ≡ true → finished version g.gs at (n - 1) (n - 1) ≡ answer_at file version [] 2 from
-  going_end h e = sym (turn_end file version g.gs n at h (sym detached ∙ e) (unlisted g.gs g.no_names)) ∙ g.same
+  pub going_end : {x : ReadAnswer} {there : Bool} → length file ≤ at → there ≡ is_detached g.gs → there ≡ true → x ≡ finished s.version g.gs at (n - 1) (n - 1) → x ≡ answer_at file version [] 2 from
+  going_end h d e x = by_version at (n - 1) (n - 1) x ∙ sym (turn_end file version g.gs n at h (sym d ∙ e) (unlisted g.gs g.no_names)) ∙ g.same
 
-  pub going_no_end : length file ≤ at → get_or marks data_file false ≡ false → refused_at no_end 0 ≡ answer_at file version [] 2 from
-  going_no_end h e = sym (turn_no_end file version g.gs n at h (sym detached ∙ e)) ∙ g.same
+  pub going_no_end : {there : Bool} → length file ≤ at → there ≡ is_detached g.gs → there ≡ false → refused_at no_end 0 ≡ answer_at file version [] 2 from
+  going_no_end h d e = sym (turn_no_end file version g.gs n at h (sym d ∙ e)) ∙ g.same
 
   -- the line ends past the limit
   pub going_past : PastAt file at → refused_at header_too_long n ≡ answer_at file version [] 2 from
@@ -412,76 +431,92 @@ module _ {file : List ℕ} {version from : ℕ} {marks : List Bool} {numbers ns 
     pub going_many : max_lines < n → refused_at too_many_lines n ≡ answer_at file version [] 2 from
     going_many h = sym (turn_many file version g.gs n at text_end next w h) ∙ g.same
 
-    module _ (few : n ≤ max_lines) {s : Step} {ns' : List ℕ}
-        (is : (gs : List Given) → Known marks numbers gs → length (take (text_end - at) (drop at file)) ≤ max_header
-        → ◌≡◌ {A = Step × List ℕ} (s, ns') (stepped (judge version gs (take (text_end - at) (drop at file))) ns)) where
+    module _ (few : n ≤ max_lines) (s' : State) where
+      -- what is answered of the line after any fields of the state
+      abbrev pub Answers : Result Step ℕ → Type 0
+      Answers r =
+          (gs : List Given) → Known s gs → length (take (text_end - at) (drop at file)) ≤ max_header
+          → ◌≡◌ {A = Result Step ℕ × State} (r, s') (stepped (judge s.version gs (take (text_end - at) (drop at file))) s)
+
       past_one : 1 ≤ n
       past_one = omega (arith, g.low)
 
-      here : ◌≡◌ {A = Step × List ℕ} (s, ns') (stepped (judge version g.gs (take (text_end - at) (drop at file))) ns)
-      here = is g.gs known (omega (arith, length-take (text_end - at) (drop at file), w))
+      here : {r : Result Step ℕ} → Answers r → Judges file version g.gs n at text_end next w few past_one s s' r
+      here {r} is =
+          subst (λ v. ◌≡◌ {A = Result Step ℕ × State} (r, s') (stepped (judge v g.gs (take (text_end - at) (drop at file))) s)) g.versioned
+          (is g.gs (known_of g.holds g.no_names) (omega (arith, length-take (text_end - at) (drop at file), w)))
 
       -- the line is refused
-      pub going_wrong : (s.wrong ≡ 0 → ⊥) → refused_at s.wrong n ≡ answer_at file version [] 2 from
-      going_wrong h = sym (turn_wrong file version g.gs n at text_end next w few past_one s ns ns' here h) ∙ g.same
+      pub going_wrong : (v : ℕ) → Answers (Err v) → refused_at v n ≡ answer_at file version [] 2 from
+      going_wrong v is = sym (turn_wrong file version g.gs n at text_end next w few past_one s s' v (here is)) ∙ g.same
 
-      module _ (fine : s.wrong ≡ 0) where
-        -- the line closes the header
-        pub going_closes : s.closes ≡ true → finished version g.gs next n n ≡ answer_at file version [] 2 from
-        going_closes h = sym (turn_closes file version g.gs n at text_end next w few past_one s ns ns' here fine h (unlisted g.gs g.no_names)) ∙ g.same
+      -- the line closes the header
+      module _ (step : Step) (is : Answers (Ok step)) (shut : shuts step ≡ true) where
+        pub going_closed : Holds s' g.gs
+        going_closed = holds_closed file version g.gs n at text_end next w few past_one s s' step (here is) shut g.holds
 
-        pub going_closed : s.closes ≡ true → Holds marks numbers ns' end cover g.gs
-        going_closed h = holds_closed file version g.gs n at text_end next w few past_one s ns ns' here fine h g.holds
+        pub going_closes : {x : ReadAnswer} → x ≡ finished s'.version g.gs next n n → x ≡ answer_at file version [] 2 from
+        going_closes x =
+            let v = version_stays file version g.gs n at text_end next w few past_one s s' step (here is) ∙ g.versioned in
+            x ∙ ap (λ v. finished v g.gs next n n) v ∙ sym (turn_closes file version g.gs n at text_end next w few past_one s s' step (here is) shut (unlisted g.gs g.no_names)) ∙ g.same
 
-        -- the header goes on: its lines, or names under LIST
-        module _ (more : s.closes ≡ false) {marks' : List Bool} {numbers' : List ℕ} {cover' : ℕ}
-            (a : marks' ≡ kept_at s.field true marks) (b : numbers' ≡ kept_at s.field s.number numbers) (c : cover' ≡ cover_kept s.cover cover) where
-          on : Next file version g.gs n at text_end next w few past_one s ns ns' here fine marks numbers end cover
-          on = turn_next file version g.gs n at text_end next w few past_one s ns ns' here fine more g.no_names g.holds
+      -- the header goes on: its lines, or names under LIST
+      module _ (step : Step) (is : Answers (Ok step)) (more : shuts step ≡ false) {after : State} (kept : after ≡ kept_step step s') where
+        on : Next file version g.gs n at text_end next w few past_one s s' step (here is)
+        on = turn_next file version g.gs n at text_end next w few past_one s s' step (here is) more g.no_names g.versioned g.holds
 
-          pub going_next : s.list ≡ false → Going file version from marks' numbers' ns' (s.fromend || end) cover' next (n + 1)
-          going_next l =
-              record {
-                gs = on.gs';
-                holds = holds_as a b c on.holds;
-                no_names = on.names ∙ l;
-                unnamed = on.unnamed ∙ g.unnamed;
-                same = sym on.answer ∙ g.same;
-                within = w.within;
-                short = w.short;
-                low = omega (arith, g.low);
-                high = omega arith;
-              }
+        version_on : after.version ≡ version
+        version_on = ap (λ (x : State). x.version) kept ∙ go step ∙ version_stays file version g.gs n at text_end next w few past_one s s' step (here is) ∙ g.versioned
+          where
+            go : (step : Step) → (kept_step step s').version ≡ s'.version
+            go Closes = refl
+            go Passes = refl
+            go (Gives f x) = refl
 
-          -- by what is answered of the lines under LIST
-          pub going_list : s.list ≡ true → {x : ReadAnswer}
-              → ((gs : List Given) → Holds marks' numbers' ns' (s.fromend || end) cover' gs → names_follow gs ≡ true → file_names gs ≡ [] → x ≡ named_at n file version gs (n + 1) next)
-              → x ≡ answer_at file version [] 2 from
-          going_list l x =
-              let f = on.names ∙ l in
-              let z = on.unnamed ∙ g.unnamed in
-              x on.gs' (holds_as a b c on.holds) f z ∙ sym (list_answer file version on.gs' n next f z w.short few) ∙ sym on.answer ∙ g.same
+        pub going_next : lists step ≡ false → Going file version from after next (n + 1)
+        going_next l =
+            record {
+              gs = on.gs';
+              holds = subst (λ x. Holds x on.gs') (sym kept) on.holds;
+              versioned = version_on;
+              no_names = on.names ∙ l;
+              unnamed = on.unnamed ∙ g.unnamed;
+              same = sym on.answer ∙ g.same;
+              within = w.within;
+              short = w.short;
+              low = omega (arith, g.low);
+              high = omega arith;
+            }
+
+        -- by what is answered of the lines under LIST
+        pub going_list : lists step ≡ true → {x : ReadAnswer}
+            → ((gs : List Given) → Holds after gs → names_follow gs ≡ true → file_names gs ≡ [] → x ≡ named_at n file after.version gs (n + 1) next)
+            → x ≡ answer_at file version [] 2 from
+        going_list l {x} e =
+            let f = on.names ∙ l in
+            let z = on.unnamed ∙ g.unnamed in
+            e on.gs' (subst (λ x. Holds x on.gs') (sym kept) on.holds) f z ∙ ap (λ v. named_at n file v on.gs' (n + 1) next) version_on ∙ sym (list_answer file version on.gs' n next f z w.short few) ∙ sym on.answer ∙ g.same
 
 -- ---- the loop over the lines under LIST, which is line `list` and ends at `from`
 
 -- line n, which starts at `at`, is to be read: the answer from there on, after the names before it, is the whole answer
-pub record Named (file : List ℕ) (version list from : ℕ) (marks : List Bool) (numbers ns : List ℕ) (end : Bool) (cover : ℕ) (gs₀ : List Given) (at n : ℕ) : Type 0 where
+pub record Named (file : List ℕ) (version list from : ℕ) (s : State) (gs₀ : List Given) (at n : ℕ) : Type 0 where
   pub gs : List Given
-  pub holds : Holds marks numbers ns end cover gs
+  pub holds : Holds s gs
   pub follow : names_follow gs ≡ true
   pub many : n - 1 - list ≡ length (file_names gs)
   pub same : named_at list file version gs n at ≡ named_at list file version gs₀ (list + 1) from
 
 -- whatever fields and names were given before
-pub record Naming (file : List ℕ) (version list from : ℕ) (marks : List Bool) (numbers ns : List ℕ) (end : Bool) (cover at n : ℕ) : Type 0 where
-  pub after : (gs : List Given) → Holds marks numbers ns end cover gs → names_follow gs ≡ true → file_names gs ≡ [] → Named file version list from marks numbers ns end cover gs at n
+pub record Naming (file : List ℕ) (version list from : ℕ) (s : State) (at n : ℕ) : Type 0 where
+  pub after : (gs : List Given) → Holds s gs → names_follow gs ≡ true → file_names gs ≡ [] → Named file version list from s gs at n
   pub within : at ≤ length file
   pub short : at ≤ max_header
   pub low : list + 1 ≤ n
   pub high : n ≤ max_lines + 1
 
-pub naming_start : (file : List ℕ) (version list from : ℕ) {marks : List Bool} {numbers ns : List ℕ} {end : Bool} {cover : ℕ} → from ≤ length file → from ≤ max_header → list ≤ max_lines
-    → Naming file version list from marks numbers ns end cover from (list + 1)
+pub naming_start : (file : List ℕ) (version list from : ℕ) {s : State} → from ≤ length file → from ≤ max_header → list ≤ max_lines
+    → Naming file version list from s from (list + 1)
 naming_start file version list from h k l =
     record {
       after = λ gs p f z. record { gs = gs; holds = p; follow = f; many = rw z (omega arith); same = refl };
@@ -491,9 +526,9 @@ naming_start file version list from h k l =
       high = omega arith;
     }
 
-module _ {file : List ℕ} {version list from : ℕ} {marks : List Bool} {numbers ns : List ℕ} {end : Bool} {cover at n : ℕ}
-    (g : Naming file version list from marks numbers ns end cover at n) {gs₀ : List Given} (p : Holds marks numbers ns end cover gs₀) (f : names_follow gs₀ ≡ true) (z : file_names gs₀ ≡ []) where
-  abbrev pub reached : Named file version list from marks numbers ns end cover gs₀ at n
+module _ {file : List ℕ} {version list from : ℕ} {s : State} {at n : ℕ}
+    (g : Naming file version list from s at n) {gs₀ : List Given} (p : Holds s gs₀) (f : names_follow gs₀ ≡ true) (z : file_names gs₀ ≡ []) where
+  abbrev pub reached : Named file version list from s gs₀ at n
   reached = g.after gs₀ p f z
 
   abbrev pub whole : ReadAnswer
@@ -526,7 +561,7 @@ module _ {file : List ℕ} {version list from : ℕ} {marks : List Bool} {number
       pub naming_bad : (at ≡ text_end → ⊥) → every plain (take (text_end - at) (drop at file)) ≡ false → refused_at bad_byte n ≡ whole
       naming_bad h e = sym (named_bad list file version reached.gs n at reached.follow text_end next w few one h e) ∙ reached.same
 
-      naming_more : (at ≡ text_end → ⊥) → every plain (take (text_end - at) (drop at file)) ≡ true → Named file version list from marks numbers ns end cover gs₀ next (n + 1)
+      naming_more : (at ≡ text_end → ⊥) → every plain (take (text_end - at) (drop at file)) ≡ true → Named file version list from s gs₀ next (n + 1)
       unfolding file_names
       naming_more h e =
           let t = take (text_end - at) (drop at file) in
@@ -538,9 +573,9 @@ module _ {file : List ℕ} {version list from : ℕ} {marks : List Bool} {number
             same = sym (named_next list file version reached.gs n at reached.follow text_end next w few one h e) ∙ reached.same;
           }
 
-pub naming_next : {file : List ℕ} {version list from : ℕ} {marks : List Bool} {numbers ns : List ℕ} {end : Bool} {cover at n : ℕ}
-    → Naming file version list from marks numbers ns end cover at n → {text_end next : ℕ} → LineAt file at text_end next → n ≤ max_lines → (at ≡ text_end → ⊥) → every plain (take (text_end - at) (drop at file)) ≡ true
-    → Naming file version list from marks numbers ns end cover next (n + 1)
+pub naming_next : {file : List ℕ} {version list from : ℕ} {s : State} {at n : ℕ}
+    → Naming file version list from s at n → {text_end next : ℕ} → LineAt file at text_end next → n ≤ max_lines → (at ≡ text_end → ⊥) → every plain (take (text_end - at) (drop at file)) ≡ true
+    → Naming file version list from s next (n + 1)
 naming_next g w few h e =
     record {
       after = λ gs p f z. naming_more g p f z w few h e;

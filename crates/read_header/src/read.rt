@@ -1,7 +1,7 @@
 // The reading of a header: line 1, the lines after it, and the table of lines.
 ghost use Rattle.std.specs.Prelude.{◌≡◌, List, [], true, ℕ, ◌+◌, ◌≤◌, length, drop};
 ghost use Rattle.format.specs.declared.ReadAnswer.{ReadAnswer};
-ghost use Rattle.format.specs.Bytes.{or_default};
+ghost use Rattle.format.specs.Answers.{reading_answered};
 ghost use Rattle.format.specs.Limits.{max_header, max_lines};
 ghost use Rattle.format.specs.Fields.{Given, file_names};
 ghost use Rattle.format.specs.Descriptors.{names_follow};
@@ -9,211 +9,143 @@ ghost use Rattle.format.specs.Lines.{lines};
 ghost use Rattle.format.specs.Header.{magic_version, walk};
 ghost use Rattle.format.specs.Calls.{read_header_call, read_call};
 ghost use Rattle.read_fields.specs.States.{Holds, answer_from, named_from};
-ghost use Rattle.read_header.specs.Listed.{names_ended};
+ghost use Rattle.read_header.specs.Listed.{version_told, names_ended};
 ghost use Rattle.format.specs.EntryPoints.{read_entry};
 ghost use Rattle.read_header.specs.Tables.{read_into};
 ghost use Rattle.format.specs.Room.{Enough, table_entries, table_room};
 
-use format::{ReadAnswer, field};
+use format::reason::{Reason, Refused};
+use format::{ReadAnswer, Reading};
+use read_fields::judge::judge_line;
+use read_fields::state::{State, Step};
 use read_lines::LineEnds;
 
-// The version of a magic, 0 for any other text.
-fn magic_version(t: &[u8]) -> u32
-    ensures { result ≡ or_default 0 (magic_version t.now) }
+// The version of a magic.
+#[tactic(auto, unfolding(format::specs::Header::magic_version))]
+fn magic_version(t: &[u8]) -> Option<u32>
+    ensures { result ≡ version_told (magic_version t.now) }
 {
-    if read_text::bytes::is_same(t, b"NRRD0001") {
-        return 1;
+    if read_text::bytes::is_same(t, b"NRRD0001") || read_text::bytes::is_same(t, b"NRRD00.01") {
+        Some(1)
+    } else if read_text::bytes::is_same(t, b"NRRD0002") {
+        Some(2)
+    } else if read_text::bytes::is_same(t, b"NRRD0003") {
+        Some(3)
+    } else if read_text::bytes::is_same(t, b"NRRD0004") {
+        Some(4)
+    } else if read_text::bytes::is_same(t, b"NRRD0005") {
+        Some(5)
+    } else {
+        None
     }
-    if read_text::bytes::is_same(t, b"NRRD00.01") {
-        return 1;
-    }
-    if read_text::bytes::is_same(t, b"NRRD0002") {
-        return 2;
-    }
-    if read_text::bytes::is_same(t, b"NRRD0003") {
-        return 3;
-    }
-    if read_text::bytes::is_same(t, b"NRRD0004") {
-        return 4;
-    }
-    if read_text::bytes::is_same(t, b"NRRD0005") {
-        return 5;
-    }
-    0
 }
 
 // The end of a header under LIST, which is line `list`, after so many names: 11 at LIST's line where there are none.
 fn end_names(
-    version: u32,
-    given: &[bool; field::COUNT],
-    numbers: &[u32; field::COUNT],
-    sizes: [u64; format::AXES],
-    fromend: bool,
-    cover: u32,
+    state: &State,
     names: u32,
     bytes: usize,
-    count: u32,
+    lines: u32,
     list: u32,
-) -> ReadAnswer
-    ensures { (gs : List Given) → Holds given.now numbers.now sizes fromend cover gs → names_follow gs ≡ true → names ≡ length (file_names gs) → result ≡ names_ended list version gs bytes count }
+) -> Result<Reading, Refused>
+    ensures { (gs : List Given) → Holds state.now gs → names_follow gs ≡ true → names ≡ length (file_names gs) → reading_answered result ≡ names_ended list state.now.version gs bytes lines }
 {
     if names == 0 {
-        return read_fields::state::refuse(format::BAD_DESCRIPTOR, list);
+        return Err(Reason::BadDescriptor.at_line(list));
     }
-    read_fields::state::finish(
-        version,
-        given,
-        numbers,
-        sizes,
-        fromend,
-        cover,
-        names - 1,
-        bytes,
-        count,
-        list,
-    )
+    state.finish(names - 1, bytes, lines, list)
 }
 
 // The lines under LIST, which is line `list` and ends at `from`: names, whatever they look like, up to an empty line or the end of the bytes.
-fn read_names(
-    file: &[u8],
-    from: usize,
-    version: u32,
-    given: &[bool; field::COUNT],
-    numbers: &[u32; field::COUNT],
-    sizes: [u64; format::AXES],
-    fromend: bool,
-    cover: u32,
-    list: u32,
-) -> ReadAnswer
+fn read_names(file: &[u8], from: usize, state: &State, list: u32) -> Result<Reading, Refused>
     requires { (from ≤ length file.now) × (from ≤ max_header) × (2 ≤ list) × (list ≤ max_lines) }
-    ensures { (gs : List Given) → Holds given.now numbers.now sizes fromend cover gs → names_follow gs ≡ true → file_names gs ≡ [] → result ≡ named_from list version (list + 1) from (walk version (list + 1) from gs (lines (drop from file.now))) }
+    ensures { (gs : List Given) → Holds state.now gs → names_follow gs ≡ true → file_names gs ≡ [] → reading_answered result ≡ named_from list state.now.version (list + 1) from (walk state.now.version (list + 1) from gs (lines (drop from file.now))) }
 {
     let mut at = from;
     let mut n: u32 = list + 1;
     while at < file.len() {
-        match read_lines::line_at(file, at) {
-            None => {
-                return read_fields::state::refuse(format::HEADER_TOO_LONG, n);
-            }
-            Some(LineEnds { text_end, next }) => {
-                if format::MAX_LINES < n {
-                    return read_fields::state::refuse(format::TOO_MANY_LINES, n);
-                }
-                if at == text_end {
-                    let names = n - 1 - list;
-                    return end_names(
-                        version, given, numbers, sizes, fromend, cover, names, next, n, list,
-                    );
-                }
-                if !read_text::bytes::is_plain(&file[at..text_end]) {
-                    return read_fields::state::refuse(format::BAD_BYTE, n);
-                }
-                at = next;
-                n += 1;
-            }
+        let Some(LineEnds { text_end, next }) = read_lines::line_at(file, at) else {
+            return Err(Reason::HeaderTooLong.at_line(n));
+        };
+        if format::MAX_LINES < n {
+            return Err(Reason::TooManyLines.at_line(n));
         }
+        if at == text_end {
+            return end_names(state, n - 1 - list, next, n, list);
+        }
+        if !read_text::bytes::is_plain(&file[at..text_end]) {
+            return Err(Reason::BadByte.at_line(n));
+        }
+        at = next;
+        n += 1;
     }
-    let names = n - 1 - list;
-    end_names(
-        version,
-        given,
-        numbers,
-        sizes,
-        fromend,
-        cover,
-        names,
-        at,
-        n - 1,
-        list,
-    )
+    end_names(state, n - 1 - list, at, n - 1, list)
 }
 
 // The lines after line 1, which ends at `from`.
-fn read_lines(file: &[u8], from: usize, version: u32) -> ReadAnswer
+fn read_lines(file: &[u8], from: usize, version: u32) -> Result<Reading, Refused>
     requires { (from ≤ length file.now) × (from ≤ max_header) }
-    ensures { result ≡ answer_from version 2 from (walk version 2 from [] (lines (drop from file.now))) }
+    ensures { reading_answered result ≡ answer_from version 2 from (walk version 2 from [] (lines (drop from file.now))) }
 {
-    let mut given = read_fields::state::no_flags();
-    let mut numbers = read_fields::state::no_numbers();
-    let mut sizes = read_fields::state::no_sizes();
-    let mut fromend = false;
-    let mut cover: u32 = 0;
+    let mut state = State::new(version);
     let mut at = from;
     let mut n: u32 = 2;
     while at < file.len() {
-        match read_lines::line_at(file, at) {
-            None => {
-                return read_fields::state::refuse(format::HEADER_TOO_LONG, n);
-            }
-            Some(LineEnds { text_end, next }) => {
-                if format::MAX_LINES < n { // told before what the line says
-                    return read_fields::state::refuse(format::TOO_MANY_LINES, n);
-                }
-                let step = read_fields::judge::judge_line(
-                    version,
-                    &given,
-                    &numbers,
-                    &file[at..text_end],
-                    &mut sizes,
-                );
-                if step.wrong != 0 {
-                    return read_fields::state::refuse(step.wrong, n);
-                }
-                if step.closes {
-                    let last = numbers[field::DATA_FILE];
-                    return read_fields::state::finish(
-                        version, &given, &numbers, sizes, fromend, cover, last, next, n, n,
-                    );
-                }
-                read_fields::state::keep(&mut given, &mut numbers, step.field, step.number);
-                fromend = step.fromend | fromend;
-                cover = read_fields::state::keep_cover(step.cover, cover);
-                at = next;
-                if step.list {
-                    return read_names(
-                        file, at, version, &given, &numbers, sizes, fromend, cover, n,
-                    );
-                }
-                n += 1;
-            }
+        let Some(LineEnds { text_end, next }) = read_lines::line_at(file, at) else {
+            return Err(Reason::HeaderTooLong.at_line(n));
+        };
+        if format::MAX_LINES < n { // told before what the line says
+            return Err(Reason::TooManyLines.at_line(n));
         }
+        let step = match judge_line(&file[at..text_end], &mut state) {
+            Ok(step) => step,
+            Err(reason) => return Err(reason.at_line(n)),
+        };
+        if step.closes() {
+            return state.finish(state.last_file(), next, n, n);
+        }
+        state.keep(step);
+        if step.lists() {
+            return read_names(file, next, &state, n);
+        }
+        at = next;
+        n += 1;
     }
-    if given[field::DATA_FILE] {
-        let last = numbers[field::DATA_FILE];
+    if state.is_detached() {
         let count = n - 1;
-        return read_fields::state::finish(
-            version, &given, &numbers, sizes, fromend, cover, last, at, count, count,
-        );
+        return state.finish(state.last_file(), at, count, count);
     }
-    read_fields::state::refuse(format::NO_END, 0)
+    Err(Reason::NoEnd.into())
+}
+
+// The reading of a file's header, or why it is refused.
+pub fn reading(file: &[u8]) -> Result<Reading, Refused>
+    ensures { reading_answered result ≡ read_header_call file.now }
+{
+    if format::MAX_FILE < file.len() {
+        return Err(Reason::FileTooLong.into());
+    }
+    let no_magic = Reason::NoMagic.at_line(1);
+    if file.is_empty() {
+        return Err(no_magic);
+    }
+    let Some(LineEnds { text_end, next }) = read_lines::line_at(file, 0) else {
+        return Err(no_magic);
+    };
+    if text_end == next {
+        return Err(no_magic);
+    }
+    let Some(version) = magic_version(&file[0..text_end]) else {
+        return Err(no_magic);
+    };
+    read_lines(file, next, version)
 }
 
 // The reading of a file's header, without the table.
 pub fn read_header(file: &[u8]) -> ReadAnswer
     ensures { result ≡ read_header_call file.now }
 {
-    if format::MAX_FILE < file.len() {
-        return read_fields::state::refuse(format::FILE_TOO_LONG, 0);
-    }
-    if file.len() == 0 {
-        return read_fields::state::refuse(format::NO_MAGIC, 1);
-    }
-    match read_lines::line_at(file, 0) {
-        None => {
-            return read_fields::state::refuse(format::NO_MAGIC, 1);
-        }
-        Some(LineEnds { text_end, next }) => {
-            if text_end == next {
-                return read_fields::state::refuse(format::NO_MAGIC, 1);
-            }
-            let version = magic_version(&file[0..text_end]);
-            if version == 0 {
-                return read_fields::state::refuse(format::NO_MAGIC, 1);
-            }
-            return read_lines(file, next, version);
-        }
-    }
+    reading(file).into()
 }
 
 // The reading of a file's header, and where each of its lines starts, at the front of a table that is lent as a list or as bytes.
@@ -226,7 +158,7 @@ fn read_into(file: &[u8], list: &mut [u32], bytes: &mut [u8], width: usize) -> R
     }
     let count = answer.reading.lines as usize;
     if read_table::entries(list, bytes, width) < count {
-        return read_fields::state::refuse(format::LENT_TOO_SHORT, 0);
+        return Err(Refused::from(Reason::LentTooShort)).into();
     }
     read_table::fill(file, list, bytes, width, count);
     answer

@@ -5,6 +5,7 @@ use mathlib.Core.Path.{◌∙◌}
 use Rattle.format.proofs.Samples.{all_bytes}
 use Rattle.read_table.specs.Tables.{lent_entries}
 use Rattle.read_table.proofs.Lent.{holds_none}
+use Rattle.read_header.proofs.Turns.{refuses_file}
 use Rattle.read_header.proofs.Calls.{call_refused, call_short, call_lined, call_filled, call_into}
 use Rattle.read_header.proofs.read.read_into.Goals as goal
 
@@ -22,7 +23,7 @@ returns-then-entries-count c =
     let bytes = all_bytes a.bytes.now (λ i. search rules) in
     let table = lent_entries a.width a.list.now a.bytes.now in
     call_into a.width a.file.now a.list.now a.bytes.now
-    ((λ i. (c.refuse.ensures i, table)) ∙ call_short a.file.now table c.read_header-answer.result c.read_header-answer.ensures c.if-answer-ne0.false (omega (arith, c.entries.ensures, c.if-entries-count.true)))
+    ((λ i. ((c.into.ensures ∙ refuses_file _ c.from.ensures) i, table)) ∙ call_short a.file.now table c.read_header-answer.result c.read_header-answer.ensures c.if-answer-ne0.false (omega (arith, c.entries.ensures, c.if-entries-count.true)))
     (holds_none a.width a.list.now a.bytes.now bytes)
 
 pub fill-requires : goal.fill-requires

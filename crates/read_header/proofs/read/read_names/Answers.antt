@@ -1,18 +1,18 @@
 -- `read::read_names` meets its contract: the answer from the line at `at` on, after the names before it, is the whole answer.
-use native.Mathlib.Omega.{arith}
-use mathlib.Core.Path.{sym, ◌∙◌}
-use Rattle.read_header.proofs.Turns.{reached, naming_start, naming_end, naming_past, naming_many, naming_closes, naming_bad, naming_next}
+use Rattle.std.proofs.Common.{sym, ◌∙◌, arith}
+use Rattle.read_header.proofs.Turns.{refuses, reached, naming_start, naming_end, naming_past, naming_many, naming_closes, naming_bad, naming_next}
 use Rattle.read_header.proofs.read.read_names.Goals as goal
 
 pub loop-at-init : goal.loop-at-init
-loop-at-init c =
-    naming_start c.args.file.now c.args.version c.args.list c.args.from c.requires.0 c.requires.1 c.requires.3
+loop-at-init c = naming_start c.args.file.now c.args.state.now.version c.args.list c.args.from c.requires.0 c.requires.1 c.requires.3
 
-pub returns-in-None : goal.returns-in-None
-returns-in-None c gs p f z = c.refuse.ensures ∙ naming_past c.loop-at.invariant p f z c.in-None.ensures
+pub returns-in_default : goal.returns-in_default
+returns-in_default c gs p f z = refuses _ _ c.at_line.ensures.reason c.at_line.ensures.line ∙ naming_past c.loop-at.invariant p f z c.in_default.ensures
 
 pub returns-then-n-gt-MAX_LINES : goal.returns-then-n-gt-MAX_LINES
-returns-then-n-gt-MAX_LINES c gs p f z = c.refuse-then-n-gt-MAX_LINES.ensures ∙ naming_many c.loop-at.invariant p f z c.in-Some.ensures c.if-n-gt-MAX_LINES.true
+returns-then-n-gt-MAX_LINES c gs p f z =
+    let r = c.at_line-then-n-gt-MAX_LINES in
+    refuses _ _ r.ensures.reason r.ensures.line ∙ naming_many c.loop-at.invariant p f z c.in-Some.ensures c.if-n-gt-MAX_LINES.true
 
 pub returns-then-at-text_end : goal.returns-then-at-text_end
 returns-then-at-text_end c gs p f z =
@@ -20,21 +20,11 @@ returns-then-at-text_end c gs p f z =
     let x = reached g p f z in
     c.end_names.ensures x.gs x.holds x.follow x.many ∙ naming_closes g p f z c.in-Some.ensures c.if-n-gt-MAX_LINES.false c.if-at-text_end.true
 
-pub slice_bounds-is_plain-count : goal.slice_bounds-is_plain-count
-slice_bounds-is_plain-count c = c.in-Some.ensures.from
-
-pub slice_bounds-is_plain-start : goal.slice_bounds-is_plain-start
-slice_bounds-is_plain-start c = c.in-Some.ensures.from
-
-pub slice_bounds-is_plain-end : goal.slice_bounds-is_plain-end
-slice_bounds-is_plain-end c = omega (arith, c.in-Some.ensures)
-
 pub returns-then-not-is_plain : goal.returns-then-not-is_plain
 returns-then-not-is_plain c gs p f z =
-    c.refuse-then-not-is_plain.ensures ∙ naming_bad c.loop-at.invariant p f z c.in-Some.ensures c.if-n-gt-MAX_LINES.false c.if-at-text_end.false (sym c.is_plain.ensures ∙ c.if-not-is_plain.true)
-
-pub loop-at-smaller : goal.loop-at-smaller
-loop-at-smaller c = omega (arith, c.in-Some.ensures)
+    let r = c.at_line-then-not-is_plain in
+    refuses _ _ r.ensures.reason r.ensures.line
+    ∙ naming_bad c.loop-at.invariant p f z c.in-Some.ensures c.if-n-gt-MAX_LINES.false c.if-at-text_end.false (sym c.is_plain.ensures ∙ c.if-not-is_plain.true)
 
 pub loop-at-preserved : goal.loop-at-preserved
 loop-at-preserved c = naming_next c.loop-at.invariant c.in-Some.ensures c.if-n-gt-MAX_LINES.false c.if-at-text_end.false (sym c.is_plain.ensures ∙ c.if-not-is_plain.false)
