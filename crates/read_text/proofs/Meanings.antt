@@ -14,33 +14,26 @@ use lib.Seq.{sets, sets-eq}
 use borrow.Author.Tests.{eqb-true, eqb-false, eq-eqb, ne_eqb}
 use Rattle.format.specs.Bytes.{same, is_some, onto, over, LF, BACKSLASH}
 use Rattle.format.specs.Pairs.{unescape_from, unescape}
-use Rattle.read_text.specs.Meanings.{means_key, meant_from, meant, First}
+use Rattle.read_text.specs.Meanings.{means_key, meant_from, meant, First, NoFirst}
+use Rattle.read_text.specs.declared.escapes.Meant.{Meant}
 use Rattle.read_text.proofs.Places.{drop_next}
 
 -- ---- the first byte that a text means from a place on
 
 module _ (s : List ℕ) (at : ℕ) (h : at < length s) where
   -- a byte that is no backslash means itself
-  pub first_plain : (get_or s at 0 ≡ BACKSLASH → ⊥) → First s at (get_or s at 0) 1
+  pub first_plain : (get_or s at 0 ≡ BACKSLASH → ⊥) → First s at record { byte = get_or s at 0; width = 1 }
   unfolding unescape_from meant_from
-  first_plain n = record {
-    within = omega arith;
-    bad = λ e. absurd (omega arith);
-    ends = λ e. absurd (omega arith);
-    good = λ e. rw (drop_next s at h, ne_eqb (get_or s at 0) BACKSLASH n);
-    next = λ e. rw (drop_next s at h, ne_eqb (get_or s at 0) BACKSLASH n);
-  }
+  first_plain n =
+      let e = ne_eqb (get_or s at 0) BACKSLASH n in
+      record { within = omega arith; wide = omega arith; good = rw (drop_next s at h, e); next = rw (drop_next s at h, e) }
 
   -- a backslash at the end means nothing
-  pub first_last : get_or s at 0 ≡ BACKSLASH → length s - at < 2 → First s at 0 0
+  pub first_last : get_or s at 0 ≡ BACKSLASH → length s - at < 2 → NoFirst s at
   unfolding unescape_from meant_from
-  first_last e l = record {
-    within = omega arith;
-    bad = λ _. rw (drop_next s at h, drop_of_length-le s {i = at + 1} (omega arith), e);
-    ends = λ _. rw (drop_next s at h, drop_of_length-le s {i = at + 1} (omega arith), e);
-    good = λ n. absurd (n refl);
-    next = λ n. absurd (n refl);
-  }
+  first_last e l =
+      let d = drop_of_length-le s {i = at + 1} (omega arith) in
+      record { bad = rw (drop_next s at h, d, e); ends = rw (drop_next s at h, d, e) }
 
   module _ (e : get_or s at 0 ≡ BACKSLASH) (more : 2 ≤ length s - at) where
     two : drop at s ≡ BACKSLASH ∷ get_or s (at + 1) 0 ∷ drop (at + 2) s
@@ -48,36 +41,21 @@ module _ (s : List ℕ) (at : ℕ) (h : at < length s) where
         let n : at + 1 + 1 ≡ at + 2 = omega arith in
         drop_next s at h ∙ rw (drop_next s (at + 1) (omega arith), e, n)
 
-    pub first_newline : get_or s (at + 1) 0 ≡ 110 → First s at LF 2
+    pub first_newline : get_or s (at + 1) 0 ≡ 110 → First s at record { byte = LF; width = 2 }
     unfolding unescape_from meant_from
-    first_newline f = record {
-      within = omega arith;
-      bad = λ n. absurd (omega arith);
-      ends = λ n. absurd (omega arith);
-      good = λ n. rw (two, f);
-      next = λ n. rw (two, f);
-    }
+    first_newline f = record { within = omega arith; wide = omega arith; good = rw (two, f); next = rw (two, f) }
 
-    pub first_backslash : get_or s (at + 1) 0 ≡ BACKSLASH → First s at BACKSLASH 2
+    pub first_backslash : get_or s (at + 1) 0 ≡ BACKSLASH → First s at record { byte = BACKSLASH; width = 2 }
     unfolding unescape_from meant_from
-    first_backslash f = record {
-      within = omega arith;
-      bad = λ n. absurd (omega arith);
-      ends = λ n. absurd (omega arith);
-      good = λ n. rw (two, f);
-      next = λ n. rw (two, f);
-    }
+    first_backslash f = record { within = omega arith; wide = omega arith; good = rw (two, f); next = rw (two, f) }
 
     -- before any other byte a backslash means nothing
-    pub first_other : (get_or s (at + 1) 0 ≡ 110 → ⊥) → (get_or s (at + 1) 0 ≡ BACKSLASH → ⊥) → First s at 0 0
+    pub first_other : (get_or s (at + 1) 0 ≡ 110 → ⊥) → (get_or s (at + 1) 0 ≡ BACKSLASH → ⊥) → NoFirst s at
     unfolding unescape_from meant_from
-    first_other f g = record {
-      within = omega arith;
-      bad = λ n. rw (two, ne_eqb (get_or s (at + 1) 0) 110 f, ne_eqb (get_or s (at + 1) 0) BACKSLASH g);
-      ends = λ n. rw (two, ne_eqb (get_or s (at + 1) 0) 110 f, ne_eqb (get_or s (at + 1) 0) BACKSLASH g);
-      good = λ n. absurd (n refl);
-      next = λ n. absurd (n refl);
-    }
+    first_other f g =
+        let a = ne_eqb (get_or s (at + 1) 0) 110 f in
+        let b = ne_eqb (get_or s (at + 1) 0) BACKSLASH g in
+        record { bad = rw (two, a, b); ends = rw (two, a, b) }
 
 -- nothing is left past the end, and it means nothing more
 pub nothing_left : (s : List ℕ) (i : ℕ) → length s ≤ i → unescape (drop i s) ≡ some []
@@ -106,24 +84,24 @@ module _ (key : List ℕ) (k b : ℕ) where
   onto_next none h e = refl
   onto_next (some t) h e = rw (drop_next key k h, eq-eqb (get_or key k 0) b e)
 
-module _ {s : List ℕ} {at b w : ℕ} (f : First s at b w) (n : w ≡ 0 → ⊥) where
+module _ {s : List ℕ} {at : ℕ} {m : Meant} (f : First s at m) where
   -- what follows it means something if and only if the text does
-  pub some_next : is_some (unescape (drop at s)) ≡ is_some (unescape (drop (at + w) s))
-  some_next = ap is_some (f.good n) ∙ some_onto b (unescape (drop (at + w) s))
+  pub some_next : is_some (unescape (drop at s)) ≡ is_some (unescape (drop (at + m.width) s))
+  some_next = ap is_some f.good ∙ some_onto m.byte (unescape (drop (at + m.width) s))
 
   -- of a key k bytes are passed: the key is at its end
   pub means_more : (key : List ℕ) (k : ℕ) → length key ≤ k → means_key (drop k key) (unescape (drop at s)) ≡ false
-  means_more key k h = ap (means_key (drop k key)) (f.good n) ∙ onto_more key k b (unescape (drop (at + w) s)) h
+  means_more key k h = ap (means_key (drop k key)) f.good ∙ onto_more key k m.byte (unescape (drop (at + m.width) s)) h
 
   -- the key has another byte there
-  pub means_other : (key : List ℕ) (k : ℕ) → k < length key → (get_or key k 0 ≡ b → ⊥)
+  pub means_other : (key : List ℕ) (k : ℕ) → k < length key → (get_or key k 0 ≡ m.byte → ⊥)
       → means_key (drop k key) (unescape (drop at s)) ≡ false
-  means_other key k h d = ap (means_key (drop k key)) (f.good n) ∙ onto_other key k b (unescape (drop (at + w) s)) h d
+  means_other key k h d = ap (means_key (drop k key)) f.good ∙ onto_other key k m.byte (unescape (drop (at + m.width) s)) h d
 
   -- the key has that byte there
-  pub means_next : (key : List ℕ) (k : ℕ) → k < length key → get_or key k 0 ≡ b
-      → means_key (drop k key) (unescape (drop at s)) ≡ means_key (drop (k + 1) key) (unescape (drop (at + w) s))
-  means_next key k h e = ap (means_key (drop k key)) (f.good n) ∙ onto_next key k b (unescape (drop (at + w) s)) h e
+  pub means_next : (key : List ℕ) (k : ℕ) → k < length key → get_or key k 0 ≡ m.byte
+      → means_key (drop k key) (unescape (drop at s)) ≡ means_key (drop (k + 1) key) (unescape (drop (at + m.width) s))
+  means_next key k h e = ap (means_key (drop k key)) f.good ∙ onto_next key k m.byte (unescape (drop (at + m.width) s)) h e
 
 -- the text is at its end: it means the key if all of the key is passed
 pub means_end : (key : List ℕ) (k : ℕ) → k ≤ length key → means_key (drop k key) (some []) ≡ eqb k (length key)

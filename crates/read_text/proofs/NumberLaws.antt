@@ -9,11 +9,12 @@ use mathlib.Core.Path.{◌≡◌, refl, sym, ap, ◌∙◌}
 use mathlib.Core.Bool.{Bool, true, false, ◌&&◌}
 use mathlib.Core.List.{List, [], ◌∷◌, ◌++◌, map}
 use mathlib.Core.Option.{Option, none, some}
+use Rattle.std.specs.Option.{unwrap_or}
 use lib.Dec.{eqb, leb}
 use lib.ListN.{length, take, drop, get_or, set, replicate, drop_of_length-le, length-drop, length-replicate, length-map, replicate-append-replicate}
 use lib.Seq.{take_all, drop-drop, drop_at, sets, sets-eq}
-use borrow.Author.Tests.{leb-true, leb-false, eqb-true, eq-eqb, ne_eqb, le-leb, lt-leb}
-use Rattle.format.specs.Bytes.{space_or_tab, is_digit, or_default, SPACE, TAB}
+use borrow.Author.Tests.{leb-true, leb-false, eqb-true, eqb-false, ne_eqb, le-leb, lt-leb}
+use Rattle.format.specs.Bytes.{space_or_tab, is_digit, or_default}
 use Rattle.format.specs.Limits.{max_axes, max_size}
 use Rattle.format.specs.Descriptors.{sizes_fine}
 use Rattle.format.specs.Words.{digits_from, number, join_first, parts, not_empty, words, within, numbers_in, value_of_number}
@@ -44,32 +45,27 @@ cut n s = go (leb n max_size) refl
     go false e = above n s (leb-false n max_size e) ∙ sym (above (min n past_size) s (omega (arith, leb-false)))
 
 -- the empty text is no number, and any other is what its digits write
-pub number_empty : (s : List ℕ) → length s ≡ 0 → number s ≡ none
+pub number_empty : (s : List ℕ) → eqb (length s) 0 ≡ true → number s ≡ none
 unfolding number
 number_empty [] h = refl
-number_empty (b ∷ s) h = absurd (omega arith)
+number_empty (b ∷ s) h = let k = eqb-true (suc (length s)) 0 h in absurd (omega arith)
 
-pub number_digits : (s : List ℕ) → (length s ≡ 0 → ⊥) → number s ≡ digits_from 0 s
+pub number_digits : (s : List ℕ) → eqb (length s) 0 ≡ false → number s ≡ digits_from 0 s
 unfolding number
-number_digits [] h = absurd (h refl)
+number_digits [] h = absurd (eqb-false 0 0 h refl)
 number_digits (b ∷ s) h = refl
 
 module _ (s : List ℕ) (i v : ℕ) where
   -- a byte that is no digit
-  pub digits_low : i < length s → get_or s i 0 < 48 → number_answer (digits_from v (drop i s)) ≡ None
+  pub digits_other : i < length s → is_digit (get_or s i 0) ≡ false → number_answer (digits_from v (drop i s)) ≡ None
   unfolding digits_from
-  digits_low h d = rw (drop_next s i h, lt-leb 48 (get_or s i 0) d)
-
-  pub digits_high : i < length s → 57 < get_or s i 0 → number_answer (digits_from v (drop i s)) ≡ None
-  unfolding digits_from
-  digits_high h d = rw (drop_next s i h, le-leb 48 (get_or s i 0) (omega arith), lt-leb (get_or s i 0) 57 d)
+  digits_other h d = rw (drop_next s i h, d)
 
   -- one digit more
-  pub digits_next : i < length s → 48 ≤ get_or s i 0 → get_or s i 0 ≤ 57
+  pub digits_next : i < length s → is_digit (get_or s i 0) ≡ true
       → number_answer (digits_from v (drop i s)) ≡ number_answer (digits_from (min (v * 10 + (get_or s i 0 - 48)) past_size) (drop (i + 1) s))
   unfolding digits_from
-  digits_next h d e =
-      rw (drop_next s i h, le-leb 48 (get_or s i 0) d, le-leb (get_or s i 0) 57 e) (cut (v * 10 + (get_or s i 0 - 48)) (drop (i + 1) s))
+  digits_next h d = rw (drop_next s i h, d) (cut (v * 10 + (get_or s i 0 - 48)) (drop (i + 1) s))
 
   -- after the last digit
   pub digits_end : length s ≤ i → number_answer (digits_from v (drop i s)) ≡ (if leb v max_size then Some v else None)
@@ -100,22 +96,13 @@ number_wrong (some m) e least most h = go (leb m max_size) refl e
 
 -- ---- a size, which is 0 where the number is none or above the largest
 
--- of an answer with a value it is that value, and of one without it is 0
-pub value_size : (o : Option ℕ) (v : ℕ) → Some v ≡ number_answer o → v ≡ size_answer o
-value_size none v e = cc
-value_size (some n) v e = go (leb n max_size) e
+pub size_is : (o : Option ℕ) → unwrap_or (number_answer o) 0 ≡ size_answer o
+size_is none = refl
+size_is (some n) = go (leb n max_size)
   where
-    go : (x : Bool) → Some v ≡ (if x then Some n else None) → v ≡ (if x then n else 0)
-    go true e = cc
-    go false e = cc
-
-pub wrong_size : (o : Option ℕ) → None ≡ number_answer o → 0 ≡ size_answer o
-wrong_size none e = refl
-wrong_size (some n) e = go (leb n max_size) e
-  where
-    go : (x : Bool) → None ≡ (if x then Some n else None) → 0 ≡ (if x then n else 0)
-    go true e = cc
-    go false e = refl
+    go : (x : Bool) → unwrap_or (if x then Some n else None) 0 ≡ (if x then n else 0)
+    go true = refl
+    go false = refl
 
 -- it is 0 where the number is not from 1 to the largest, and the number itself where it is
 pub size_out : (o : Option ℕ) → size_answer o ≡ 0 → within 1 max_size o ≡ false
@@ -136,26 +123,26 @@ size_in (some n) f = go (leb n max_size) f
 
 -- ---- the first word
 
-module _ (s : List ℕ) (i : ℕ) where
-  -- a space or a tab ends it
-  pub word_at_blank : i < length s → get_or s i 0 ≡ SPACE → length (first_word (drop i s)) ≡ 0
-  unfolding first_word
-  word_at_blank h e = rw (drop_next s i h, eq-eqb (get_or s i 0) SPACE e)
+pub word_ends : (b : ℕ) (s : List ℕ) → space_or_tab b ≡ true → length (first_word (b ∷ s)) ≡ 0
+unfolding first_word
+word_ends b s e = rw e
 
-  pub word_at_tab : i < length s → get_or s i 0 ≡ TAB → length (first_word (drop i s)) ≡ 0
-  unfolding first_word
-  word_at_tab h e = rw (drop_next s i h, e)
+pub word_more : (b : ℕ) (s : List ℕ) → space_or_tab b ≡ false → length (first_word (b ∷ s)) ≡ length (first_word s) + 1
+unfolding first_word
+word_more b s e = rw e (omega arith)
 
-  -- any other byte is of it
-  pub word_next : i < length s → (get_or s i 0 ≡ SPACE → ⊥) → (get_or s i 0 ≡ TAB → ⊥)
-      → length (first_word (drop i s)) ≡ suc (length (first_word (drop (i + 1) s)))
-  unfolding first_word
-  word_next h d e = rw (drop_next s i h, ne_eqb (get_or s i 0) SPACE d, ne_eqb (get_or s i 0) TAB e)
+pub word_empty : length (first_word []) ≡ 0
+unfolding first_word
+word_empty = refl
 
-  -- the end of the text ends it
-  pub word_end : length s ≤ i → length (first_word (drop i s)) ≡ 0
-  unfolding first_word
-  word_end h = rw (drop_of_length-le s h)
+pub first_word_le : (s : List ℕ) → length (first_word s) ≤ length s
+unfolding first_word
+first_word_le [] = omega arith
+first_word_le (b ∷ s) = go (space_or_tab b) (first_word_le s)
+  where
+    go : (x : Bool) → length (first_word s) ≤ length s → length (if x then [] else b ∷ first_word s) ≤ suc (length s)
+    go true h = omega arith
+    go false h = omega arith
 
 -- ---- the words of a text
 

@@ -8,11 +8,13 @@ use native.Mathlib.Omega.{arith}
 use mathlib.Core.Path.{◌≡◌, refl, sym, ap, ◌∙◌, subst}
 use mathlib.Core.Bool.{Bool, true, false, not, ◌&&◌, ◌||◌, and_assoc, and-true, false≢true}
 use mathlib.Core.List.{List, [], ◌∷◌, ◌++◌}
+use Rattle.std.specs.List.{list_all}
+use lib.Pointwise.{pointwise}
 use lib.Dec.{eqb, eqb-zero-suc, eqb-suc-suc}
 use lib.ListN.{length, take, drop, get_or, length-append, length-drop, take-append-drop, drop_of_length-le}
-use lib.Seq.{drop-cons, drop-drop, take-length, length-take-le, take-suc, take_at, drop-append-add}
+use lib.Seq.{take_all, drop-cons, drop-drop, take-length, length-take-le, take_at, drop-append-add}
 use borrow.Author.Tests.{eq-eqb, ne_eqb, eqb-true, eqb-false}
-use Rattle.format.specs.Bytes.{LF, CR, TAB, SPACE, COLON, EQUALS, space_or_tab, every, same, begins_with, is_in}
+use Rattle.format.specs.Bytes.{LF, CR, SPACE, COLON, EQUALS, space_or_tab, every, same, begins_with, is_in}
 use Rattle.format.specs.Lines.{lf, crlf, eof, line, size, extend, lines}
 use Rattle.format.specs.Pairs.{Marked, unmarked, field_mark, pair_mark, more_before, first_mark, mark, LineKind, empty_line, comment_line, other_line, kind_of}
 use Rattle.format.specs.Words.{trim_front, trim_byte, trim_end}
@@ -27,26 +29,30 @@ use Rattle.read_text.specs.Places.{before, without_cr, ending_at, mark_place, ki
 pub drop_next : (s : List ℕ) (i : ℕ) → i < length s → drop i s ≡ get_or s i 0 ∷ drop (i + 1) s
 drop_next s i h = rw add-one (drop-cons s i 0 h)
 
--- ---- `before` by index
+-- ---- `before`, byte by byte
+
+module _ (b : ℕ) where
+  pub before_none : before b [] ≡ 0
+  unfolding before
+  before_none = refl
+
+  pub before_hit : (c : ℕ) (s : List ℕ) → eqb c b ≡ true → before b (c ∷ s) ≡ 0
+  unfolding before
+  before_hit c s e = rw e
+
+  pub before_miss : (c : ℕ) (s : List ℕ) → eqb c b ≡ false → before b (c ∷ s) ≡ before b s + 1
+  unfolding before
+  before_miss c s e = rw e (omega arith)
+
+-- what a slice from a place on holds
+pub suffix_is : (s : List ℕ) (i : ℕ) → take (length s - i) (drop i s) ≡ drop i s
+suffix_is s i = take_all (length s - i) (drop i s) (rw length-drop (omega arith))
 
 module _ (b : ℕ) (s : List ℕ) (k : ℕ) where
-  -- past the end there are no bytes
-  pub before_past : length s ≤ k → before b (drop k s) ≡ 0
-  unfolding before
-  before_past h = rw (drop_of_length-le s h)
-
-  -- b stands at k
-  pub before_here : k < length s → get_or s k 0 ≡ b → before b (drop k s) ≡ 0
-  unfolding before
-  before_here h e = rw (drop_next s k h, eq-eqb _ _ e)
-
-  -- another byte stands at k: by the test, and by the fact
+  -- another byte stands at k
   pub before_test : k < length s → eqb (get_or s k 0) b ≡ false → before b (drop k s) ≡ 1 + before b (drop (k + 1) s)
   unfolding before
   before_test h e = rw (drop_next s k h, e, one-add)
-
-  pub before_on : k < length s → (get_or s k 0 ≡ b → ⊥) → before b (drop k s) ≡ 1 + before b (drop (k + 1) s)
-  before_on h e = before_test h (ne_eqb _ _ e)
 
 neither : (x y : Bool) → (x || y) ≡ false → (x ≡ false) × (y ≡ false)
 neither false y e = (refl, e)
@@ -128,7 +134,7 @@ module _ (p : ℕ → Bool) (s : List ℕ) (i : ℕ) where
   unfolding every
   every_end h = rw (drop_of_length-le s h)
 
-  pub every_next : i < length s → every p (drop i s) ≡ (p (get_or s i 0) && every p (drop (i + 1) s))
+  every_next : i < length s → every p (drop i s) ≡ (p (get_or s i 0) && every p (drop (i + 1) s))
   unfolding every
   every_next h = rw (drop_next s i h)
 
@@ -183,6 +189,26 @@ module _ (p : ℕ → Bool) where
     last_blocks i true m h f = last_block (i + 8) m (h ∙ f)
     last_blocks i false m h f = sym (h ∙ f)
 
+-- ---- tests of whole texts, by what std's calls answer
+
+pub every_is : (p : ℕ → Bool) (s : List ℕ) → list_all p s ≡ every p s
+unfolding every
+every_is p [] = refl
+every_is p (b ∷ s) = ap (λ (r : Bool). p b && r) (every_is p s)
+
+pub same_is : (a b : List ℕ) → pointwise eqb a b ≡ same a b
+unfolding same
+same_is [] [] = refl
+same_is [] (c ∷ t) = refl
+same_is (b ∷ s) [] = refl
+same_is (b ∷ s) (c ∷ t) = ap (λ (r : Bool). eqb b c && r) (same_is s t)
+
+pub begins_is : (front s : List ℕ) → pointwise eqb front (take (length front) s) ≡ begins_with front s
+unfolding begins_with
+begins_is [] s = refl
+begins_is (b ∷ f) [] = refl
+begins_is (b ∷ f) (c ∷ t) = ap (λ (r : Bool). eqb b c && r) (begins_is f t)
+
 -- texts of different lengths are not the same
 pub same_lengths : (a b : List ℕ) → (length a ≡ length b → ⊥) → same a b ≡ false
 unfolding same
@@ -195,19 +221,6 @@ same_lengths (b ∷ s) (c ∷ t) h = go (eqb b c) (same_lengths s t (λ e. h (ap
     go true e = e
     go false e = refl
 
-pub same_end : (a b : List ℕ) (i : ℕ) → length a ≤ i → length b ≤ i → same (drop i a) (drop i b) ≡ true
-unfolding same
-same_end a b i h k = rw (drop_of_length-le a h, drop_of_length-le b k)
-
-module _ (a b : List ℕ) (i : ℕ) (h : i < length a) (k : i < length b) where
-  pub same_on : get_or a i 0 ≡ get_or b i 0 → same (drop i a) (drop i b) ≡ same (drop (i + 1) a) (drop (i + 1) b)
-  unfolding same
-  same_on e = rw (drop_next a i h, drop_next b i k, eq-eqb _ _ e)
-
-  pub same_no : (get_or a i 0 ≡ get_or b i 0 → ⊥) → same (drop i a) (drop i b) ≡ false
-  unfolding same
-  same_no e = rw (drop_next a i h, drop_next b i k, ne_eqb _ _ e)
-
 -- a text does not begin with a longer one
 pub begins_short : (a s : List ℕ) → length s < length a → begins_with a s ≡ false
 unfolding begins_with
@@ -218,19 +231,6 @@ begins_short (b ∷ a) (c ∷ s) h = go (eqb b c) (begins_short a s (le_of_suc-l
     go : (x : Bool) → begins_with a s ≡ false → (x && begins_with a s) ≡ false
     go true e = e
     go false e = refl
-
-pub begins_end : (a s : List ℕ) (i : ℕ) → length a ≤ i → begins_with (drop i a) (drop i s) ≡ true
-unfolding begins_with
-begins_end a s i h = rw (drop_of_length-le a h)
-
-module _ (a s : List ℕ) (i : ℕ) (h : i < length a) (k : i < length s) where
-  pub begins_on : get_or a i 0 ≡ get_or s i 0 → begins_with (drop i a) (drop i s) ≡ begins_with (drop (i + 1) a) (drop (i + 1) s)
-  unfolding begins_with
-  begins_on e = rw (drop_next a i h, drop_next s i k, eq-eqb _ _ e)
-
-  pub begins_no : (get_or a i 0 ≡ get_or s i 0 → ⊥) → begins_with (drop i a) (drop i s) ≡ false
-  unfolding begins_with
-  begins_no e = rw (drop_next a i h, drop_next s i k, ne_eqb _ _ e)
 
 -- ---- `without_cr`
 
@@ -245,27 +245,23 @@ take_without_cr (b ∷ []) = go (eqb b CR)
     go false = refl
 take_without_cr (b ∷ c ∷ s) = ap (λ (t : List ℕ). b ∷ t) (take_without_cr (c ∷ s))
 
--- their number, by the last byte, which stands at k
+-- their number, by the last byte
 pub without_cr_none : (s : List ℕ) → length s ≡ 0 → length (without_cr s) ≡ 0
 unfolding without_cr
 without_cr_none [] h = refl
 without_cr_none (b ∷ s) h = omega arith
 
-pub without_cr_cut : (s : List ℕ) (k : ℕ) → length s ≡ suc k → get_or s k 0 ≡ CR → length (without_cr s) ≡ k
+pub without_cr_cut : (s : List ℕ) (b : ℕ) → b ≡ CR → length (without_cr (s ++ b ∷ [])) ≡ length s
 unfolding without_cr
-without_cr_cut [] k h e = omega arith
-without_cr_cut (b ∷ []) zero h e = rw (eq-eqb b CR e)
-without_cr_cut (b ∷ []) (suc k) h e = omega arith
-without_cr_cut (b ∷ c ∷ s) zero h e = omega arith
-without_cr_cut (b ∷ c ∷ s) (suc k) h e = ap suc (without_cr_cut (c ∷ s) k (omega arith) e)
+without_cr_cut [] b e = rw e
+without_cr_cut (c ∷ []) b e = rw e
+without_cr_cut (c ∷ d ∷ s) b e = ap suc (without_cr_cut (d ∷ s) b e)
 
-pub without_cr_kept : (s : List ℕ) (k : ℕ) → length s ≡ suc k → (get_or s k 0 ≡ CR → ⊥) → length (without_cr s) ≡ suc k
+pub without_cr_kept : (s : List ℕ) (b : ℕ) → (b ≡ CR → ⊥) → length (without_cr (s ++ b ∷ [])) ≡ length s + 1
 unfolding without_cr
-without_cr_kept [] k h e = omega arith
-without_cr_kept (b ∷ []) zero h e = rw (ne_eqb b CR e)
-without_cr_kept (b ∷ []) (suc k) h e = omega arith
-without_cr_kept (b ∷ c ∷ s) zero h e = omega arith
-without_cr_kept (b ∷ c ∷ s) (suc k) h e = ap suc (without_cr_kept (c ∷ s) k (omega arith) e)
+without_cr_kept [] b n = rw (ne_eqb b CR n)
+without_cr_kept (c ∷ []) b n = rw (ne_eqb b CR n)
+without_cr_kept (c ∷ d ∷ s) b n = omega (arith, without_cr_kept (d ∷ s) b n)
 
 -- ---- the first line of bytes
 
@@ -352,42 +348,40 @@ mark_short (b ∷ []) h = go (eqb b COLON)
     go false = refl
 mark_short (b ∷ c ∷ s) h = absurd (let f : ⊥ = omega arith in f)
 
-module _ (s : List ℕ) (i : ℕ) where
-  -- at most one byte is left
-  pub mark_none : length s - i ≤ 1 → mark_from i (mark (drop i s)) ≡ Neither
-  mark_none h = rw (mark_short (drop i s) (rw length-drop h))
+-- at most one byte is left
+pub mark_none : (s : List ℕ) (i : ℕ) → length s ≤ i + 1 → mark_from i (mark (drop i s)) ≡ Neither
+mark_none s i h = rw (mark_short (drop i s) (rw length-drop (omega arith)))
 
-  module _ (h : 1 < length s - i) where
-    here : i < length s
-    here = omega arith
+-- two bytes stand before i + 1
+module _ (s : List ℕ) (i : ℕ) (h : 1 ≤ i) (k : i < length s) where
+  here : drop (i - 1) s ≡ get_or s (i - 1) 0 ∷ get_or s i 0 ∷ drop (i + 1) s
+  here = let e : i - 1 + 1 ≡ i = omega arith in drop_next s (i - 1) (omega arith) ∙ rw (e, drop_next s i k)
 
-    next : i + 1 < length s
-    next = omega arith
+  -- `: `
+  pub mark_field : get_or s (i - 1) 0 ≡ COLON → get_or s i 0 ≡ SPACE → mark_from (i - 1) (mark (drop (i - 1) s)) ≡ Field (i - 1)
+  unfolding mark
+  mark_field e f = rw (here, e, f, add-zero)
 
-    -- `: ` stands at i
-    pub mark_field : get_or s i 0 ≡ COLON → get_or s (i + 1) 0 ≡ SPACE → mark_from i (mark (drop i s)) ≡ Field i
-    unfolding mark
-    mark_field e f = rw (drop_next s i here, drop_next s (i + 1) next, eq-eqb _ _ e, eq-eqb _ _ f, add-zero)
+  -- `:=`
+  pub mark_pair : get_or s (i - 1) 0 ≡ COLON → get_or s i 0 ≡ EQUALS → mark_from (i - 1) (mark (drop (i - 1) s)) ≡ Pair (i - 1)
+  unfolding mark
+  mark_pair e f = rw (here, e, f, add-zero)
 
-    -- `:=` stands at i
-    pub mark_pair : get_or s i 0 ≡ COLON → (get_or s (i + 1) 0 ≡ SPACE → ⊥) → get_or s (i + 1) 0 ≡ EQUALS
-        → mark_from i (mark (drop i s)) ≡ Pair i
-    unfolding mark
-    mark_pair e f g =
-        rw (drop_next s i here, drop_next s (i + 1) next, eq-eqb _ _ e, ne_eqb _ _ f, eq-eqb _ _ g, add-zero)
+  next : mark_from (i - 1) (more_before (get_or s (i - 1) 0) (mark (get_or s i 0 ∷ drop (i + 1) s))) ≡ mark_from i (mark (drop i s))
+  next =
+      let e : i - 1 + 1 ≡ i = omega arith in
+      more_from (i - 1) (get_or s (i - 1) 0) (mark (get_or s i 0 ∷ drop (i + 1) s)) ∙ rw (e, drop_next s i k)
 
-    -- no colon stands at i
-    pub mark_on : (get_or s i 0 ≡ COLON → ⊥) → mark_from i (mark (drop i s)) ≡ mark_from (i + 1) (mark (drop (i + 1) s))
-    unfolding mark
-    mark_on e = rw (drop_next s i here, ne_eqb _ _ e) (more_from i (get_or s i 0) (mark (drop (i + 1) s)))
+  -- no colon
+  pub mark_on : (get_or s (i - 1) 0 ≡ COLON → ⊥) → mark_from (i - 1) (mark (drop (i - 1) s)) ≡ mark_from i (mark (drop i s))
+  unfolding mark
+  mark_on e = rw (here, ne_eqb _ _ e) next
 
-    -- a colon that makes no mark stands at i
-    pub mark_past : get_or s i 0 ≡ COLON → (get_or s (i + 1) 0 ≡ SPACE → ⊥) → (get_or s (i + 1) 0 ≡ EQUALS → ⊥)
-        → mark_from i (mark (drop i s)) ≡ mark_from (i + 1) (mark (drop (i + 1) s))
-    unfolding mark
-    mark_past e f g =
-        rw (drop_next s i here, drop_next s (i + 1) next, eq-eqb _ _ e, ne_eqb _ _ f, ne_eqb _ _ g)
-        (more_from i (get_or s i 0) (mark (get_or s (i + 1) 0 ∷ drop (i + 1 + 1) s)))
+  -- a colon that makes no mark
+  pub mark_past : get_or s (i - 1) 0 ≡ COLON → (get_or s i 0 ≡ SPACE → ⊥) → (get_or s i 0 ≡ EQUALS → ⊥)
+      → mark_from (i - 1) (mark (drop (i - 1) s)) ≡ mark_from i (mark (drop i s))
+  unfolding mark
+  mark_past e f g = rw (here, eq-eqb _ _ e, ne_eqb _ _ f, ne_eqb _ _ g) next
 
 -- ---- the text that the first mark parts
 
@@ -421,38 +415,37 @@ kind_told s e = subst (KindAt s (kind_of s)) (sym e) (go (kind_of s) refl)
     go comment_line e = refl
     go (other_line m) e = marked m (subst (Parts s) (mark_of_kind s e) (mark_parts s))
 
--- ---- spaces and tabs, by two tests
-
-module _ (b : ℕ) where
-  pub is_space : b ≡ SPACE → space_or_tab b ≡ true
-  is_space e = rw (eq-eqb b SPACE e)
-
-  pub is_tab : (b ≡ SPACE → ⊥) → b ≡ TAB → space_or_tab b ≡ true
-  is_tab e f = rw (ne_eqb b SPACE e, eq-eqb b TAB f)
-
-  pub is_other_lem : (b ≡ SPACE → ⊥) → (b ≡ TAB → ⊥) → space_or_tab b ≡ false
-  is_other_lem e f = rw (ne_eqb b SPACE e, ne_eqb b TAB f)
-
 -- ---- `trim_front`
 
--- the text from i on, by what stands at i
-module _ (s : List ℕ) (i : ℕ) where
-  pub trim_front_next : i < length s → space_or_tab (get_or s i 0) ≡ true → trim_front (drop i s) ≡ trim_front (drop (i + 1) s)
-  unfolding trim_front
-  trim_front_next h e = rw (drop_next s i h, e)
+-- how many bytes it leaves out
+abbrev pub trimmed : List ℕ → ℕ
+trimmed s = length s - length (trim_front s)
 
-  pub trim_front_stop : i < length s → space_or_tab (get_or s i 0) ≡ false → trim_front (drop i s) ≡ drop i s
-  unfolding trim_front
-  trim_front_stop h e = rw (drop_next s i h, e)
+trim_front_le : (s : List ℕ) → length (trim_front s) ≤ length s
+unfolding trim_front
+trim_front_le [] = omega arith
+trim_front_le (b ∷ s) = go (space_or_tab b) (trim_front_le s)
+  where
+    go : (x : Bool) → length (trim_front s) ≤ length s → length (if x then trim_front s else b ∷ s) ≤ suc (length s)
+    go true h = omega arith
+    go false h = omega arith
 
-  pub trim_front_end : length s ≤ i → trim_front (drop i s) ≡ drop i s
-  unfolding trim_front
-  trim_front_end h = rw (drop_of_length-le s h)
+pub trimmed_empty : trimmed [] ≡ 0
+unfolding trim_front
+trimmed_empty = omega arith
+
+pub trimmed_none : (b : ℕ) (s : List ℕ) → space_or_tab b ≡ false → trimmed (b ∷ s) ≡ 0
+unfolding trim_front
+trimmed_none b s e = rw e (omega arith)
+
+pub trimmed_more : (b : ℕ) (s : List ℕ) → space_or_tab b ≡ true → trimmed (b ∷ s) ≡ trimmed s + 1
+unfolding trim_front
+trimmed_more b s e = rw e (omega (arith, trim_front_le s))
 
 -- ---- `trim_end`
 
 -- a text by its last byte
-trim_end_space : (s : List ℕ) (b : ℕ) → space_or_tab b ≡ true → trim_end (s ++ (b ∷ [])) ≡ trim_end s
+pub trim_end_space : (s : List ℕ) (b : ℕ) → space_or_tab b ≡ true → trim_end (s ++ (b ∷ [])) ≡ trim_end s
 unfolding trim_end
 trim_end_space [] b e = rw e
 trim_end_space (c ∷ s) b e = rw (trim_end_space s b e)
@@ -461,25 +454,12 @@ trim_byte_kept : (b : ℕ) (s : List ℕ) (c : ℕ) → trim_byte b (s ++ (c ∷
 trim_byte_kept b [] c = refl
 trim_byte_kept b (d ∷ s) c = refl
 
-trim_end_other : (s : List ℕ) (b : ℕ) → space_or_tab b ≡ false → trim_end (s ++ (b ∷ [])) ≡ s ++ (b ∷ [])
+pub trim_end_other : (s : List ℕ) (b : ℕ) → space_or_tab b ≡ false → trim_end (s ++ (b ∷ [])) ≡ s ++ (b ∷ [])
 unfolding trim_end
 trim_end_other [] b e = rw e
 trim_end_other (c ∷ s) b e = rw (trim_end_other s b e) (trim_byte_kept c s b)
 
-take_last : (s : List ℕ) (n : ℕ) → 0 < n → n ≤ length s → take n s ≡ take (n - 1) s ++ (get_or s (n - 1) 0 ∷ [])
-take_last s n h k =
-    let e : n ≡ suc (n - 1) = omega arith in
-    let l : n - 1 < length s = omega arith in
-    ap (λ (m : ℕ). take m s) e ∙ take-suc s (n - 1) 0 l
-
--- the first n bytes, by the last of them
-module _ (s : List ℕ) (n : ℕ) (h : 0 < n) (k : n ≤ length s) where
-  pub trim_end_next : space_or_tab (get_or s (n - 1) 0) ≡ true → trim_end (take n s) ≡ trim_end (take (n - 1) s)
-  trim_end_next e = ap trim_end (take_last s n h k) ∙ trim_end_space (take (n - 1) s) (get_or s (n - 1) 0) e
-
-  pub trim_end_stop : space_or_tab (get_or s (n - 1) 0) ≡ false → trim_end (take n s) ≡ take n s
-  trim_end_stop e = rw (take_last s n h k) (trim_end_other (take (n - 1) s) (get_or s (n - 1) 0) e)
-
-pub trim_end_none : (s : List ℕ) (n : ℕ) → n ≡ 0 → trim_end (take n s) ≡ []
+pub trim_end_none : (s : List ℕ) → length s ≡ 0 → length (trim_end s) ≡ 0
 unfolding trim_end
-trim_end_none s n e = rw e
+trim_end_none [] h = refl
+trim_end_none (b ∷ s) h = omega arith

@@ -9,6 +9,7 @@ use mathlib.Core.List.{List, [], ◌∷◌, ◌++◌}
 use mathlib.Core.Option.{Option, none, some}
 use native.Mathlib.Nat.{add-zero}
 use native.Mathlib.Omega.{arith}
+use Rattle.std.specs.List.{list_all, zip}
 use lib.Dec.{eqb, ltb, leb}
 use lib.ListN.{length, take, drop, get_or, length-append, length-drop, drop_of_length-le}
 use lib.Seq.{drop-drop, get_or-drop, take_at, drop_at}
@@ -17,11 +18,14 @@ use Rattle.format.specs.Bytes.{bytes, small, alike, is_any, row_from, row_of}
 use Rattle.std.specs.Prelude.{Option as Maybe}
 use Rattle.std.specs.Prelude.{Some, None}
 use Rattle.read_text.specs.Rows.{Name, name, packed, row_among, row_answer}
-use Rattle.read_text.proofs.Places.{drop_next}
 
 -- ---- texts that are alike
 
--- texts of other lengths are not alike
+-- two bytes are alike
+abbrev pub bytes_alike : ℕ × ℕ → Bool
+bytes_alike p = eqb (small p.0) (small p.1)
+
+-- texts of other lengths are not alike, and others are where all their bytes are
 pub alike_lengths : (a b : List ℕ) → (length a ≡ length b → ⊥) → alike a b ≡ false
 unfolding alike
 alike_lengths [] [] h = absurd (h refl)
@@ -33,17 +37,12 @@ alike_lengths (b ∷ s) (c ∷ t) h = go (eqb (small b) (small c)) (alike_length
     go true e = e
     go false e = refl
 
--- past the ends of both the texts are alike
-pub alike_end : (a b : List ℕ) (i : ℕ) → length a ≤ i → length b ≤ i → alike (drop i a) (drop i b) ≡ true
+pub alike_is : (a b : List ℕ) → length a ≡ length b → list_all bytes_alike (zip a b) ≡ alike a b
 unfolding alike
-alike_end a b i h k = rw (drop_of_length-le a h, drop_of_length-le b k)
-
--- the bytes at i decide, and the rest
-pub alike_next : (a b : List ℕ) (i : ℕ) → i < length a → length a ≡ length b
-    → {same : Bool} → same ≡ eqb (small (get_or a i 0)) (small (get_or b i 0))
-    → alike (drop i a) (drop i b) ≡ (same && alike (drop (i + 1) a) (drop (i + 1) b))
-unfolding alike
-alike_next a b i h e q = let h' : i < length b = omega arith in rw (drop_next a i h, drop_next b i h', q)
+alike_is [] [] h = refl
+alike_is [] (c ∷ t) h = absurd (omega arith)
+alike_is (b ∷ s) [] h = absurd (omega arith)
+alike_is (b ∷ s) (c ∷ t) h = ap (λ (r : Bool). eqb (small b) (small c) && r) (alike_is s t (omega arith))
 
 -- ---- the names of a table
 

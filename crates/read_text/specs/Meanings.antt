@@ -1,6 +1,9 @@
 -- Internal to the library. What an escaped text means, as the functions on escapes answer it.
-use Rattle.std.specs.Prelude.{ℕ, ◌+◌, ◌≤◌, ◌≡◌, Bool, true, false, List, [], ◌∷◌, ◌==◌, length, drop, if◌then◌else◌}
+use Rattle.std.specs.Prelude.{ℕ, ◌+◌, ◌<◌, ◌≤◌, ◌≡◌, Bool, true, false, List, [], ◌∷◌, ◌==◌, length, drop, if◌then◌else◌}
+use Rattle.std.specs.Prelude.{Option as Maybe}
+use Rattle.std.specs.Prelude.{Some, None}
 use Rattle.std.proofs.Math.Option.{Option, none, some}
+use Rattle.read_text.specs.declared.escapes.Meant.{Meant}
 use Rattle.format.specs.Bytes.{same, onto, LF, BACKSLASH}
 use Rattle.format.specs.Pairs.{unescape}
 
@@ -21,10 +24,17 @@ meant_from true (b ∷ s) =
 abbrev pub meant : List ℕ → List ℕ
 meant s = meant_from false s
 
--- the byte that the text means first from a place on, and how many bytes write it; 0 bytes where a backslash stands before another byte
-pub record First (s : List ℕ) (at byte width : ℕ) : Type 0 where
-  pub within : at + width ≤ length s
-  pub bad : width ≡ 0 → unescape (drop at s) ≡ none
-  pub ends : width ≡ 0 → meant (drop at s) ≡ []
-  pub good : (width ≡ 0 → ⊥) → unescape (drop at s) ≡ onto byte (unescape (drop (at + width) s))
-  pub next : (width ≡ 0 → ⊥) → meant (drop at s) ≡ byte ∷ meant (drop (at + width) s)
+-- the byte that the text means first from a place on, and how many bytes write it; none where a backslash stands before another byte
+pub record First (s : List ℕ) (at : ℕ) (m : Meant) : Type 0 where
+  pub within : at + m.width ≤ length s
+  pub wide : 0 < m.width
+  pub good : unescape (drop at s) ≡ onto m.byte (unescape (drop (at + m.width) s))
+  pub next : meant (drop at s) ≡ m.byte ∷ meant (drop (at + m.width) s)
+
+pub record NoFirst (s : List ℕ) (at : ℕ) : Type 0 where
+  pub bad : unescape (drop at s) ≡ none
+  pub ends : meant (drop at s) ≡ []
+
+abbrev pub FirstIs : List ℕ → ℕ → Maybe Meant → Type 0
+FirstIs s at None = NoFirst s at
+FirstIs s at (Some m) = First s at m

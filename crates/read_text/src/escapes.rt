@@ -3,42 +3,42 @@ ghost use Rattle.std.specs.Prelude.{◌≡◌, ◌≤◌, ◌<◌, length};
 ghost use Rattle.std.proofs.lemmas.List.Edits.{sets};
 ghost use Rattle.format.specs.Bytes.{is_some};
 ghost use Rattle.format.specs.Pairs.{unescape};
-ghost use Rattle.read_text.specs.Meanings.{means_key, meant, First};
+ghost use Rattle.read_text.specs.Meanings.{means_key, meant, FirstIs};
 
-// What the front of a text means: the byte, and how many bytes of the text write it, 0 where they write none.
+// The byte that a text means first, and how many of its bytes write it.
 #[derive(Clone, Copy)]
 struct Meant {
     byte: u8,
     width: usize,
 }
 
-// The byte that the text means first, from `at` on.
-fn first_meant(s: &[u8], at: usize) -> Meant
+// What the text means first, from `at` on; none where a backslash is not allowed.
+fn first_meant(s: &[u8], at: usize) -> Option<Meant>
     requires { at < length s.now }
-    ensures { First s.now at result.byte result.width }
+    ensures { FirstIs s.now at result }
 {
     let b = s[at];
     if b != b'\\' {
-        return Meant { byte: b, width: 1 };
+        return Some(Meant { byte: b, width: 1 });
     }
     if s.len() - at < 2 {
-        return Meant { byte: 0, width: 0 };
+        return None;
     }
     let e = s[at + 1];
-    if e == b'n' {
-        return Meant {
+    match e {
+        b'n' => Some(Meant {
             byte: b'\n',
             width: 2,
-        };
-    }
-    if e == b'\\' {
-        return Meant {
+        }),
+        b'\\' => Some(Meant {
             byte: b'\\',
             width: 2,
-        };
+        }),
+        _ => None,
     }
-    Meant { byte: 0, width: 0 }
 }
+
+// The loops below are `while`: they go on by 1 byte or by 2.
 
 // Whether every backslash stands before an `n` or a backslash.
 pub fn unescapes(s: &[u8]) -> bool
@@ -46,10 +46,9 @@ pub fn unescapes(s: &[u8]) -> bool
 {
     let mut i: usize = 0;
     while i < s.len() {
-        let m = first_meant(s, i);
-        if m.width == 0 {
+        let Some(m) = first_meant(s, i) else {
             return false;
-        }
+        };
         i += m.width;
     }
     true
@@ -62,10 +61,9 @@ pub fn means(s: &[u8], key: &[u8]) -> bool
     let mut i: usize = 0;
     let mut k: usize = 0;
     while i < s.len() {
-        let m = first_meant(s, i);
-        if m.width == 0 {
+        let Some(m) = first_meant(s, i) else {
             return false;
-        }
+        };
         if key.len() <= k {
             return false;
         }
@@ -86,10 +84,9 @@ pub fn unescaped_length(s: &[u8]) -> usize
     let mut n: usize = 0;
     let mut i: usize = 0;
     while i < s.len() {
-        let m = first_meant(s, i);
-        if m.width == 0 {
+        let Some(m) = first_meant(s, i) else {
             return n;
-        }
+        };
         n += 1;
         i += m.width;
     }
@@ -106,10 +103,9 @@ pub fn unescape_into(s: &[u8], out: &mut [u8])
         if out.len() <= n {
             return;
         }
-        let m = first_meant(s, i);
-        if m.width == 0 {
+        let Some(m) = first_meant(s, i) else {
             return;
-        }
+        };
         out[n] = m.byte;
         n += 1;
         i += m.width;

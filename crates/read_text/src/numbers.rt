@@ -1,7 +1,7 @@
 // Numbers in a text: one, or one for each axis.
-ghost use Rattle.std.specs.Prelude.{◌≡◌, ◌*◌, ◌+◌, ◌≤◌, min, length};
+ghost use Rattle.std.specs.Prelude.{◌≡◌, ◌≤◌, length};
 ghost use Rattle.format.specs.Words.{number, words};
-ghost use Rattle.read_text.specs.Numbers.{past_size, number_answer, size_answer, first_word, sizes_in, sizes_answer};
+ghost use Rattle.read_text.specs.Numbers.{number_answer, size_answer, first_word, sizes_in, sizes_answer};
 
 // The sizes, and whether they are as many as the dimension and each in its range; if not, all are 0.
 #[derive(Clone, Copy)]
@@ -13,38 +13,19 @@ pub struct Sizes {
 // The least number that is above the limit.
 const PAST_SIZE: u64 = format::MAX_SIZE + 1;
 
-// A number, or `PAST_SIZE` for all that are above it: no run of digits overflows.
-fn cap(x: u64) -> u64
-    ensures { result ≡ min x past_size }
-{
-    if x < PAST_SIZE { x } else { PAST_SIZE }
-}
-
-fn wide(b: u8) -> u64
-    ensures { result ≡ b }
-{
-    b as u64
-}
-
-// The number that the digits of s write, of any length.
+// The number that the digits of s write, of any length. It is cut to `PAST_SIZE`, so that no run of digits overflows.
 pub fn read_number(s: &[u8]) -> Option<u64>
     ensures { result ≡ number_answer (number s.now) }
 {
-    if s.len() == 0 {
+    if s.is_empty() {
         return None;
     }
     let mut v: u64 = 0;
-    let mut i: usize = 0;
-    while i < s.len() {
-        let b = s[i];
-        if b < b'0' {
+    for b in s {
+        if !b.is_ascii_digit() {
             return None;
         }
-        if b'9' < b {
-            return None;
-        }
-        v = cap(v * 10 + wide(b - b'0'));
-        i += 1;
+        v = (v * 10 + (*b - b'0') as u64).min(PAST_SIZE);
     }
     if v < PAST_SIZE { Some(v) } else { None }
 }
@@ -53,28 +34,16 @@ pub fn read_number(s: &[u8]) -> Option<u64>
 pub fn word_length(s: &[u8]) -> usize
     ensures { (result ≡ length (first_word s.now)) × (result ≤ length s.now) }
 {
-    let mut i: usize = 0;
-    while i < s.len() {
-        if s[i] == b' ' {
-            return i;
-        }
-        if s[i] == b'\t' {
-            return i;
-        }
-        i += 1;
-    }
-    i
+    s.iter()
+        .position(|b| crate::lines::is_blank(*b))
+        .unwrap_or(s.len())
 }
 
 // A size, or 0 where the text is none.
 pub fn read_size(s: &[u8]) -> u64
     ensures { result ≡ size_answer (number s.now) }
 {
-    let x = read_number(s);
-    match x {
-        Some(v) => v,
-        None => 0,
-    }
+    read_number(s).unwrap_or(0)
 }
 
 // As many numbers as the dimension, parted by spaces and tabs, each 1 to `MAX_SIZE`; 0 past them.
@@ -84,6 +53,7 @@ pub fn sizes_in(s: &[u8], dimension: usize) -> Option<[u64; format::AXES]>
     if format::AXES < dimension {
         return None;
     }
+    // a `while`, since it goes on by a blank or by a word
     let mut at: usize = 0;
     let mut n: usize = 0;
     let mut v = [0u64; format::AXES];

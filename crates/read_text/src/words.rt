@@ -58,40 +58,21 @@ const ENDIANS: [u8; 13] = *b"\x06\x00little\x03\x01big";
 pub fn lower(b: u8) -> u8
     ensures { result ≡ small b }
 {
-    if b < b'A' {
-        b
-    } else if b <= b'Z' {
-        b + 32
-    } else {
-        b
-    }
+    b.to_ascii_lowercase()
 }
 
 // Whether two bytes are the same but for the case of a letter. Mostly they are the same, which one test tells.
 fn is_alike_byte(a: u8, b: u8) -> bool
     ensures { result ≡ (small a == small b) }
 {
-    if a == b {
-        return true;
-    }
-    lower(a) == lower(b)
+    a == b || lower(a) == lower(b)
 }
 
 // Whether a and b are the same but for the case of letters.
 pub fn is_alike(a: &[u8], b: &[u8]) -> bool
     ensures { result ≡ alike a.now b.now }
 {
-    if a.len() != b.len() {
-        return false;
-    }
-    let mut i: usize = 0;
-    while i < a.len() {
-        if !is_alike_byte(a[i], b[i]) {
-            return false;
-        }
-        i += 1;
-    }
-    true
+    a.len() == b.len() && a.iter().zip(b).all(|(x, y)| is_alike_byte(*x, *y))
 }
 
 // The row of the name that s is, in a table of names.
@@ -100,6 +81,7 @@ pub fn row_among(names: &[u8], s: &[u8]) -> Option<u32>
     ensures { (ns : List Name) → names.now ≡ packed ns → result ≡ row_answer (row_among s.now ns) }
 {
     let mut at: usize = 0;
+    // a `while`, since it goes on by the length that it reads
     while at < names.len() {
         let from = at + 2;
         let to = from + names[at] as usize;

@@ -13,10 +13,10 @@ returns-then-last-i c h =
     let b = c.plain_block in
     last_block plain s (length s - 8) b.result (omega arith) b.ensures a.i (omega arith) h
 
-pub returns : goal.returns
-returns c h =
+pub returns-else-last-i : goal.returns-else-last-i
+returns-else-last-i c h =
     let a = c.args in
     let s = a.s.now in
-    let f = c.plain_block-2 in
-    let b = c.plain_block-3 in
+    let f = c.plain_block-else-last-i in
+    let b = c.plain_block-else-last-i-2 in
     last_blocks plain s (length s - 8) b.result (omega arith) b.ensures a.i f.result (omega arith) h f.ensures

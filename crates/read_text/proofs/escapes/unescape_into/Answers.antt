@@ -17,15 +17,15 @@ returns-then-out-n c =
     let a = c.args in
     sym (l.invariant.2 ∙ sets_full l.out (meant (drop l.i a.s.now)) l.n c.if-out-n.true)
 
-pub returns-then-m-eq0 : goal.returns-then-m-eq0
-returns-then-m-eq0 c =
+pub returns-in_default : goal.returns-in_default
+returns-in_default c =
     let l = c.loop-i in
-    sym (l.invariant.2 ∙ ap (sets l.out l.n) (c.first_meant-m.ensures.ends c.if-m-eq0.true))
+    sym (l.invariant.2 ∙ ap (sets l.out l.n) (c.in_default.ensures.ends))
 
 pub loop-i-preserved : goal.loop-i-preserved
 loop-i-preserved c =
     let l = c.loop-i in
-    (search rules, search rules, l.invariant.2 ∙ ap (sets l.out l.n) (c.first_meant-m.ensures.next c.if-m-eq0.false) ∙ rw (add-one l.n))
+    (search rules, search rules, l.invariant.2 ∙ ap (sets l.out l.n) (c.in-Some.ensures.next) ∙ rw (add-one l.n))
 
 pub returns : goal.returns
 returns c =

@@ -9,18 +9,18 @@ use Rattle.read_text.proofs.escapes.unescaped_length.Goals as goal
 pub loop-i-init : goal.loop-i-init
 loop-i-init c = (search rules, search rules, omega arith)
 
-pub returns-then-m-eq0 : goal.returns-then-m-eq0
-returns-then-m-eq0 c =
+pub returns-in_default : goal.returns-in_default
+returns-in_default c =
     let l = c.loop-i in
     record {
-      length = omega (arith, l.invariant.2, ap length (c.first_meant-m.ensures.ends c.if-m-eq0.true));
+      length = omega (arith, l.invariant.2, ap length (c.in_default.ensures.ends));
       within = omega arith;
     }
 
 pub loop-i-preserved : goal.loop-i-preserved
 loop-i-preserved c =
     let l = c.loop-i in
-    (search rules, search rules, omega (arith, l.invariant.2, ap length (c.first_meant-m.ensures.next c.if-m-eq0.false)))
+    (search rules, search rules, omega (arith, l.invariant.2, ap length (c.in-Some.ensures.next)))
 
 pub returns : goal.returns
 returns c =

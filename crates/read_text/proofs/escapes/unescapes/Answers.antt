@@ -5,15 +5,15 @@ use Rattle.format.specs.Bytes.{is_some}
 use Rattle.read_text.proofs.Meanings.{nothing_left, some_next}
 use Rattle.read_text.proofs.escapes.unescapes.Goals as goal
 
-pub returns-then-m-eq0 : goal.returns-then-m-eq0
-returns-then-m-eq0 c =
+pub returns-in_default : goal.returns-in_default
+returns-in_default c =
     let l = c.loop-i in
-    sym (l.invariant.1 ∙ ap is_some (c.first_meant-m.ensures.bad c.if-m-eq0.true))
+    sym (l.invariant.1 ∙ ap is_some (c.in_default.ensures.bad))
 
 pub loop-i-preserved : goal.loop-i-preserved
 loop-i-preserved c =
     let l = c.loop-i in
-    (search rules, l.invariant.1 ∙ some_next c.first_meant-m.ensures c.if-m-eq0.false)
+    (search rules, l.invariant.1 ∙ some_next c.in-Some.ensures)
 
 pub returns : goal.returns
 returns c =

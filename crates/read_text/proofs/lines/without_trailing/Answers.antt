@@ -1,40 +1,27 @@
--- `read_text::lines::without_trailing` meets its contract.
-use borrow.Author.Rules.{rules}
-use mathlib.Core.Path.{sym, ap, ◌∙◌}
-use Prim.Native.Nat.{◌-◌}
-use native.Mathlib.Omega.{arith}
-use lib.ListN.{length, get_or, length-take}
-use lib.Seq.{take-length}
+-- `lines::without_trailing` meets its contract.
+use Rattle.std.proofs.Common.{rules, arith, ap, sym, ◌∙◌, length}
 use Rattle.format.specs.Words.{trim_end}
-use Rattle.read_text.proofs.Places.{trim_end_next, trim_end_stop, trim_end_none, is_space, is_tab, is_other_lem}
+use Rattle.read_text.proofs.Places.{trim_end_none, trim_end_space, trim_end_other}
 use Rattle.read_text.proofs.lines.without_trailing.Goals as goal
-use Rattle.read_text.proofs.lines.without_trailing.Goals.{then-s-n-ne32+else-s-n-ne9, else-s-n-ne32}
 
-pub loop-n-init : goal.loop-n-init
-loop-n-init c = (search rules, ap trim_end (sym (take-length c.args.s.now)))
+pub returns-then-not-is_blank : goal.returns-then-not-is_blank
+returns-then-not-is_blank c =
+    let s = c.in-Some in
+    let l = c.loop-last in
+    let e = s.ensures.cases.0 in
+    let t = l.invariant.1 ∙ ap trim_end e ∙ trim_end_other s.front.now s.last.now (sym c.is_blank.ensures ∙ c.if-not-is_blank.true) ∙ sym e in
+    (ap length (sym t), l.invariant.0)
 
-pub returns-then-s-n-ne9 : goal.returns-then-s-n-ne9
-returns-then-s-n-ne9 c =
-    let l = c.loop-n in
-    let s = c.args.s.now in
-    let o = is_other_lem (get_or s (l.n - 1) 0) c.if-s-n-ne32.true c.if-s-n-ne9.true in
-    omega (arith, ap length (l.invariant.1 ∙ trim_end_stop s l.n (omega arith) (omega arith) o), length-take l.n s)
+pub loop-last-smaller : goal.loop-last-smaller
+loop-last-smaller c = omega (arith, c.in-Some.ensures.cases.1)
 
-pub loop-n-preserved : goal.loop-n-preserved
-loop-n-preserved c =
-    let l = c.loop-n in
-    let s = c.args.s.now in
-    let b = get_or s (l.n - 1) 0 in (
-      search rules,
-      l.invariant.1
-          ∙ trim_end_next s l.n (omega arith) (omega arith) (elim c.if-s-n-ne32.branch [
-            | then-s-n-ne32+else-s-n-ne9 w ↦ is_tab b w.if-s-n-ne32.true w.if-s-n-ne9.false
-            | else-s-n-ne32 w ↦ is_space b w.if-s-n-ne32.false
-          ]),
+pub loop-last-preserved : goal.loop-last-preserved
+loop-last-preserved c =
+    let s = c.in-Some in
+    let l = c.loop-last in (
+      omega (arith, s.ensures.cases.1),
+      l.invariant.1 ∙ ap trim_end s.ensures.cases.0 ∙ trim_end_space s.front.now s.last.now (sym c.is_blank.ensures ∙ c.if-not-is_blank.false),
     )
 
 pub returns : goal.returns
-returns c =
-    let l = c.loop-n in
-    let s = c.args.s.now in
-    omega (arith, ap length (l.invariant.1 ∙ trim_end_none s l.n (omega arith)))
+returns c = (rw c.loop-last.invariant.1 (sym (trim_end_none c.loop-last.rest.now c.in_default.ensures.cases)), search rules)

@@ -1,29 +1,16 @@
--- `read_text::numbers::word_length` meets its contract: no space or tab was passed.
-use native.Mathlib.Omega.{arith}
-use borrow.Author.Rules.{rules}
-use Rattle.read_text.proofs.NumberLaws.{word_at_blank, word_at_tab, word_next, word_end}
+-- `numbers::word_length` meets its contract.
+use Rattle.std.proofs.Common.{rules, ◌≡◌, ◌∙◌, true, false, length, sym}
+use borrow.Author.Tests.{tests}
+use Rattle.std.proofs.lemmas.Iterator.{YieldsList-from_slice, IsFirst-from_position, index_from_first}
+use Rattle.format.specs.Bytes.{space_or_tab}
+use Rattle.read_text.specs.Numbers.{first_word}
+use Rattle.read_text.proofs.NumberLaws.{word_empty, word_ends, word_more, first_word_le}
 use Rattle.read_text.proofs.numbers.word_length.Goals as goal
-
-pub returns-then-s-i-eq32 : goal.returns-then-s-i-eq32
-returns-then-s-i-eq32 c =
-    let l = c.loop-i in
-    let a = c.args in
-    (omega (arith, word_at_blank a.s.now l.i c.loop-i-test.true c.if-s-i-eq32.true), search rules)
-
-pub returns-then-s-i-eq9 : goal.returns-then-s-i-eq9
-returns-then-s-i-eq9 c =
-    let l = c.loop-i in
-    let a = c.args in
-    (omega (arith, word_at_tab a.s.now l.i c.loop-i-test.true c.if-s-i-eq9.true), search rules)
-
-pub loop-i-preserved : goal.loop-i-preserved
-loop-i-preserved c =
-    let l = c.loop-i in
-    let a = c.args in
-    (search rules, omega (arith, word_next a.s.now l.i c.loop-i-test.true c.if-s-i-eq32.false c.if-s-i-eq9.false))
 
 pub returns : goal.returns
 returns c =
-    let l = c.loop-i in
-    let a = c.args in
-    (omega (arith, word_end a.s.now l.i c.loop-i-test.false), search rules)
+    let s = c.args.s.now in
+    let p = IsFirst-from_position _ _ c.position.result (λ b. space_or_tab b ≡ true) (λ b. space_or_tab b ≡ false) c.position.ensures.ran
+    (YieldsList-from_slice s cc) (λ x q k. search (rules, tests)) (λ x q k. search (rules, tests)) in
+    let e = index_from_first (λ t. length (first_word t)) (λ b. space_or_tab b ≡ true) (λ b. space_or_tab b ≡ false) word_empty word_ends word_more s c.position.result p in
+    (c.unwrap_or.ensures ∙ sym e, rw (c.unwrap_or.ensures ∙ sym e) (first_word_le s))

@@ -1,31 +1,17 @@
--- `words::is_alike` meets its contract. The loop's invariant: the texts have one length, and are alike where what is left of them is.
-use mathlib.Core.Path.{sym, ◌∙◌}
-use native.Mathlib.Omega.{arith}
-use Rattle.read_text.proofs.Rows.{alike_lengths, alike_next, alike_end}
-use borrow.Author.Rules.{rules}
+-- `words::is_alike` meets its contract.
+use Rattle.std.proofs.Common.{rules, sym, ◌∙◌}
+use borrow.Author.Tests.{tests, ne_eqb}
+use Rattle.std.proofs.lemmas.Iterator.{YieldsList-from_slice, YieldsList-from_zip}
+use Rattle.std.proofs.lemmas.Iterator.Search.{all_from_yields_List}
+use Rattle.read_text.proofs.Rows.{bytes_alike, alike_lengths, alike_is}
 use Rattle.read_text.proofs.words.is_alike.Goals as goal
 
 pub returns-then-a-b : goal.returns-then-a-b
 returns-then-a-b c =
-    let a = c.args in
-    sym (alike_lengths a.a.now a.b.now c.if-a-b.true)
+    let a = c.args.a.now in
+    let b = c.args.b.now in
+    all_from_yields_List {s = c.zip.result} bytes_alike c.all.new.self _ _ c.all.ensures.ran (YieldsList-from_zip (YieldsList-from_slice a cc) (YieldsList-from_slice b cc)) (λ x r q k. search (rules, tests))
+    ∙ alike_is a b c.if-a-b.true
 
-pub returns-then-not-is_alike_byte : goal.returns-then-not-is_alike_byte
-returns-then-not-is_alike_byte c =
-    let l = c.loop-i in
-    let a = c.args in
-    let n = alike_next a.a.now a.b.now l.i (search rules) l.invariant.1 c.is_alike_byte.ensures in
-    sym (rw (l.invariant.2, n, c.if-not-is_alike_byte.true))
-
-pub loop-i-preserved : goal.loop-i-preserved
-loop-i-preserved c =
-    let l = c.loop-i in
-    let a = c.args in
-    let n = alike_next a.a.now a.b.now l.i (search rules) l.invariant.1 c.is_alike_byte.ensures in
-    (search rules, l.invariant.1, rw (l.invariant.2, n, c.if-not-is_alike_byte.false))
-
-pub returns : goal.returns
-returns c =
-    let l = c.loop-i in
-    let a = c.args in
-    sym (l.invariant.2 ∙ alike_end a.a.now a.b.now l.i (omega arith) (omega arith))
+pub returns-else-a-b : goal.returns-else-a-b
+returns-else-a-b c = ne_eqb _ _ c.if-a-b.false ∙ sym (alike_lengths c.args.a.now c.args.b.now c.if-a-b.false)
