@@ -8,10 +8,10 @@ use Prim.Native.Nat.{ℕ, suc, ◌+◌, ◌≤◌, ◌<◌}
 use native.Mathlib.Omega.{arith}
 use lib.Dec.{eqb}
 use lib.ListN.{length, take, drop, get_or, set, length-append, take-append-drop}
-use lib.Seq.{sets}
-use borrow.Author.Tests.{eqb-true, eq-eqb, ne_eqb}
+use lib.Seq.{sets, take_all}
+use borrow.Author.Tests.{eqb-true}
 use Rattle.format.specs.Bytes.{bytes, every, LF, HASH, COLON, SPACE, EQUALS, BACKSLASH}
-use Rattle.format.specs.Pairs.{plain, Marked, unmarked, field_mark, pair_mark, after_colon, more_before, first_mark, mark, has_mark, comment_line, other_line, kind_of, is_unmarked, escape}
+use Rattle.format.specs.Pairs.{Marked, unmarked, field_mark, pair_mark, after_colon, more_before, first_mark, mark, has_mark, comment_line, other_line, kind_of, is_unmarked, escape}
 use Rattle.format.specs.Settings.{settable, key_fine, value_fine, pair_text}
 use Rattle.format.proofs.Stores.{sets_then, take_more}
 
@@ -55,18 +55,8 @@ escape_turn l d s at o i h p e =
     ∙ sets_then l (escape (take i s)) (escape (get_or s i 0 ∷ [])) at o p
     ∙ ap (sets l at) (sym (escape_suc s i h))
 
--- the three cases of a byte
-pub esc_lf : (c : ℕ) → c ≡ LF → escape (c ∷ []) ≡ 92 ∷ 110 ∷ []
-unfolding escape
-esc_lf c e = rw (eq-eqb c LF e)
-
-pub esc_bs : (c : ℕ) → (c ≡ LF → ⊥) → c ≡ BACKSLASH → escape (c ∷ []) ≡ 92 ∷ 92 ∷ []
-unfolding escape
-esc_bs c n e = rw (ne_eqb c LF n, eq-eqb c BACKSLASH e)
-
-pub esc_else : (c : ℕ) → (c ≡ LF → ⊥) → (c ≡ BACKSLASH → ⊥) → escape (c ∷ []) ≡ c ∷ []
-unfolding escape
-esc_else c n m = rw (ne_eqb c LF n, ne_eqb c BACKSLASH m)
+pub escape_all : (s : List ℕ) (i : ℕ) → length s ≤ i → escape (take i s) ≡ escape s
+escape_all s i h = ap escape (take_all i s h)
 
 pub esc_small : (c : ℕ) → length (escape (c ∷ [])) ≤ 2
 unfolding escape
@@ -76,6 +66,9 @@ esc_small c = go (eqb c LF) (eqb c BACKSLASH)
     go true y = omega arith
     go false true = omega arith
     go false false = omega arith
+
+-- what a loop over the bytes needs
+pub ruleset escape_steps = (escape_none, escape_all, escape_suc_length, esc_small, escape_room, escape_turn)
 
 -- ---- the text of a pair
 
@@ -91,14 +84,6 @@ pair_eq b k v at a p =
     ∙ ap (λ (r : List ℕ). sets r (a + 2) (escape v)) (sets_then b (escape k) mid at a p)
     ∙ sets_then b (escape k ++ mid) (escape v) at (a + 2) e₂
     ∙ ap (sets b at) j
-
--- ---- bytes of keys and values
-
-pub settable_lf : (b : ℕ) → b ≡ LF → true ≡ settable b
-settable_lf b e = rw e
-
-pub settable_else : (b : ℕ) → (b ≡ LF → ⊥) → plain b ≡ settable b
-settable_else b n = rw (ne_eqb b LF n)
 
 -- ---- the mark of a key: escaping makes none and hides none
 

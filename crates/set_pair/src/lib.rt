@@ -9,14 +9,40 @@ ghost use Rattle.format.specs.Settings.{settable, key_fine, value_fine, pair_tex
 
 use read_text::lines::Kind;
 
+// A key and the value that it is set to.
+#[derive(Clone, Copy)]
+pub struct Pair<'a> {
+    pub key: &'a [u8],
+    pub value: &'a [u8],
+}
+
+impl Pair<'_> {
+    // How many bytes the text of the line has, or one more than a header may have where it is longer.
+    #[tactic(auto, using(format::proofs::Pairs::length_pair))]
+    pub fn length(&self) -> usize
+        ensures { result ≡ min (length (pair_text self.now.key.now self.now.value.now)) (max_header + 1) }
+    {
+        (escaped_length(self.key) + 2 + escaped_length(self.value)).min(format::MAX_HEADER + 1)
+    }
+
+    // Writes the text of the line at `at`.
+    #[tactic(auto, using(format::proofs::Pairs::length_pair))]
+    pub fn put(&self, buf: &mut [u8], at: usize)
+        requires { at + length (pair_text self.now.key.now self.now.value.now) ≤ length buf.old }
+        ensures { buf.new ≡ sets buf.old at (pair_text self.now.key.now self.now.value.now) }
+    {
+        let mark = escape_into(buf, at, self.key);
+        buf[mark] = b':';
+        buf[mark + 1] = b'=';
+        escape_into(buf, mark + 2, self.value);
+    }
+}
+
 // Whether a key or a value may hold the byte.
 fn is_settable(b: u8) -> bool
     ensures { result ≡ settable b }
 {
-    if b == b'\n' {
-        return true;
-    }
-    read_text::bytes::is_plain_byte(b)
+    b == b'\n' || read_text::bytes::is_plain_byte(b)
 }
 
 // Whether a line can hold the value.
@@ -24,10 +50,8 @@ pub fn value_fine(value: &[u8]) -> bool
     ensures { result ≡ value_fine value.now }
 {
     let mut fine = true;
-    let mut i: usize = 0;
-    while i < value.len() {
-        fine = fine & is_settable(value[i]);
-        i += 1;
+    for &b in value {
+        fine &= is_settable(b);
     }
     fine
 }
@@ -43,91 +67,63 @@ pub fn key_fine(key: &[u8]) -> bool
 }
 
 // How many bytes a line takes for the byte.
+#[tactic(auto, unfolding(format::specs::Pairs::escape))]
 fn byte_length(c: u8) -> usize
     ensures { result ≡ length (escape (c ∷ [])) }
 {
-    if c == b'\n' {
-        return 2;
-    }
-    if c == b'\\' {
-        return 2;
-    }
-    1
-}
-
-// A length, or one more than a header may have where it is above.
-fn capped(n: usize) -> usize
-    ensures { result ≡ min n (max_header + 1) }
-{
-    if n <= format::MAX_HEADER {
-        n
-    } else {
-        format::MAX_HEADER + 1
+    match c {
+        b'\n' | b'\\' => 2,
+        _ => 1,
     }
 }
 
-// How many bytes a line takes for the text, capped.
+// How many bytes a line takes for the text, or one more than a header may have where it takes more.
+#[tactic(auto, using(crate::proofs::Escapes::escape_steps))]
 pub fn escaped_length(s: &[u8]) -> usize
     ensures { result ≡ min (length (escape s.now)) (max_header + 1) }
 {
-    let mut n: usize = 0;
-    let mut i: usize = 0;
-    while i < s.len() {
-        n = capped(n + byte_length(s[i]));
-        i += 1;
+    let mut n = 0;
+    for &c in s {
+        n += byte_length(c);
     }
-    n
-}
-
-// How many bytes the text of the line has, capped.
-pub fn pair_length(key: &[u8], value: &[u8]) -> usize
-    ensures { result ≡ min (length (pair_text key.now value.now)) (max_header + 1) }
-{
-    capped(escaped_length(key) + 2 + escaped_length(value))
+    n.min(format::MAX_HEADER + 1)
 }
 
 // Writes a byte at o as a line holds it, and returns the place after it.
+#[tactic(auto, unfolding(format::specs::Pairs::escape))]
 fn put_escaped(d: &mut [u8], o: usize, c: u8) -> usize
     requires { o + length (escape (c ∷ [])) ≤ length d.old }
     ensures place { result ≡ o + length (escape (c ∷ [])) }
     ensures stored { d.new ≡ sets d.old o (escape (c ∷ [])) }
 {
-    if c == b'\n' {
-        d[o] = b'\\';
-        d[o + 1] = b'n';
-        return o + 2;
+    match c {
+        b'\n' => {
+            d[o] = b'\\';
+            d[o + 1] = b'n';
+            o + 2
+        }
+        b'\\' => {
+            d[o] = b'\\';
+            d[o + 1] = b'\\';
+            o + 2
+        }
+        _ => {
+            d[o] = c;
+            o + 1
+        }
     }
-    if c == b'\\' {
-        d[o] = b'\\';
-        d[o + 1] = b'\\';
-        return o + 2;
-    }
-    d[o] = c;
-    o + 1
 }
 
 // Writes a text at `at` as a line holds it, and returns the place after it.
+#[tactic(auto, using(crate::proofs::Escapes::escape_steps))]
 fn escape_into(buf: &mut [u8], at: usize, s: &[u8]) -> usize
     requires { at + length (escape s.now) ≤ length buf.old }
     ensures place { result ≡ at + length (escape s.now) }
     ensures stored { buf.new ≡ sets buf.old at (escape s.now) }
 {
     let mut o = at;
-    let mut i: usize = 0;
-    while i < s.len() {
-        o = put_escaped(buf, o, s[i]);
-        i += 1;
+    for &c in s {
+        o = put_escaped(buf, o, c);
     }
     o
-}
-
-// Writes the text of the line at `at`.
-pub fn put_pair(buf: &mut [u8], at: usize, key: &[u8], value: &[u8])
-    requires { at + length (pair_text key.now value.now) ≤ length buf.old }
-    ensures { buf.new ≡ sets buf.old at (pair_text key.now value.now) }
-{
-    let a = escape_into(buf, at, key);
-    buf[a] = b':';
-    buf[a + 1] = b'=';
-    escape_into(buf, a + 2, value);
 }

@@ -1,13 +1,7 @@
--- `set_pair::escaped_length` meets its contract. The loop's invariant: n is the capped length of what is passed.
-use lib.ListN.{length, take}
+-- The loop's invariant: n is the length of what is passed, at most 2 for each byte.
+use Rattle.std.proofs.Common.{◌≡◌, ◌≤◌, ◌*◌, length, take}
 use Rattle.format.specs.Pairs.{escape}
-use Rattle.format.specs.Limits.{max_header}
-use Prim.Native.Nat.{◌+◌, ◌-◌, ◌≤◌, min}
-use mathlib.Core.Path.{◌≡◌}
 use Rattle.set_pair.proofs.escaped_length.Given as goal
 
-abbrev pub invariant-loop-i : goal.invariant-loop-i
-invariant-loop-i l = (l.i ≤ length l.s) × (l.n ≡ min (length (escape (take l.i l.s))) (max_header + 1))
-
-abbrev pub decreases-loop-i : goal.decreases-loop-i
-decreases-loop-i l = length l.s - l.i
+abbrev pub invariant-loop-c : goal.invariant-loop-c
+invariant-loop-c l = (l.n ≡ length (escape (take l.c-index l.s))) × (l.n ≤ 2 * l.c-index)

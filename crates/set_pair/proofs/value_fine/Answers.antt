@@ -1,22 +1,19 @@
--- `set_pair::value_fine` meets its contract.
-use borrow.Author.Rules.{rules}
-use mathlib.Core.Path.{sym, ◌∙◌}
+-- All bytes are settable.
+use Rattle.std.proofs.Common.{sym, ◌∙◌}
 use mathlib.Core.Bool.{and-true}
-use native.Mathlib.Omega.{arith}
 use Rattle.format.specs.Settings.{settable, value_fine}
 use Rattle.read_text.proofs.Places.{every_step, every_end}
 use Rattle.set_pair.proofs.value_fine.Goals as goal
 
-pub loop-i-preserved : goal.loop-i-preserved
-loop-i-preserved c =
-    let l = c.loop-i in
-    let s = c.args.value.now in
+pub loop-b-preserved : goal.loop-b-preserved
+loop-b-preserved c =
+    let l = c.loop-b in
     let p = c.is_settable-fine in
-    (search rules, every_step settable s l.i l.fine p.result (omega arith) p.ensures l.invariant.1)
+    every_step settable c.args.value.now l.b-index l.fine p.result c.loop-b-test.true p.ensures l.invariant
 
 pub returns : goal.returns
 unfolding value_fine
 returns c =
-    let l = c.loop-i in
+    let l = c.loop-b in
     let s = c.args.value.now in
-    sym (l.invariant.1 ∙ rw (every_end settable s l.i (omega arith)) (and-true l.fine))
+    sym (l.invariant ∙ rw (every_end settable s l.b-index c.loop-b-test.false) (and-true l.fine))
