@@ -24,34 +24,40 @@ pub length_edited : (f new : List ℕ) (from to : ℕ) → from ≤ length f →
 unfolding edited
 length_edited f new from to h k = simp (length-append, length-take, length-drop) (omega arith)
 
-module _ (b new : List ℕ) (used from to end : ℕ) (h₁ : from ≤ used) (h₂ : to ≤ used) (h₃ : used ≤ length b) (h₄ : end ≤ length b)
-    (e : end ≡ from + length new + (used - to)) where
-  splice_eq : sets (sets (sets b (end - (used - to)) (take (used - to) (drop to b))) from new) end (replicate (used - end) 0)
-      ≡ refilled b used (edited (take used b) from to new)
+module _ (b new : List ℕ) (used from to front : ℕ) (h₁ : from ≤ used) (h₂ : to ≤ used) (h₃ : used ≤ length b) (e : front ≡ from + length new) where
+  abbrev end : ℕ
+  end = front + (used - to)
+
+  abbrev tail : List ℕ
+  tail = take (used - to) (drop to b)
+
+  abbrev zeros : List ℕ
+  zeros = replicate (used - end) 0
+
+  splice_eq : end ≤ length b → sets (sets (sets b front tail) from new) end zeros ≡ refilled b used (edited (take used b) from to new)
   unfolding edited refilled
-  splice_eq =
-      let tail : List ℕ = take (used - to) (drop to b) in
-      let z : List ℕ = replicate (used - end) 0 in
+  splice_eq h₄ =
       let lu : length (take used b) ≡ used = length-take-le used b h₃ in
       let lt : length tail ≡ used - to = length-take-le (used - to) (drop to b) (simp length-drop (omega arith)) in
-      let e₀ : end - (used - to) ≡ from + length new = omega arith in
       let e₁ : end ≡ from + length (new ++ tail) = simp length-append (omega arith) in
-      let e₂ : from + length (new ++ tail ++ z) ≡ max used end = simp (length-append, length-replicate) (omega arith) in
+      let e₂ : from + length (new ++ tail ++ zeros) ≡ max used end = simp (length-append, length-replicate) (omega arith) in
       let e₃ : length (take from (take used b) ++ (new ++ drop to (take used b))) ≡ end =
       length_edited (take used b) new from to (omega arith) (omega arith) ∙ omega arith in
-      ap (λ (k : ℕ). sets (sets (sets b k tail) from new) end z) e₀
-      ∙ ap (λ (r : List ℕ). sets r end z) (sets_before new tail b from)
-      ∙ ap (λ (k : ℕ). sets (sets b from (new ++ tail)) k z) e₁
-      ∙ sym (sets_append (new ++ tail) z b from)
-      ∙ sets-eq (new ++ tail ++ z) b from (simp (length-append, length-replicate) (omega arith))
-      ∙ ap (λ (k : ℕ). take from b ++ (new ++ tail ++ z) ++ drop k b) e₂
+      ap (λ (k : ℕ). sets (sets (sets b k tail) from new) end zeros) e
+      ∙ ap (λ (r : List ℕ). sets r end zeros) (sets_before new tail b from)
+      ∙ ap (λ (k : ℕ). sets (sets b from (new ++ tail)) k zeros) e₁
+      ∙ sym (sets_append (new ++ tail) zeros b from)
+      ∙ sets-eq (new ++ tail ++ zeros) b from (simp (length-append, length-replicate) (omega arith))
+      ∙ ap (λ (k : ℕ). take from b ++ (new ++ tail ++ zeros) ++ drop k b) e₂
       ∙ rw (e₃, take-take, drop_take) (simp append_assoc)
 
-  -- the same of the lists b₁, b₂ and b₃ that the three calls leave
-  pub splice_done : (b₁ b₂ b₃ : List ℕ) (n : ℕ) → b₁ ≡ sets b (end - (used - to)) (take (used - to) (drop to b)) → b₂ ≡ sets b₁ from new
-      → n ≡ used - end → b₃ ≡ sets b₂ end (replicate n 0) → b₃ ≡ refilled b used (edited (take used b) from to new)
-  splice_done b₁ b₂ b₃ n p q r s =
-      s
-      ∙ ap (λ (k : ℕ). sets b₂ end (replicate k 0)) r
-      ∙ ap (λ (d : List ℕ). sets d end (replicate (used - end) 0)) (q ∙ ap (λ (d : List ℕ). sets d from new) p)
-      ∙ splice_eq
+  -- the same of the lists b₁, b₂ and b₃ that the move, the text and the zeros leave
+  pub splice_done : (b₁ b₂ b₃ : List ℕ) → end ≤ length b → b₁ ≡ sets b front tail → b₂ ≡ sets b₁ from new → b₃ ≡ sets b₂ end zeros
+      → b₃ ≡ refilled b used (edited (take used b) from to new)
+  splice_done b₁ b₂ b₃ h p q s = s ∙ ap (λ (d : List ℕ). sets d end zeros) (q ∙ ap (λ (d : List ℕ). sets d from new) p) ∙ splice_eq h
+
+  -- where nothing is vacated, there are no zeros
+  pub no_zeros : used ≤ end → (d : List ℕ) → d ≡ sets d end zeros
+  no_zeros h d =
+      let z : used - end ≡ 0 = omega arith in
+      rw z

@@ -1,12 +1,12 @@
 -- Laws of the loops that store a run into a list, or move a part inside it: what the list is after each turn.
 -- Assumes nothing.
 use mathlib.Core.Path.{◌≡◌, refl, sym, ap, ◌∙◌}
-use mathlib.Core.List.{List, [], ◌∷◌, ◌++◌, append-nil}
+use mathlib.Core.List.{List, [], ◌∷◌, ◌++◌}
 use Prim.Native.Nat.{ℕ, suc, ◌+◌, ◌-◌, ◌≤◌, ◌<◌}
-use native.Mathlib.Nat.{sub_self, sub-zero, add-zero, le_step}
+use native.Mathlib.Nat.{sub-zero, add-zero, le_step}
 use native.Mathlib.Omega.{arith}
-use lib.ListN.{length, get_or, set, take, drop, replicate, length-drop, drop_of_length-le, length-replicate, replicate-append-replicate}
-use lib.Seq.{sets, sets-eq, length-sets, drop-cons, take-add, drop-drop, take-set-le, drop-set-lt, drop-set-add, length-take-le}
+use lib.ListN.{length, get_or, set, take, drop, length-drop}
+use lib.Seq.{sets, drop-cons, take-add, drop-drop, take-set-le, drop-set-lt, drop-set-add, length-take-le}
 use Rattle.format.proofs.Stores.{sets_append, sets_before}
 
 module _ {ℓ} {A : Type ℓ} where
@@ -35,12 +35,6 @@ module _ {ℓ} {A : Type ℓ} where
       ap (λ (k : ℕ). sets (sets l i (take j s)) (i + k) (take m (drop j s))) (sym (length-take-le j s h))
       ∙ sym (sets_append (take j s) (take m (drop j s)) l i)
       ∙ ap (sets l i) (sym (take-add j m s))
-
-  pub write_turn : (l s d : List A) (i j : ℕ) (z : A) → d ≡ sets l i (take j s) → j < length s → set d (i + j) (get_or s j z) ≡ sets l i (take (j + 1) s)
-  write_turn l s d i j z e h =
-      ap (λ (r : List A). set r (i + j) (get_or s j z)) e
-      ∙ ap (sets (sets l i (take j s)) (i + j)) (sym (part_one s j z h))
-      ∙ sets_next l s i j 1 (omega arith)
 
   -- a part of the list itself goes down: m elements more, after j
   pub down_turn : (l d : List A) (to from j m : ℕ) → to ≤ from → from + j ≤ length l → d ≡ sets l to (take j (drop from l))
@@ -73,56 +67,20 @@ module _ {ℓ} {A : Type ℓ} where
       ∙ sets_before u v l (to + k)
       ∙ ap (sets l (to + k)) join
 
-  -- the same, where k is the turn's start
-  pub up_back : (l d : List A) (to from n k m : ℕ) → from ≤ to → from + n ≤ length l → m ≤ k → k ≤ n → d ≡ sets l (to + k) (take (n - k) (drop (from + k) l))
-      → sets d (to + (k - m)) (take m (drop (from + (k - m)) d)) ≡ sets l (to + (k - m)) (take (n - (k - m)) (drop (from + (k - m)) l))
-  up_back l d to from n k m h f p g e =
-      let q : k ≡ m + (k - m) = omega arith in
-      up_turn l d to from n (k - m) m h f (omega arith) (e ∙ ap (λ (i : ℕ). sets l (to + i) (take (n - i) (drop (from + i) l))) q)
+  -- the same from the i-th on, down to the k-th
+  pub up_step : (l d : List A) (to from n i k : ℕ) → from ≤ to → from + n ≤ length l → k ≤ i → i ≤ n → d ≡ sets l (to + i) (take (n - i) (drop (from + i) l))
+      → sets d (to + k) (take (i - k) (drop (from + k) d)) ≡ sets l (to + k) (take (n - k) (drop (from + k) l))
+  up_step l d to from n i k h f g w e =
+      let q : i ≡ (i - k) + k = omega arith in
+      up_turn l d to from n k (i - k) h f (omega arith) (e ∙ ap (λ (j : ℕ). sets l (to + j) (take (n - j) (drop (from + j) l))) q)
 
-  -- and the last turn, of all that is left
+  -- and the last ones, of all that are left
   pub up_last : (l d : List A) (to from n k : ℕ) → from ≤ to → from + n ≤ length l → k ≤ n → d ≡ sets l (to + k) (take (n - k) (drop (from + k) l))
       → sets d to (take k (drop from d)) ≡ sets l to (take n (drop from l))
-  up_last l d to from n k h f g e = simp (sub_self, add-zero, sub-zero) at (up_back l d to from n k k h f (omega arith) g e)
+  up_last l d to from n k h f g e = simp (add-zero, sub-zero) at (up_step l d to from n k 0 h f (omega arith) g e)
 
-  pub down_last : (l d : List A) (to from n j : ℕ) → to ≤ from → from + n ≤ length l → j ≤ n → d ≡ sets l to (take j (drop from l))
-      → sets d (to + j) (take (n - j) (drop (from + j) d)) ≡ sets l to (take n (drop from l))
-  down_last l d to from n j h f g e =
-      let q : j + (n - j) ≡ n = omega arith in
-      down_turn l d to from j (n - j) h (omega arith) e ∙ ap (λ (i : ℕ). sets l to (take i (drop from l))) q
-
-  -- the same by one element
-  one_part : (d : List A) (k j : ℕ) (z : A) → k < length d → set d j (get_or d k z) ≡ sets d j (take 1 (drop k d))
-  one_part d k j z h = ap (sets d j) (sym (part_one d k z h))
-
-  pub down_one : (l d : List A) (to from j : ℕ) (z : A) → to ≤ from → from + j < length l → d ≡ sets l to (take j (drop from l))
-      → set d (to + j) (get_or d (from + j) z) ≡ sets l to (take (j + 1) (drop from l))
-  down_one l d to from j z h f e =
-      let n : length d ≡ length l = ap length e ∙ length-sets l to (take j (drop from l)) in
-      one_part d (from + j) (to + j) z (omega arith) ∙ down_turn l d to from j 1 h (omega arith) e
-
-  pub up_one : (l d : List A) (to from n k : ℕ) (z : A) → from ≤ to → from + n ≤ length l → 0 < k → k ≤ n → d ≡ sets l (to + k) (take (n - k) (drop (from + k) l))
-      → set d (to + (k - 1)) (get_or d (from + (k - 1)) z) ≡ sets l (to + (k - 1)) (take (n - (k - 1)) (drop (from + (k - 1)) l))
-  up_one l d to from n k z h f p g e =
-      let w : length d ≡ length l = ap length e ∙ length-sets l (to + k) (take (n - k) (drop (from + k) l)) in
-      one_part d (from + (k - 1)) (to + (k - 1)) z (omega arith) ∙ up_back l d to from n k 1 h f p g e
-
-  -- a run going up, after its last turn
-  pub up_done : (l d : List A) (to from n k : ℕ) → k ≤ 0 → d ≡ sets l (to + k) (take (n - k) (drop (from + k) l)) → d ≡ sets l to (take n (drop from l))
-  up_done l d to from n k h e =
-      let z : k ≡ 0 = omega arith in
-      e ∙ ap (λ (i : ℕ). sets l (to + i) (take (n - i) (drop (from + i) l))) z ∙ simp (add-zero, sub-zero)
-
-  -- a run of one value
-  pub fill_turn : (l d : List A) (i j : ℕ) (a : A) → d ≡ sets l i (replicate j a) → set d (i + j) a ≡ sets l i (replicate (j + 1) a)
-  fill_turn l d i j a e =
-      ap (λ (r : List A). set r (i + j) a) e
-      ∙ ap (λ (k : ℕ). sets (sets l i (replicate j a)) (i + k) (replicate 1 a)) (sym (length-replicate j a))
-      ∙ sym (sets_append (replicate j a) (replicate 1 a) l i)
-      ∙ ap (sets l i) (replicate-append-replicate j 1 a)
-
-  -- a run over the whole of a list
-  pub sets_all : (l vs : List A) → length vs ≡ length l → sets l 0 vs ≡ vs
-  sets_all l vs e =
-      let h : length l ≤ 0 + length vs = omega arith in
-      sets-eq vs l 0 (omega arith) ∙ ap (λ (r : List A). vs ++ r) (drop_of_length-le l h) ∙ append-nil vs
+  pub down_step : (l d : List A) (to from i j : ℕ) → to ≤ from → from + i ≤ length l → i ≤ j → d ≡ sets l to (take i (drop from l))
+      → sets d (to + i) (take (j - i) (drop (from + i) d)) ≡ sets l to (take j (drop from l))
+  down_step l d to from i j h f g e =
+      let q : i + (j - i) ≡ j = omega arith in
+      down_turn l d to from i (j - i) h f e ∙ ap (λ (m : ℕ). sets l to (take m (drop from l))) q

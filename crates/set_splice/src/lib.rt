@@ -7,22 +7,23 @@ ghost use Rattle.set_splice.specs.Edited.{edited};
 
 mod moves;
 
-// Puts the pair's text at a place of the file in the first `used` bytes, which becomes `end` bytes long. What it no longer takes becomes 0.
-pub fn splice_pair(
-    buf: &mut [u8],
-    used: usize,
-    from: usize,
-    to: usize,
-    end: usize,
-    key: &[u8],
-    value: &[u8],
-)
-    requires places_within { (from ≤ used) × (to ≤ used) × (used ≤ length buf.old) × (end ≤ length buf.old) }
-    requires end_after { end ≡ from + length (pair_text key.now value.now) + (used - to) }
-    ensures { buf.new ≡ refilled buf.old used (edited (take used buf.old) from to (pair_text key.now value.now)) }
+use read_table::table::Edit;
+use set_pair::Pair;
+
+// Puts the pair's text at its place in the file of the first `used` bytes. What a shorter file no longer takes becomes 0.
+pub fn splice_pair(buf: &mut [u8], used: usize, edit: Edit, pair: &Pair)
+    requires from { edit.from ≤ used }
+    requires to { edit.to ≤ used }
+    requires used { used ≤ length buf.old }
+    requires text { edit.front ≡ edit.from + length (pair_text pair.now.key.now pair.now.value.now) }
+    requires room { edit.front + (used - edit.to) ≤ length buf.old }
+    ensures { buf.new ≡ refilled buf.old used (edited (take used buf.old) edit.from edit.to (pair_text pair.now.key.now pair.now.value.now)) }
 {
-    let n = used - to;
-    crate::moves::slide(buf, end - n, to, n);
-    set_pair::put_pair(buf, from, key, value);
-    crate::moves::zero(buf, end, crate::moves::less(used, end));
+    let rest = used - edit.to;
+    moves::slide(buf, edit.front, edit.to, rest);
+    pair.put(buf, edit.from);
+    let end = edit.front + rest;
+    if end < used {
+        buf[end..used].fill(0);
+    }
 }

@@ -1,107 +1,86 @@
-// Moves inside a buffer, at the speed of memmove, and runs of bytes written into it.
-ghost use Rattle.std.specs.Prelude.{◌≡◌, ◌+◌, ◌-◌, ◌≤◌, length, take, drop, replicate};
+// Moves inside a buffer, at the speed of memmove.
+ghost use Rattle.std.specs.Prelude.{◌≡◌, ◌+◌, ◌-◌, ◌≤◌, ◌<◌, length, take, drop};
 ghost use Rattle.std.proofs.lemmas.List.Edits.{sets};
 
-// Writes s into d from index at.
-fn write(d: &mut [u8], at: usize, s: &[u8])
-    requires { at + length s.now ≤ length d.old }
-    ensures { d.new ≡ sets d.old at s.now }
+// Blocks that are moved at once: large ones while there are so many bytes, then small ones, then what is left. Large moves in one piece are slower.
+const LARGE: usize = 16384;
+
+const SMALL: usize = 4096;
+
+// Moves the N bytes at `from` to `to`, through an array, so that the two may overlap. The compiler makes one move in memory of it.
+fn block<const N: usize>(d: &mut [u8], to: usize, from: usize)
+    requires to { to + N ≤ length d.old }
+    requires from { from + N ≤ length d.old }
+    ensures { d.new ≡ sets d.old to (take N (drop from d.old)) }
 {
-    let mut j: usize = 0;
-    while j < s.len() {
-        d[at + j] = s[j];
-        j += 1;
+    let bytes: [u8; N] = d[from..from + N].try_into().unwrap();
+    d[to..to + N].copy_from_slice(&bytes);
+}
+
+// Moves bytes down, of n from `from` to `to`, the first ones first: by blocks of N while there are so many left. Returns how many it moved.
+fn blocks_down<const N: usize>(d: &mut [u8], to: usize, from: usize, n: usize) -> usize
+    requires down { to ≤ from }
+    requires within { from + n ≤ length d.old }
+    requires some { 0 < N }
+    ensures part { result ≤ n }
+    ensures moved { d.new ≡ sets d.old to (take result (drop from d.old)) }
+{
+    let mut j = 0;
+    while N <= n - j { // by blocks
+        block::<N>(d, to + j, from + j);
+        j += N;
     }
+    j
 }
 
-// Writes n zeros into d from index at.
-pub(crate) fn zero(d: &mut [u8], at: usize, n: usize)
-    requires { at + n ≤ length d.old }
-    ensures { d.new ≡ sets d.old at (replicate n 0) }
-{
-    let mut j: usize = 0;
-    while j < n {
-        d[at + j] = 0;
-        j += 1;
-    }
-}
-
-// Moves n bytes from `from` down to `to`, byte by byte.
-fn move_down(d: &mut [u8], to: usize, from: usize, n: usize)
-    requires { (to ≤ from) × (from + n ≤ length d.old) }
-    ensures { d.new ≡ sets d.old to (take n (drop from d.old)) }
-{
-    let mut j: usize = 0;
-    while j < n {
-        d[to + j] = d[from + j];
-        j += 1;
-    }
-}
-
-// Moves n bytes from `from` up to `to`, byte by byte, the last first.
-fn move_up(d: &mut [u8], to: usize, from: usize, n: usize)
-    requires { (from ≤ to) × (to + n ≤ length d.old) }
-    ensures { d.new ≡ sets d.old to (take n (drop from d.old)) }
-{
-    let mut k: usize = n;
-    while 0 < k {
-        k -= 1;
-        d[to + k] = d[from + k];
-    }
-}
-
-// Moves the 4096 bytes at `from` to `to`, through an array, so that the two may overlap.
-fn block(d: &mut [u8], to: usize, from: usize)
-    requires { (to + 4096 ≤ length d.old) × (from + 4096 ≤ length d.old) }
-    ensures { d.new ≡ sets d.old to (take 4096 (drop from d.old)) }
-{
-    let mut t = [0u8; 4096];
-    let e = from + 4096;
-    write(&mut t, 0, &d[from..e]);
-    write(d, to, &t);
-}
-
-// As `move_down`, by blocks while there are 4096 bytes left.
+// Moves n bytes from `from` down to `to`.
 fn slide_down(d: &mut [u8], to: usize, from: usize, n: usize)
-    requires { (to ≤ from) × (from + n ≤ length d.old) }
+    requires down { to ≤ from }
+    requires within { from + n ≤ length d.old }
     ensures { d.new ≡ sets d.old to (take n (drop from d.old)) }
 {
-    let mut j: usize = 0;
-    while 4096 <= n - j {
-        block(d, to + j, from + j);
-        j += 4096;
-    }
-    move_down(d, to + j, from + j, n - j);
+    let large = blocks_down::<LARGE>(d, to, from, n);
+    let small = blocks_down::<SMALL>(d, to + large, from + large, n - large);
+    let moved = large + small;
+    d.copy_within(from + moved..from + n, to + moved);
 }
 
-// As `move_up`, by blocks while there are 4096 bytes left.
+// Moves bytes up, of n from `from` to `to`, the last ones first: by blocks of N while there are so many left. Returns how many are left.
+fn blocks_up<const N: usize>(d: &mut [u8], to: usize, from: usize, n: usize) -> usize
+    requires up { from ≤ to }
+    requires within { to + n ≤ length d.old }
+    requires some { 0 < N }
+    ensures part { result ≤ n }
+    ensures moved { d.new ≡ sets d.old (to + result) (take (n - result) (drop (from + result) d.old)) }
+{
+    let mut k = n;
+    while N <= k { // by blocks
+        k -= N;
+        block::<N>(d, to + k, from + k);
+    }
+    k
+}
+
+// Moves n bytes from `from` up to `to`.
 fn slide_up(d: &mut [u8], to: usize, from: usize, n: usize)
-    requires { (from ≤ to) × (to + n ≤ length d.old) }
+    requires up { from ≤ to }
+    requires within { to + n ≤ length d.old }
     ensures { d.new ≡ sets d.old to (take n (drop from d.old)) }
 {
-    let mut k: usize = n;
-    while 4096 <= k {
-        k -= 4096;
-        block(d, to + k, from + k);
-    }
-    move_up(d, to, from, k);
+    let large = blocks_up::<LARGE>(d, to, from, n);
+    let left = blocks_up::<SMALL>(d, to, from, large);
+    d.copy_within(from..from + left, to);
 }
 
 // Moves n bytes from `from` to `to`, whichever way that is.
 pub(crate) fn slide(d: &mut [u8], to: usize, from: usize, n: usize)
-    requires { (to + n ≤ length d.old) × (from + n ≤ length d.old) }
+    requires to { to + n ≤ length d.old }
+    requires from { from + n ≤ length d.old }
     ensures { d.new ≡ sets d.old to (take n (drop from d.old)) }
 {
     if to <= from {
-        slide_down(d, to, from, n);
+        slide_down(d, to, from, n)
     } else {
-        slide_up(d, to, from, n);
+        slide_up(d, to, from, n)
     }
-}
-
-// a - b, or 0 where b is the larger.
-pub(crate) fn less(a: usize, b: usize) -> usize
-    ensures { result ≡ a - b }
-{
-    if b < a { a - b } else { 0 }
 }

@@ -1,18 +1,23 @@
--- `set_splice::moves::slide_down` meets its contract. The loop's invariant: the first j bytes are moved.
-use mathlib.Core.Path.{refl, ◌∙◌}
-use native.Mathlib.Omega.{arith}
-use borrow.Author.Rules.{rules}
-use Rattle.set_splice.proofs.Sets.{down_turn, down_last}
+-- Large blocks, small ones, and what is left.
+use Rattle.std.proofs.Common.{◌+◌, ◌-◌, ◌≡◌, ◌≤◌, ◌∙◌, ap, take, drop, length, length-drop, arith, rules}
+use Rattle.std.proofs.lemmas.List.Edits.{sets}
+use Rattle.set_splice.proofs.Bridges.{paste_sets}
+use Rattle.set_splice.proofs.Sets.{down_turn, down_step}
 use Rattle.set_splice.proofs.moves.slide_down.Goals as goal
 
-pub loop-j-init : goal.loop-j-init
-loop-j-init c = (omega arith, refl, refl)
-
-pub loop-j-preserved : goal.loop-j-preserved
-loop-j-preserved c =
-    let a = c.args in
-    let v = c.loop-j in
-    (omega arith, search rules, c.block.ensures ∙ down_turn a.d.now v.d a.to a.from v.j 4096 c.requires.0 (omega arith) v.invariant.2)
-
 pub returns : goal.returns
-returns c = c.move_down.ensures ∙ down_last _ _ _ _ _ _ c.requires.0 c.requires.1 c.loop-j.invariant.0 c.loop-j.invariant.2
+returns c =
+    let a = c.args in
+    let l = c.blocks_down-large in
+    let s = c.blocks_down-small in
+    let d = s.new.d in
+    let moved = l.result + s.result in
+    let h : moved ≤ a.n = omega (arith, l.ensures.part, s.ensures.part) in
+    let long : length d ≡ length a.d.now = search rules in
+    let two : d ≡ sets a.d.now a.to (take moved (drop a.from a.d.now)) =
+    s.ensures.moved ∙ down_turn a.d.now l.new.d a.to a.from l.result s.result c.requires.down (omega (arith, c.requires.within, l.ensures.part)) l.ensures.moved in
+    let k : a.from + a.n - (a.from + moved) ≡ a.n - moved = omega arith in
+    c.copy_within.ensures.after
+    ∙ paste_sets d (drop (a.from + moved) d) (a.to + moved) _ (omega (arith, h, long, c.requires.down, c.requires.within)) (omega (arith, length-drop (a.from + moved) d, h, long, c.requires.within))
+    ∙ ap (λ n. sets d (a.to + moved) (take n (drop (a.from + moved) d))) k
+    ∙ down_step a.d.now d a.to a.from moved a.n c.requires.down (omega (arith, h, c.requires.within)) h two

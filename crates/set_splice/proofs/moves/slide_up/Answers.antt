@@ -1,22 +1,23 @@
--- `set_splice::moves::slide_up` meets its contract. The loop's invariant: the bytes from k on are moved.
-use mathlib.Core.Path.{refl, ◌∙◌}
-use native.Mathlib.Omega.{arith}
-use borrow.Author.Rules.{rules}
-use native.Mathlib.Nat.{sub_self}
-use Rattle.set_splice.proofs.Sets.{up_back, up_last}
+-- Large blocks, small ones, and what is left.
+use Rattle.std.proofs.Common.{◌+◌, ◌-◌, ◌≡◌, ◌≤◌, ◌∙◌, ap, take, drop, length, length-drop, arith, rules}
+use Rattle.std.proofs.lemmas.List.Edits.{sets}
+use Rattle.set_splice.proofs.Bridges.{paste_sets}
+use Rattle.set_splice.proofs.Sets.{up_step, up_last}
 use Rattle.set_splice.proofs.moves.slide_up.Goals as goal
-
-pub loop-k-init : goal.loop-k-init
-loop-k-init c = (omega arith, refl, simp sub_self)
-
-pub loop-k-preserved : goal.loop-k-preserved
-loop-k-preserved c =
-    let a = c.args in
-    let v = c.loop-k in
-    (omega arith, search rules, c.block.ensures ∙ up_back a.d.now v.d a.to a.from a.n v.k 4096 c.requires.0 (omega arith) (omega arith) (omega arith) v.invariant.2)
 
 pub returns : goal.returns
 returns c =
     let a = c.args in
-    let v = c.loop-k in
-    cc (c.move_up.ensures, up_last a.d.now v.d a.to a.from a.n v.k c.requires.0 (omega arith) (omega arith) v.invariant.2)
+    let l = c.blocks_up-large in
+    let s = c.blocks_up-left in
+    let d = s.new.d in
+    let k = s.result in
+    let h : k ≤ a.n = omega (arith, l.ensures.part, s.ensures.part) in
+    let long : length d ≡ length a.d.now = search rules in
+    let two : d ≡ sets a.d.now (a.to + k) (take (a.n - k) (drop (a.from + k) a.d.now)) =
+    s.ensures.moved ∙ up_step a.d.now l.new.d a.to a.from a.n l.result k c.requires.up (omega (arith, c.requires.up, c.requires.within)) s.ensures.part l.ensures.part l.ensures.moved in
+    let n : a.from + k - a.from ≡ k = omega arith in
+    c.copy_within.ensures.after
+    ∙ paste_sets d (drop a.from d) a.to _ (omega (arith, h, long, c.requires.within)) (omega (arith, length-drop a.from d, h, long, c.requires.up, c.requires.within))
+    ∙ ap (λ m. sets d a.to (take m (drop a.from d))) n
+    ∙ up_last a.d.now d a.to a.from a.n k c.requires.up (omega (arith, c.requires.up, c.requires.within)) h two
