@@ -29,7 +29,7 @@ use Rattle.format.proofs.Found.{key_found}
 use Rattle.read_header.specs.Accepted.{Fielded}
 use Rattle.read_lines.specs.Spans.{LineAt, PastAt}
 use Rattle.set_splice.specs.Edited.{edited}
-use Rattle.set_key.specs.declared.place.Place.{Place}
+use Rattle.read_table.specs.declared.table.Edit.{Edit}
 use Rattle.read_table.specs.Shifts.{moved_by, shifted}
 use Rattle.set_key.specs.Edits.{FirstAt, Placed}
 use Rattle.read_table.proofs.Shifting.{moved_below, cons, starts_moved}
@@ -193,16 +193,17 @@ module _ (file k : List ℕ) (p : FindAnswer) (is : p ≡ find_key_call file k) 
       pub found_safe : {n : ℕ} → Fielded file n → (m + 2 ≤ p.start) × (p.start + p.length ≤ max_header)
       found_safe h = let b = bounds h.is in (b.front, b.short)
 
-      pub found_placed : (es : List Entry) (gs : List Given) (ls : List Line) → header file ≡ accepted es gs ls
-          → Placed k es (record { from = p.start - (m + 2); to = p.start + p.length; more = 0 })
+      pub found_placed : (n : ℕ) (es : List Entry) (gs : List Given) (ls : List Line) → header file ≡ accepted es gs ls
+          → Placed k es n (record { from = p.start - (m + 2); to = p.start + p.length; front = p.start - (m + 2) + n; more = 0 })
       unfolding new_lines shifted
-      found_placed es gs ls e =
+      found_placed n es gs ls e =
           let s = spot e in
           let b = bounds e in
           let h : has_key k es ≡ true = sym (has e) ∙ there in
           record {
             from = omega (arith, b.starts, s.within);
             to = omega (arith, b.ends, s.within);
+            front = refl;
             few = omega arith;
             count = λ v. rw h (omega (arith, s.count (pair_text k v)));
             bytes = λ v. rw (h, b.starts, b.ends) (s.bytes (pair_text k v));
@@ -210,15 +211,16 @@ module _ (file k : List ℕ) (p : FindAnswer) (is : p ≡ find_key_call file k) 
           }
 
 -- a new line after line 1
-placed_first : (k : List ℕ) (l : Line) (n : ℕ) (es : List Entry) → has_key k (entry l (magic n) ∷ es) ≡ false
-    → Placed k (entry l (magic n) ∷ es) (record { from = size l; to = length (text l); more = 1 })
+placed_first : (k : List ℕ) (m : ℕ) (l : Line) (n : ℕ) (es : List Entry) → has_key k (entry l (magic n) ∷ es) ≡ false
+    → Placed k (entry l (magic n) ∷ es) m (record { from = size l; to = length (text l); front = size l + m; more = 1 })
 unfolding new_lines unlines edited starts shifted
-placed_first k (line t e) n es h =
+placed_first k m (line t e) n es h =
     let b : List ℕ = ending_bytes e in
     let u : List ℕ = unlines (lines_of es) in
     record {
       from = omega (arith, length-append (t ++ b) u);
       to = omega (arith, length-append (t ++ b) u, length-append t b);
+      front = refl;
       few = omega arith;
       count = λ v. rw h (omega (arith, length-map es line_of));
       bytes = λ v. rw (h, take-append_seam (t ++ b) u, append_assoc t b u, drop-append_seam t (b ++ u), append_assoc (pair_text k v) b u);
@@ -232,19 +234,19 @@ placed_first k (line t e) n es h =
           (starts_moved (lines_of es) (length t) (size (line t e) + length r) (0 + size (line t e)) (0 + size (line t e) + size (line r e)) (omega arith) (omega arith))));
     }
 
-pub absent_placed : (file k : List ℕ) (p : FindAnswer) → p ≡ find_key_call file k → p.found ≡ false → (r : Place) → FirstAt file r
-    → (es : List Entry) (gs : List Given) (ls : List Line) → header file ≡ accepted es gs ls → Placed k es r
-absent_placed file k p is absent r f es gs ls e =
+pub absent_placed : (file k : List ℕ) (p : FindAnswer) → p ≡ find_key_call file k → p.found ≡ false → (m : ℕ) (r : Edit) → FirstAt file m r
+    → (es : List Entry) (gs : List Given) (ls : List Line) → header file ≡ accepted es gs ls → Placed k es m r
+absent_placed file k p is absent m r f es gs ls e =
     let x = header_sound file e in
     let q = x.entries in
     let c : lines file ≡ x.first ∷ (lines_of x.rest ++ ls) = x.split ∙ ap (λ z. lines_of z ++ ls) q in
     let y = f x.first (lines_of x.rest ++ ls) c (omega (arith, (magic_line x.first x.magical).0)) in
     let h : has_key k es ≡ false = sym (has file k p is e) ∙ absent in
-    rw (q, y) (placed_first k x.first x.version x.rest (rw q at h))
+    rw (q, y) (placed_first k m x.first x.version x.rest (rw q at h))
 
 -- line 1 by the line at 0
-module _ (file : List ℕ) where
-  pub first_found : (text_end next : ℕ) → LineAt file 0 text_end next → FirstAt file (record { from = next; to = text_end; more = 1 })
+module _ (file : List ℕ) (m : ℕ) where
+  pub first_found : (text_end next : ℕ) → LineAt file 0 text_end next → FirstAt file m (record { from = next; to = text_end; front = next + m; more = 1 })
   first_found text_end next w l ls c h =
       let x : line (take (text_end - 0) file) w.ending ∷ lines (drop next file) ≡ l ∷ ls = sym w.cut ∙ c in
       let y : line (take (text_end - 0) file) w.ending ≡ l = cc in
@@ -252,7 +254,7 @@ module _ (file : List ℕ) where
       let b : text_end ≡ length (text l) = sym (length-take-le (text_end - 0) file (omega (arith, w.to, w.within)) ∙ omega arith) ∙ ap (λ z. length (text z)) y in
       rw (a, b)
 
-  pub first_past : PastAt file 0 → (r : Place) → FirstAt file r
+  pub first_past : PastAt file 0 → (r : Edit) → FirstAt file m r
   first_past w r l ls c h =
       let x : w.first ∷ w.rest ≡ l ∷ ls = sym w.cut ∙ c in
       let y : w.first ≡ l = cc in

@@ -1,142 +1,94 @@
-// The refusals of a setting, in order, and the numbers of its edit. Nothing is stored.
+// The refusals of a setting, in order, and its edit where there is none. Nothing is stored.
 ghost use Rattle.std.specs.Prelude.{◌≡◌};
-ghost use Rattle.format.specs.Refusals.{refusal};
 ghost use Rattle.format.specs.Settings.{key_fine, value_fine};
-ghost use Rattle.read_table.specs.Tables.{lent_entries};
-ghost use Rattle.set_key.specs.Edits.{Small, asked_number, no_plan, fitted, Planned};
+ghost use Rattle.format.specs.Reasons.{refusal_number};
+ghost use Rattle.set_key.specs.Edits.{Small, asked_number, fitted, Planned};
 
-use crate::place::Place;
-use format::Refusal;
-use format_values::refusals;
+use format::reason::{Reason, Refused};
+use read_table::cells::Entry;
+use read_table::table::Edit;
+use set_pair::Pair;
 
-// A refusal, or the edit: the pair's text between `from` and `to`, where it ends, how many lines more there are, and the new file's bytes and
-// header lines.
+// What a setting makes of a file: the edit, and how many bytes and header lines the new one has.
 #[derive(Clone, Copy)]
 pub struct Plan {
-    pub refusal: Refusal,
-    pub from: usize,
-    pub to: usize,
-    pub front: usize,
-    pub more: usize,
+    pub edit: Edit,
     pub length: usize,
     pub count: usize,
 }
 
-// Refused, and nothing else said.
-fn no_plan(refusal: Refusal) -> Plan
-    ensures { result ≡ no_plan refusal }
-{
-    Plan {
-        refusal: refusal,
-        from: 0,
-        to: 0,
-        front: 0,
-        more: 0,
-        length: 0,
-        count: 0,
-    }
+// How many bytes and lines the old header has, and how many bytes the old file.
+#[derive(Clone, Copy)]
+pub struct Sizes {
+    pub header: usize,
+    pub lines: usize,
+    pub file: usize,
 }
 
-// Refused, and no line is meant.
-fn refuse(number: u32) -> Plan
-    ensures { result ≡ no_plan (refusal number) }
-{
-    no_plan(refusals::refusal(number))
-}
-
-// The refusal of the key, the value or the table, in a file of this version, or 0. `fine` tells whether the table is the file's.
-fn asked(version: u32, key: &[u8], value: &[u8], fine: bool) -> u32
-    ensures { result ≡ asked_number version (key_fine key.now) (value_fine value.now) fine }
+// Whether the key, the value and the table are right in a file of this version. `fine` tells whether the table is the file's.
+#[tactic(auto, unfolding(crate::specs::Edits::asked_number))]
+fn asked(version: u32, pair: &Pair, fine: bool) -> Result<(), Reason>
+    ensures { refusal_number result ≡ asked_number version (key_fine pair.now.key.now) (value_fine pair.now.value.now) fine }
 {
     if version < format::PAIRS_SINCE {
-        return format::NOT_IN_VERSION;
+        Err(Reason::NotInVersion)
+    } else if !set_pair::key_fine(pair.key) {
+        Err(Reason::BadKey)
+    } else if !set_pair::value_fine(pair.value) {
+        Err(Reason::BadValue)
+    } else if !fine {
+        Err(Reason::WrongTable)
+    } else {
+        Ok(())
     }
-    if !set_pair::key_fine(key) {
-        return format::BAD_KEY;
-    }
-    if !set_pair::value_fine(value) {
-        return format::BAD_VALUE;
-    }
-    if !fine {
-        return format::WRONG_TABLE;
-    }
-    0
 }
 
-// The limits of the new file, with a text of m bytes at the place: `bytes` and `count` are the old header's, `used` the old file's.
-fn fit(
-    place: Place,
-    m: usize,
-    bytes: usize,
-    count: usize,
-    used: usize,
-    room: usize,
-    slots: usize,
-) -> Plan
-    requires { Small place m bytes count used }
-    ensures { result ≡ fitted place m bytes count used room slots }
+// The plan of an edit, where the new file is within the limits, in a buffer of `room` bytes and a table of `slots` entries.
+#[tactic(auto, unfolding(crate::specs::Edits::fitted))]
+fn fit(edit: Edit, old: Sizes, room: usize, slots: usize) -> Result<Plan, Reason>
+    requires { Small edit old }
+    ensures { result ≡ fitted edit old room slots }
 {
-    let front = place.from + m;
-    if format::MAX_HEADER < front + (bytes - place.to) {
-        return refuse(format::HEADER_TOO_LONG);
-    }
-    let lines = count + place.more;
-    if (format::MAX_LINES as usize) < lines {
-        return refuse(format::TOO_MANY_LINES);
-    }
-    let length = front + (used - place.to);
-    if format::MAX_FILE < length {
-        return refuse(format::FILE_TOO_LONG);
-    }
-    if (room < length) | (slots < lines) {
-        return refuse(format::LENT_TOO_SHORT);
-    }
-    Plan {
-        refusal: refusals::FINE,
-        from: place.from,
-        to: place.to,
-        front: front,
-        more: place.more,
-        length: length,
-        count: lines,
+    let header = edit.front + (old.header - edit.to);
+    let count = old.lines + edit.more;
+    let length = edit.front + (old.file - edit.to);
+    if format::MAX_HEADER < header {
+        Err(Reason::HeaderTooLong)
+    } else if (format::MAX_LINES as usize) < count {
+        Err(Reason::TooManyLines)
+    } else if format::MAX_FILE < length {
+        Err(Reason::FileTooLong)
+    } else if room < length || slots < count {
+        Err(Reason::LentTooShort)
+    } else {
+        Ok(Plan {
+            edit,
+            length,
+            count,
+        })
     }
 }
 
-// The plan of a setting of a file in a buffer of `room` bytes, whose table is lent as a list or as bytes.
-pub(crate) fn prepare(
+// The plan of a setting of a file in a buffer of `room` bytes, with its table.
+pub(crate) fn prepare<E: Entry>(
     file: &[u8],
     room: usize,
-    list: &[u32],
-    bytes: &[u8],
-    width: usize,
+    table: &[E],
     count: usize,
-    key: &[u8],
-    value: &[u8],
-) -> Plan
-    ensures { Planned file.now room (lent_entries width list.now bytes.now) count key.now value.now result }
+    pair: &Pair,
+) -> Result<Plan, Refused>
+    ensures { Planned file.now room (E.entries table.now) count pair.now.key.now pair.now.value.now result }
 {
-    let read = read_header::read::read_header(file);
-    let refusal = read.refusal;
-    let lines = read.reading.lines as usize;
-    // a refused file has no lines
-    if lines == 0 {
-        return no_plan(refusal);
-    }
-    let fine = read_table::is_table(file, lines, list, bytes, width, count);
-    let number = asked(read.reading.version, key, value, fine);
-    if number != 0 {
-        return refuse(number);
-    }
+    let reading = read_header::read::reading(file)?;
+    let lines = reading.lines as usize;
+    let fine = read_table::table::is_table(file, lines, table, count);
+    asked(reading.version, pair, fine)?;
     // a key stands before the names under LIST
-    let place = crate::place::find_place(file, read.reading.fieldlines, key);
-    let m = set_pair::pair_length(key, value);
-    fit(
-        place,
-        m,
-        read.reading.length as usize,
+    let edit = crate::place::find_edit(file, reading.fieldlines, pair);
+    let old = Sizes {
+        header: reading.length as usize,
         lines,
-        file.len(),
-        room,
-        read_table::entries(list, bytes, width),
-    )
+        file: file.len(),
+    };
+    Ok(fit(edit, old, room, E::count(table))?)
 }

@@ -8,46 +8,43 @@ ghost use Rattle.set_key.specs.Edits.{set_into};
 
 use format::{Refusal, SetAnswer};
 use format_values::refusals;
+use read_table::cells::Entry;
+use set_pair::Pair;
 
 // The answer of a file of so many bytes and header lines.
 fn answer(refusal: Refusal, length: usize, count: usize) -> SetAnswer
     ensures { ◌≡◌ {A = SetAnswer} result (record { refusal = refusal; length = length; count = count }) }
 {
     SetAnswer {
-        refusal: refusal,
+        refusal,
         length: length as u64,
         count: count as u64,
     }
 }
 
-// Sets a key to a value in the file in the first `used` bytes of a buffer, whose line table has `count` entries and is lent as a list or as bytes.
-fn set_into(
+// Sets a key to a value in the file in the first `used` bytes of a buffer, whose line table has `count` entries.
+fn set_into<E: Entry>(
     buf: &mut [u8],
     used: usize,
-    list: &mut [u32],
-    bytes: &mut [u8],
-    width: usize,
+    table: &mut [E],
     count: usize,
-    key: &[u8],
-    value: &[u8],
+    pair: &Pair,
 ) -> SetAnswer
-    ensures { ◌≡◌ {A = SetAnswer × (List ℕ × (List ℕ × List ℕ))} (result, (buf.new, (list.new, bytes.new))) (set_into width buf.old used list.old bytes.old count key.now value.now) }
+    requires { E.whole table.old }
+    ensures { ◌≡◌ {A = SetAnswer × (List ℕ × List E)} (result, (buf.new, table.new)) (set_into E.entries E.holding buf.old used table.old count pair.now.key.now pair.now.value.now) }
 {
     let room = buf.len();
     if room < used {
         return answer(refusals::LENT_TOO_SHORT, used, count);
     }
-    let plan = crate::plan::prepare(&buf[..used], room, list, bytes, width, count, key, value);
-    let refusal = plan.refusal;
-    if refusal.number != 0 {
-        return answer(refusal, used, count);
+    match crate::plan::prepare(&buf[..used], room, table, count, pair) {
+        Err(refused) => answer(refused.into(), used, count),
+        Ok(plan) => {
+            set_splice::splice_pair(buf, used, plan.edit, pair);
+            read_table::table::shift(table, count, plan.edit);
+            answer(refusals::FINE, plan.length, plan.count)
+        }
     }
-    let length = plan.length;
-    set_splice::splice_pair(buf, used, plan.from, plan.to, length, key, value);
-    read_table::shift(
-        list, bytes, width, count, plan.more, plan.from, plan.to, plan.front,
-    );
-    answer(refusal, length, plan.count)
 }
 
 // The same for a table of numbers. A refused call alters nothing.
@@ -63,17 +60,7 @@ pub fn set_key(
     ensures call { ◌≡◌ {A = SetAnswer × (List ℕ × List ℕ)} (result, (buf.new, table.new)) (set_key_call buf.old used table.old count key.now value.now) }
     ensures enough { table_entries ≤ length table.old → set_room used key.now value.now ≤ length buf.old → Enough result.refusal }
 {
-    let mut none = [0u8; 1];
-    set_into(
-        buf,
-        used,
-        table,
-        &mut none,
-        read_table::IN_LIST,
-        count,
-        key,
-        value,
-    )
+    set_into(buf, used, table, count, &Pair { key, value })
 }
 
 // The same for a table in bytes, 4 an entry.
@@ -88,15 +75,5 @@ pub fn set_key_in_bytes(
     ensures call { ◌≡◌ {A = SetAnswer × (List ℕ × List ℕ)} (result, (buf.new, table.new)) (set_key_entry buf.old used table.old count key.now value.now) }
     ensures enough { table_room ≤ length table.old → set_room used key.now value.now ≤ length buf.old → Enough result.refusal }
 {
-    let mut none = [0u32; 1];
-    set_into(
-        buf,
-        used,
-        &mut none,
-        table,
-        read_table::IN_BYTES,
-        count,
-        key,
-        value,
-    )
+    set_into(buf, used, table, count, &Pair { key, value })
 }

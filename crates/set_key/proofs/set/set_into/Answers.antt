@@ -1,53 +1,28 @@
--- `set_key::set::set_into` meets its contract: each return is one law of the answer; the edit and the table are what the plan promises.
-use borrow.Author.Rules.{rules}
-use Rattle.format.proofs.Samples.{all_bytes}
-use Rattle.read_table.specs.Tables.{lent_entries}
-use Rattle.read_table.proofs.Lent.{holds_none}
-use Rattle.set_key.proofs.Answers.{call_short, call_kept, edit_fits, edit_length, table_shiftable, call_done, call_into}
-use lib.Seq.{length-take-le}
-use mathlib.Core.Path.{sym, ◌∙◌}
+-- Each return is one law of the answer; the edit and the table are what the plan promises.
+use Rattle.std.proofs.Common.{◌≡◌, ◌∙◌, refl, sym, ap, length-take-le}
+use Rattle.set_key.proofs.Answers.{call_short, call_kept, edit_from, edit_to, edit_room, call_done, call_into}
 use Rattle.set_key.proofs.set.set_into.Goals as goal
 
 pub returns-then-room-used : goal.returns-then-room-used
-returns-then-room-used c =
+returns-then-room-used g c =
     let a = c.args in
-    let table = lent_entries a.width a.list.now a.bytes.now in
-    call_into a.width a.buf.now a.used a.list.now a.bytes.now a.count a.key.now a.value.now
-    ((λ i. (c.answer.ensures i, (a.buf.now, table))) ∙ call_short a.buf.now a.used table a.count a.key.now a.value.now c.if-room-used.true)
-    (holds_none a.width a.list.now a.bytes.now (all_bytes a.bytes.now (λ i. search rules)))
+    let e = g.E.Entry in
+    call_into e.entries e.holding a.buf.now a.used a.table.now a.count a.pair.now.key.now a.pair.now.value.now
+    (call_short a.buf.now a.used (e.entries a.table.now) a.count a.pair.now.key.now a.pair.now.value.now c.if-room-used.true)
+    c.answer.ensures refl (sym (e.holds.own a.table.now c.requires))
 
-pub slice_bounds-prepare-end-2 : goal.slice_bounds-prepare-end-2
-slice_bounds-prepare-end-2 c =
+pub returns-in-Err : goal.returns-in-Err
+returns-in-Err g c =
     let a = c.args in
-    sym (length-take-le a.used a.buf.now c.if-room-used.false)
+    let e = g.E.Entry in
+    call_into e.entries e.holding a.buf.now a.used a.table.now a.count a.pair.now.key.now a.pair.now.value.now
+    (call_kept a.buf.now a.used (e.entries a.table.now) a.count a.pair.now.key.now a.pair.now.value.now c.if-room-used.false c.in-Err.refused c.in-Err.ensures)
+    (c.answer-in-Err.ensures ∙ ap (λ r. record { refusal = r; length = a.used; count = a.count }) c.into.ensures) refl (sym (e.holds.own a.table.now c.requires))
 
-pub returns-then-refusal-ne0 : goal.returns-then-refusal-ne0
-returns-then-refusal-ne0 c =
+pub returns-in-Ok : goal.returns-in-Ok
+returns-in-Ok g c =
     let a = c.args in
-    let table = lent_entries a.width a.list.now a.bytes.now in
-    call_into a.width a.buf.now a.used a.list.now a.bytes.now a.count a.key.now a.value.now
-    ((λ i. (c.answer-then-refusal-ne0.ensures i, (a.buf.now, table)))
-    ∙ call_kept a.buf.now a.used table a.count a.key.now a.value.now c.if-room-used.false c.prepare-plan.result c.prepare-plan.ensures c.if-refusal-ne0.true)
-    (holds_none a.width a.list.now a.bytes.now (all_bytes a.bytes.now (λ i. search rules)))
-
-pub splice_pair-requires : goal.splice_pair-requires
-splice_pair-requires c =
-    let a = c.args in
-    let table = lent_entries a.width a.list.now a.bytes.now in
-    let n = c.if-refusal-ne0.false in (record {
-      places_within = edit_fits a.buf.now a.used table a.count a.key.now a.value.now c.if-room-used.false c.prepare-plan.result c.prepare-plan.ensures n;
-      end_after = edit_length a.buf.now a.used table a.count a.key.now a.value.now c.if-room-used.false c.prepare-plan.result c.prepare-plan.ensures n;
-    })
-
-pub shift-requires : goal.shift-requires
-shift-requires c =
-    let a = c.args in
-    table_shiftable a.buf.now a.used (lent_entries a.width a.list.now a.bytes.now) a.count a.key.now a.value.now c.if-room-used.false c.prepare-plan.result c.prepare-plan.ensures c.if-refusal-ne0.false
-
-pub returns : goal.returns
-returns c =
-    let a = c.args in
-    let table = lent_entries a.width a.list.now a.bytes.now in
-    call_into a.width a.buf.now a.used a.list.now a.bytes.now a.count a.key.now a.value.now
-    (call_done a.buf.now a.used table a.count a.key.now a.value.now c.if-room-used.false c.prepare-plan.result c.prepare-plan.ensures c.if-refusal-ne0.false c.answer-2.result c.answer-2.ensures c.splice_pair.new.buf c.splice_pair.ensures)
-    c.shift.ensures
+    let e = g.E.Entry in
+    call_into e.entries e.holding a.buf.now a.used a.table.now a.count a.pair.now.key.now a.pair.now.value.now
+    (call_done a.buf.now a.used (e.entries a.table.now) a.count a.pair.now.key.now a.pair.now.value.now c.if-room-used.false c.in-Ok.ensures)
+    c.answer-in-Ok.ensures c.splice_pair.ensures c.shift.ensures
