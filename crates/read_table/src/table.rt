@@ -69,11 +69,12 @@ impl Edit {
         requires { moved_by self.to self.front x ≤ max_file }
         ensures { result ≡ moved_by self.to self.front x }
     {
+        let Edit { to, front, .. } = self;
         let at = x as usize;
-        if at < self.to {
+        if at < to {
             x
         } else {
-            (self.front + (at - self.to)) as u32
+            (front + (at - to)) as u32
         }
     }
 }
