@@ -1,11 +1,11 @@
 // Bytes, the bytes of a sample, and bytes in hex.
-ghost use Rattle.std.specs.Prelude.{◌≡◌, ◌+◌, ◌*◌, ◌-◌, ◌≤◌, ◌<◌, ◌==◌, length, if◌then◌else◌};
+ghost use Rattle.std.specs.Prelude.{◌≡◌, ◌+◌, ◌*◌, ◌≤◌, ◌<◌, length};
 ghost use Rattle.std.proofs.lemmas.List.Edits.{sets};
-ghost use Rattle.format.specs.Descriptors.{big};
+ghost use Rattle.format.specs.Codes.{endian_code};
 ghost use Rattle.format.specs.Samples.{to_bytes, ordered};
 ghost use Rattle.format.specs.Writer.{hex_letter, hex_text};
 
-use format::wide;
+use format::codes::Endian;
 
 // The bytes s.
 pub fn put_bytes(out: &mut [u8], at: usize, s: &[u8]) -> usize
@@ -13,37 +13,22 @@ pub fn put_bytes(out: &mut [u8], at: usize, s: &[u8]) -> usize
     ensures place { result ≡ at + length s.now }
     ensures stored { out.new ≡ sets out.old at s.now }
 {
-    let mut i: usize = 0;
-    while i < s.len() {
-        out[at + i] = s[i];
-        i += 1;
-    }
-    at + i
+    let end = at + s.len();
+    out[at..end].copy_from_slice(s);
+    end
 }
 
-// Where byte j of w stands, byte 0 the least.
-fn spot(j: usize, w: usize, endian: u64) -> usize
-    requires { j < w }
-    ensures { result ≡ (if endian == big then w - 1 - j else j) }
+// The low W bytes of x.
+pub fn put_word<const W: usize>(out: &mut [u8], at: usize, x: u64, endian: Endian) -> usize
+    requires width { W ≤ 8 }
+    requires room { at + W ≤ length out.old }
+    ensures place { result ≡ at + W }
+    ensures stored { out.new ≡ sets out.old at (ordered (endian_code endian) (to_bytes W x)) }
 {
-    if endian == wide::BIG { w - 1 - j } else { j }
-}
-
-// The low w bytes of x.
-pub fn put_word(out: &mut [u8], at: usize, x: u64, w: usize, endian: u64) -> usize
-    requires { at + w ≤ length out.old }
-    ensures place { result ≡ at + w }
-    ensures stored { out.new ≡ sets out.old at (ordered endian (to_bytes w x)) }
-{
-    let mut y = x;
-    let mut j: usize = 0;
-    while j < w {
-        let i = at + spot(j, w, endian);
-        out[i] = (y % 256) as u8;
-        y = y / 256;
-        j += 1;
+    match endian {
+        Endian::Little => put_bytes(out, at, &x.to_le_bytes()[..W]),
+        Endian::Big => put_bytes(out, at, &x.to_be_bytes()[8 - W..]),
     }
-    at + w
 }
 
 // A hex digit, lower case. There is no branch, so that the compiler makes many digits at once.
@@ -60,14 +45,11 @@ pub fn put_hex_bytes(out: &mut [u8], at: usize, s: &[u8]) -> usize
     ensures place { result ≡ at + 2 * length s.now }
     ensures stored { out.new ≡ sets out.old at (hex_text s.now) }
 {
-    let mut o = at;
-    let mut i: usize = 0;
-    while i < s.len() {
+    for i in 0..s.len() {
         let b = s[i];
+        let o = at + 2 * i;
         out[o] = hex_letter(b / 16);
         out[o + 1] = hex_letter(b % 16);
-        o += 2;
-        i += 1;
     }
-    o
+    at + 2 * s.len()
 }
