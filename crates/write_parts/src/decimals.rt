@@ -41,18 +41,18 @@ fn put_to_4(out: &mut [u8], at: usize, n: u64) -> usize
     ensures place { result ≡ at + length (decimal n) }
     ensures stored { out.new ≡ sets out.old at (decimal n) }
 {
-    if n < 10 {
-        out[at] = (48 + n) as u8;
-        return at + 1;
+    match n {
+        0..=9 => {
+            out[at] = (48 + n) as u8;
+            at + 1
+        }
+        10..=99 => put_two(out, at, n),
+        100..=999 => {
+            out[at] = (48 + n / 100) as u8;
+            put_two(out, at + 1, n % 100)
+        }
+        _ => put_four(out, at, n),
     }
-    if n < 100 {
-        return put_two(out, at, n);
-    }
-    if n < 1000 {
-        out[at] = (48 + n / 100) as u8;
-        return put_two(out, at + 1, n % 100);
-    }
-    put_four(out, at, n)
 }
 
 // A number of up to eight digits.
@@ -62,10 +62,11 @@ fn put_to_8(out: &mut [u8], at: usize, n: u64) -> usize
     ensures stored { out.new ≡ sets out.old at (decimal n) }
 {
     if n < 10000 {
-        return put_to_4(out, at, n);
+        put_to_4(out, at, n)
+    } else {
+        let o = put_to_4(out, at, n / 10000);
+        put_four(out, o, n % 10000)
     }
-    let o = put_to_4(out, at, n / 10000);
-    put_four(out, o, n % 10000)
 }
 
 // A number of up to twelve digits.
@@ -75,10 +76,11 @@ fn put_to_12(out: &mut [u8], at: usize, n: u64) -> usize
     ensures stored { out.new ≡ sets out.old at (decimal n) }
 {
     if n < 100000000 {
-        return put_to_8(out, at, n);
+        put_to_8(out, at, n)
+    } else {
+        let o = put_to_4(out, at, n / 100000000);
+        put_eight(out, o, n % 100000000)
     }
-    let o = put_to_4(out, at, n / 100000000);
-    put_eight(out, o, n % 100000000)
 }
 
 // A number.
@@ -88,10 +90,11 @@ pub fn put_decimal(out: &mut [u8], at: usize, n: u64) -> usize
     ensures stored { out.new ≡ sets out.old at (decimal n) }
 {
     if n < 100000000 {
-        return put_to_8(out, at, n);
+        put_to_8(out, at, n)
+    } else {
+        let o = put_to_12(out, at, n / 100000000);
+        put_eight(out, o, n % 100000000)
     }
-    let o = put_to_12(out, at, n / 100000000);
-    put_eight(out, o, n % 100000000)
 }
 
 // How many digits a number of up to four has.
@@ -100,16 +103,12 @@ fn length_to_4(n: u64) -> usize
     ensures digits { result ≡ length (decimal n) }
     ensures few { result ≤ 4 }
 {
-    if 1000 <= n {
-        return 4;
+    match n {
+        0..=9 => 1,
+        10..=99 => 2,
+        100..=999 => 3,
+        _ => 4,
     }
-    if 100 <= n {
-        return 3;
-    }
-    if 10 <= n {
-        return 2;
-    }
-    1
 }
 
 // The same for up to eight digits.
@@ -119,9 +118,10 @@ fn length_to_8(n: u64) -> usize
     ensures few { result ≤ 8 }
 {
     if n < 10000 {
-        return length_to_4(n);
+        length_to_4(n)
+    } else {
+        length_to_4(n / 10000) + 4
     }
-    length_to_4(n / 10000) + 4
 }
 
 // The same for up to twelve digits.
@@ -131,9 +131,10 @@ fn length_to_12(n: u64) -> usize
     ensures few { result ≤ 12 }
 {
     if n < 100000000 {
-        return length_to_8(n);
+        length_to_8(n)
+    } else {
+        length_to_4(n / 100000000) + 8
     }
-    length_to_4(n / 100000000) + 8
 }
 
 // The same for any number.
@@ -142,7 +143,8 @@ pub fn decimal_length(n: u64) -> usize
     ensures few { result ≤ 20 }
 {
     if n < 100000000 {
-        return length_to_8(n);
+        length_to_8(n)
+    } else {
+        length_to_12(n / 100000000) + 8
     }
-    length_to_12(n / 100000000) + 8
 }

@@ -49,7 +49,7 @@ loop-i-preserved c =
     let l = c.loop-i in
     let b = get_or s l.i 0 in
     putting_more l.invariant (hex_of_byte b) (hex_text (drop (l.i + 1) s)) (hex_next s l.i c.loop-i-test.true) _ _
-        (rw (c.hex_letter.ensures, c.hex_letter-in-loop-i.ensures) (set_then l.out (hex_letter (b % 16) ∷ []) (c.args.at + 2 * l.i) (hex_letter (b / 16)))) (omega arith)
+    (rw (c.hex_letter.ensures, c.hex_letter-in-loop-i.ensures) (set_then l.out (hex_letter (b % 16) ∷ []) (c.args.at + 2 * l.i) (hex_letter (b / 16)))) (omega arith)
 
 pub shape_of-out : goal.shape_of-out
 shape_of-out c = c.loop-i.invariant.long

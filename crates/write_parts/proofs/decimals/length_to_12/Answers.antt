@@ -3,5 +3,5 @@ use native.Mathlib.Omega.{arith}
 use Rattle.write_parts.proofs.Digits.{decimal_long}
 use Rattle.write_parts.proofs.decimals.length_to_12.Goals as goal
 
-pub returns : goal.returns
-returns c = omega (arith, c.length_to_4.ensures, decimal_long 8 c.args.n c.if-n-lt100000000.false)
+pub returns-else-n-lt100000000-clause-digits : goal.returns-else-n-lt100000000-clause-digits
+returns-else-n-lt100000000-clause-digits c = omega (arith, c.length_to_4.ensures, decimal_long 8 c.args.n c.if-n-lt100000000.false)

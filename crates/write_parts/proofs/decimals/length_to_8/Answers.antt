@@ -3,5 +3,5 @@ use native.Mathlib.Omega.{arith}
 use Rattle.write_parts.proofs.Digits.{decimal_long}
 use Rattle.write_parts.proofs.decimals.length_to_8.Goals as goal
 
-pub returns : goal.returns
-returns c = omega (arith, c.length_to_4-2.ensures, decimal_long 4 c.args.n c.if-n-lt10000.false)
+pub returns-else-n-lt10000-clause-digits : goal.returns-else-n-lt10000-clause-digits
+returns-else-n-lt10000-clause-digits c = omega (arith, c.length_to_4-else-n-lt10000.ensures, decimal_long 4 c.args.n c.if-n-lt10000.false)

@@ -21,8 +21,8 @@ put_eight-requires c =
     let p = c.put_to_4-o in
     (omega arith, omega (arith, c.requires.1, p.ensures.place, p.auto.out, decimal_long 8 c.args.n c.if-n-lt100000000.false))
 
-pub returns : goal.returns
-returns c =
+pub returns-else-n-lt100000000 : goal.returns-else-n-lt100000000
+returns-else-n-lt100000000 c =
     let a = c.args in
     let p = c.put_to_4-o in
     let q = c.put_eight in

@@ -21,8 +21,8 @@ put_four-requires c =
     let p = c.put_to_4-o in
     (omega arith, omega (arith, c.requires.1, p.ensures.place, p.auto.out, decimal_long 4 c.args.n c.if-n-lt10000.false))
 
-pub returns : goal.returns
-returns c =
+pub returns-else-n-lt10000 : goal.returns-else-n-lt10000
+returns-else-n-lt10000 c =
     let a = c.args in
     let p = c.put_to_4-o in
     let q = c.put_four in
