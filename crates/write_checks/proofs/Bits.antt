@@ -2,12 +2,15 @@
 -- Assumes nothing.
 use Rattle.std.specs.Prelude.{if◌then◌else◌}
 use Rattle.std.proofs.Common.{◌≡◌, ℕ, ◌+◌, ◌-◌, ◌*◌, ◌/◌, ◌%◌, ◌^◌, ◌<◌, ◌≤◌, Bool, true, false, ◌&&◌, ltb, leb, List, length, get_or, take, drop, ℤ, pos, negsuc, sym, refl, ap, ◌∙◌, arith, length-drop, length-take-le, to_z-of_z, w64, to_z, of_z, ltb-false, ltb-true, le-ltb, lt-ltb, le-leb, leb-false, leb-true}
+use Rattle.std.proofs.lemmas.List.{ext_get_or, drop-take}
+use lib.Seq.{slice, take-take, get_or-take, get_or-drop, drop-drop}
 use lib.Bits.{bit_or, or_lt, or_add_and, and_le_l, and_le_r}
 use borrow.Author.Tests.{lt-leb}
 use lib.Signed.{mag}
+use Rattle.format.specs.Descriptors.{signed, little}
 use Rattle.format.specs.Samples.{from_bytes, to_signed, from_signed, sample_value}
 use Rattle.format.specs.Boundary.{samples_lent}
-use Rattle.format.proofs.Boundary.{lent_room, sample_at}
+use Rattle.format.proofs.Boundary.{lent_room, length_samples, sample_at}
 use Rattle.write_checks.specs.Refused.{in_range}
 
 -- a sample that is read from a list is itself
@@ -42,6 +45,39 @@ unfolding sample_value
 word_sample s k h =
     let l : length (take 8 (drop (8 * k) s)) ≡ 8 = length-take-le 8 (drop (8 * k) s) (omega (arith, length-drop (8 * k) s, lent_room from_bytes 8 s k h)) in
     sym (sample_at s k (pos 0) h ∙ ap (λ (w : ℕ). to_signed w (from_bytes (take 8 (drop (8 * k) s)))) l)
+
+-- a part of lent bytes has that part of the samples
+pub lent_part : (s : List ℕ) (from to : ℕ) → from ≤ to → to ≤ length s / 8 → samples_lent (take (8 * to - 8 * from) (drop (8 * from) s)) ≡ take (to - from) (drop from (samples_lent s))
+lent_part s from to h l =
+    ext_get_or (pos 0) (samples_lent part) (take (to - from) (drop from (samples_lent s)))
+    (length_samples part ∙ omega (arith, long, length-take-le (to - from) (drop from (samples_lent s)) (omega (arith, length-drop from (samples_lent s), length_samples s))))
+    (λ i k. same i (omega (arith, k, length_samples part, long)))
+  where
+    part : List ℕ
+    part = take (8 * to - 8 * from) (drop (8 * from) s)
+
+    long : length part ≡ 8 * to - 8 * from
+    long = length-take-le (8 * to - 8 * from) (drop (8 * from) s) (omega (arith, length-drop (8 * from) s, l))
+
+    same : (i : ℕ) → i < to - from → get_or (samples_lent part) i (pos 0) ≡ get_or (take (to - from) (drop from (samples_lent s))) i (pos 0)
+    same i k =
+        let m : 8 * to - 8 * from ≡ 8 * i + (8 * to - 8 * from - 8 * i) = omega (arith, k) in
+        let n : 8 * from + 8 * i ≡ 8 * (from + i) = omega arith in
+        let cut : take 8 (drop (8 * i) part) ≡ take 8 (drop (8 * (from + i)) s) =
+        ap (λ j. take 8 (drop (8 * i) (take j (drop (8 * from) s)))) m
+        ∙ ap (take 8) (drop-take (8 * i) (8 * to - 8 * from - 8 * i) (drop (8 * from) s))
+        ∙ take-take 8 (8 * to - 8 * from - 8 * i) (drop (8 * i) (drop (8 * from) s)) (omega (arith, k))
+        ∙ ap (take 8) (drop-drop (8 * i) (8 * from) s ∙ ap (λ j. drop j s) n) in
+        sample_at part i (pos 0) (omega (arith, k, long))
+        ∙ ap (sample_value signed little) cut
+        ∙ sym (sample_at s (from + i) (pos 0) (omega (arith, k, l)))
+        ∙ sym (get_or-take (to - from) (drop from (samples_lent s)) i (pos 0) k ∙ get_or-drop from (samples_lent s) i (pos 0))
+
+-- the elements from one to before another
+pub cut_is : {A : Type 0} (l : List A) (from to : ℕ) → from ≤ to → take (to - from) (drop from l) ≡ slice from to l
+cut_is l from to h =
+    let e : from + (to - from) ≡ to = omega (arith, h) in
+    sym (drop-take from (to - from) l) ∙ ap (λ n. drop from (take n l)) e
 
 module _ (x : ℕ) (l : x < 18446744073709551616) where
   -- ---- the range: low added, samples from -low to high are the numbers up to low + high

@@ -1,37 +1,41 @@
 -- Laws of the refusals: the tests of the numbers, the capped product, and the samples in range.
 -- Assumes nothing.
 use Rattle.std.specs.Prelude.{if◌then◌else◌}
-use Rattle.std.proofs.Common.{◌≡◌, ℕ, ◌+◌, ◌*◌, ◌<◌, ◌≤◌, Bool, true, false, not, ◌&&◌, ◌||◌, eqb, leb, List, [], ◌∷◌, length, get_or, drop, ℤ, pos, negsuc, sym, refl, ap, ◌∙◌, mul_comm, le-mul_of_pos_right, add-one, arith, drop_of_length-le, drop-cons, le-ltb, lt-ltb, eq-eqb, ne_eqb, le-leb}
-use mathlib.Core.Bool.{and_assoc, and-true}
+use Rattle.std.proofs.Common.{◌≡◌, ℕ, ◌+◌, ◌*◌, ◌<◌, ◌≤◌, Bool, true, false, not, ◌&&◌, ◌||◌, eqb, ltb, leb, leb-true, zero, suc, List, [], ◌∷◌, length, get_or, drop, ℤ, pos, negsuc, sym, refl, ap, ◌∙◌, mul_comm, le-mul_of_pos_right, add-one, arith, drop_of_length-le, drop-cons, le-ltb, lt-ltb, eq-eqb, ne_eqb, le-leb}
+use mathlib.Core.Bool.{and_assoc, and-true, and-false}
+use lib.Dec.{lit<}
+use Rattle.format.specs.Codes.{type_code, encoding_code, endian_code}
+use Rattle.format.specs.declared.codes.Encoding.{Encoding}
+use Rattle.format.specs.declared.codes.Encoding.TheVariants.{Raw, Text, Hex}
+use Rattle.format.specs.declared.codes.Endian.{Endian}
+use Rattle.format.specs.declared.codes.Endian.TheVariants.{Little, Big}
+use Rattle.format.specs.declared.codes.SampleType.{SampleType}
+use Rattle.format.specs.declared.codes.SampleType.TheVariants.{Int8, Uint8, Int16, Uint16, Int32, Uint32, Int64, Uint64, Float, Double}
 use borrow.Author.Tests.{lt-leb}
-use Rattle.format.specs.Bytes.{is_in}
+use Rattle.std.specs.List.{list_any}
+use Rattle.std.proofs.Math.Dec.{eqb-suc-zero, eqb-zero-suc}
+use Rattle.format.proofs.Bytes.{and_left, and_right}
+use Rattle.format.specs.Bytes.{between, is_in}
 use Rattle.format.specs.Limits.{max_extent}
 use Rattle.format.specs.Refusals.{bad_descriptor, extent_too_large, float_samples, bad_sample, wrong_count}
 use Rattle.format.specs.Descriptors.{NumberKind, type_at, sample_bytes, number_kind, is_floating, is_signed, product, extent, capped}
 use Rattle.format.specs.Samples.{in_type, lowest, highest}
 use Rattle.format.specs.Widths.{kind_by, width_by}
 use Rattle.format.specs.Writer.{all_in_type, writable}
-use Rattle.write_checks.specs.Refused.{in_range, all_in_range, WholeRange, early_refusal, Numbers, Ready}
+use Rattle.write_checks.specs.Refused.{in_range, all_in_range, WholeRange, early_refusal, Ready}
 use Rattle.format_values.proofs.ProductLaws.{times_capped}
 use Rattle.format_values.proofs.TypeLaws.{below_10, type_width, type_bytes, floating_is, kind_by_lem, width_by_lem, lowest_most, highest_most}
 
 -- ---- a 0 among the numbers
 
-module _ (ns : List ℕ) (i : ℕ) where
-  module _ (h : i < length ns) where
-    zero_next : is_in 0 (drop i ns) ≡ (eqb 0 (get_or ns i 0) || is_in 0 (drop (i + 1) ns))
-    unfolding is_in
-    zero_next = rw (add-one i, drop-cons ns i 0 h)
-
-    pub zero_found : get_or ns i 0 ≡ 0 → is_in 0 (drop i ns) ≡ true
-    zero_found e = zero_next ∙ ap (λ (n : ℕ). eqb 0 n || is_in 0 (drop (i + 1) ns)) e
-
-    pub zero_passed : (get_or ns i 0 ≡ 0 → ⊥) → is_in 0 (drop i ns) ≡ is_in 0 (drop (i + 1) ns)
-    zero_passed n = zero_next ∙ rw (ne_eqb 0 (get_or ns i 0) (λ e. n (sym e)))
-
-  pub zero_none : length ns ≤ i → is_in 0 (drop i ns) ≡ false
-  unfolding is_in
-  zero_none h = ap (is_in 0) (drop_of_length-le ns h)
+pub any_is : (ns : List ℕ) → list_any (λ n. eqb n 0) ns ≡ is_in 0 ns
+unfolding is_in
+any_is [] = refl
+any_is (n ∷ ns) = rw (any_is ns, turned n) refl
+  where
+    turned : (n : ℕ) → eqb n 0 ≡ eqb 0 n
+    turned zero = refl
+    turned (suc n) = eqb-suc-zero n ∙ sym (eqb-zero-suc n)
 
 -- ---- samples in a range
 
@@ -64,13 +68,6 @@ all_in_range_lem k w (z ∷ zs) = rw (range_is k w z, all_in_range_lem k w zs)
 
 -- ---- the types
 
--- the types from 8 on are the floating ones
-floating_at : (t : ℕ) → t < 10 → is_floating (number_kind t) ≡ leb 8 t
-floating_at t h = sym (floating_is t) ∙ rw (lt-ltb t 10 h) (and-true (leb 8 t))
-
-pub integer_type : (t : ℕ) → t < 8 → is_floating (number_kind t) ≡ false
-integer_type t h = floating_at t (omega arith) ∙ lt-leb 8 t h
-
 -- the bounds of an integer type
 module _ (t : ℕ) {s : Bool} {w : ℕ} (i : is_floating (number_kind t) ≡ false) (es : s ≡ is_signed (number_kind t)) (ew : w ≡ sample_bytes t) where
   bound_by : (f : NumberKind → ℕ → ℕ) → f (kind_by s) (width_by w) ≡ f (number_kind t) (sample_bytes t)
@@ -93,67 +90,110 @@ type_range t h el eh =
     (below_10 (λ t. WholeRange (lowest (number_kind t) (sample_bytes t)) (highest (number_kind t) (sample_bytes t)))
     (8, refl) (8, refl) (16, refl) (16, refl) (32, refl) (32, refl) (64, refl) (63, refl) (0, refl) (0, refl) t h)
 
--- ---- the early refusals, from what the code knows where it returns each
+-- ---- the numbers of the names
 
-pub early_descriptor : (version : ℕ) (sizes : List ℕ) (t e endian : ℕ) (zs : List ℤ) (b : Bool) → b ≡ writable version sizes t e endian → b ≡ false → bad_descriptor ≡ early_refusal version sizes t e endian zs
-unfolding early_refusal
-early_descriptor version sizes t e endian zs b eb q = rw (sym eb, q)
+pub type_few : (t : SampleType) → type_code t < 10
+type_few Int8 = lit< tt
+type_few Uint8 = lit< tt
+type_few Int16 = lit< tt
+type_few Uint16 = lit< tt
+type_few Int32 = lit< tt
+type_few Uint32 = lit< tt
+type_few Int64 = lit< tt
+type_few Uint64 = lit< tt
+type_few Float = lit< tt
+type_few Double = lit< tt
 
-module _ {version : ℕ} {sizes : List ℕ} {t e endian : ℕ} (zs : List ℤ) where
-  module _ {b : Bool} (eb : b ≡ writable version sizes t e endian) (yes : b ≡ true) (known : Numbers version sizes t e endian) {n m w x : ℕ}
-      (en : n ≡ capped (product sizes)) (em : m ≡ length zs) (ew : w ≡ sample_bytes t) (ex : x ≡ capped (n * w)) where
-    ok : writable version sizes t e endian ≡ true
-    ok = sym eb ∙ yes
+pub encoding_few : (e : Encoding) → encoding_code e < 3
+encoding_few Raw = lit< tt
+encoding_few Text = lit< tt
+encoding_few Hex = lit< tt
 
-    size : x ≡ capped (extent sizes t)
-    size = ex ∙ ap (λ (k : ℕ). capped (k * w)) en ∙ ap (λ (k : ℕ). capped (capped (product sizes) * k)) ew ∙ ap capped (mul_comm (capped (product sizes)) (sample_bytes t)) ∙ times_capped (sample_bytes t) (product sizes) ∙ ap capped (mul_comm (sample_bytes t) (product sizes))
+pub endian_few : (e : Endian) → endian_code e < 2
+endian_few Little = lit< tt
+endian_few Big = lit< tt
 
-    pub early_extent : max_extent < x → extent_too_large ≡ early_refusal version sizes t e endian zs
+-- ---- what can be written
+
+module _ (version : ℕ) (sizes : List ℕ) (t e endian : ℕ) where
+  pub no_type : 10 ≤ t → writable version sizes t e endian ≡ false
+  unfolding writable
+  no_type h = rw (le-ltb t 10 h) (and-false (between 1 5 version))
+
+  pub no_encoding : 3 ≤ e → writable version sizes t e endian ≡ false
+  unfolding writable
+  no_encoding h = rw (le-ltb e 3 h, and-false (ltb t 10)) (and-false (between 1 5 version))
+
+  pub no_endian : 2 ≤ endian → writable version sizes t e endian ≡ false
+  unfolding writable
+  no_endian h = rw (le-ltb endian 2 h, and-false (ltb e 3), and-false (ltb t 10)) (and-false (between 1 5 version))
+
+  -- version and sizes decide where the rest is in its lists
+  pub sized_is : t < 10 → e < 3 → endian < 2 → writable version sizes t e endian ≡ (between 1 5 version && (between 1 16 (length sizes) && not (is_in 0 sizes)))
+  unfolding writable
+  sized_is h k l = rw (lt-ltb t 10 h, lt-ltb e 3 k, lt-ltb endian 2 l)
+
+-- ---- what is known of an array that a header can describe
+
+module _ (version : ℕ) (sizes : List ℕ) (t e endian : ℕ) (ok : writable version sizes t e endian ≡ true) where
+  pub axes_few : (1 ≤ length sizes) × (length sizes ≤ 16)
+  unfolding writable
+  axes_few =
+      let sized = and_right (ltb endian 2) (between 1 16 (length sizes) && not (is_in 0 sizes)) (and_right (ltb e 3) _ (and_right (ltb t 10) _ (and_right (between 1 5 version) _ ok))) in
+      let few = and_left (between 1 16 (length sizes)) (not (is_in 0 sizes)) sized in
+      (leb-true 1 (length sizes) (and_left (leb 1 (length sizes)) (leb (length sizes) 16) few), leb-true (length sizes) 16 (and_right (leb 1 (length sizes)) (leb (length sizes) 16) few))
+
+-- ---- the early refusals of such an array, from what the code knows where it returns each
+
+module _ (version : ℕ) (sizes : List ℕ) (t e endian : ℕ) (zs : List ℤ) (ok : writable version sizes t e endian ≡ true) {n m w x : ℕ}
+    (en : n ≡ capped (product sizes)) (em : m ≡ length zs) (ew : w ≡ sample_bytes t) (ex : x ≡ capped (n * w)) where
+  size : x ≡ capped (extent sizes t)
+  size = ex ∙ ap (λ (k : ℕ). capped (k * w)) en ∙ ap (λ (k : ℕ). capped (capped (product sizes) * k)) ew ∙ ap capped (mul_comm (capped (product sizes)) (sample_bytes t)) ∙ times_capped (sample_bytes t) (product sizes) ∙ ap capped (mul_comm (sample_bytes t) (product sizes))
+
+  pub early_extent : max_extent < x → extent_too_large ≡ early_refusal version sizes t e endian zs
+  unfolding early_refusal
+  early_extent h = rw (ok, lt-ltb max_extent (extent sizes t) (omega (arith, size)))
+
+  module _ (small : x ≤ max_extent) where
+    within : extent sizes t ≤ max_extent
+    within = omega (arith, size)
+
+    pub early_float : is_floating (number_kind t) ≡ true → float_samples ≡ early_refusal version sizes t e endian zs
     unfolding early_refusal
-    early_extent h = rw (ok, lt-ltb max_extent (extent sizes t) (omega (arith, size)))
+    early_float h = rw (ok, le-ltb max_extent (extent sizes t) within, h)
 
-    module _ (small : x ≤ max_extent) where
-      within : extent sizes t ≤ max_extent
-      within = omega (arith, size)
+    module _ (integer : is_floating (number_kind t) ≡ false) where
+      exact : n ≡ product sizes
+      exact = omega (arith, en, within, le-mul_of_pos_right (product sizes) (type_bytes t))
 
-      pub early_float : 8 ≤ t → float_samples ≡ early_refusal version sizes t e endian zs
+      pub early_count : (m ≡ n → ⊥) → wrong_count ≡ early_refusal version sizes t e endian zs
       unfolding early_refusal
-      early_float h = rw (ok, le-ltb max_extent (extent sizes t) within, floating_at t known.type_in, le-leb 8 t h)
+      early_count h =
+          rw (ok, le-ltb max_extent (extent sizes t) within, integer, ne_eqb (length zs) (product sizes) (λ q. h (em ∙ q ∙ sym exact)))
 
-      module _ (integer : t < 8) where
-        exact : n ≡ product sizes
-        exact = omega (arith, en, within, le-mul_of_pos_right (product sizes) (type_bytes t))
+      module _ (count : m ≡ n) {low high : ℕ} (el : low ≡ lowest (number_kind t) (sample_bytes t)) (eh : high ≡ highest (number_kind t) (sample_bytes t))
+          {fine : Bool} (ef : fine ≡ all_in_range low high zs) where
+        all_is : all_in_type (number_kind t) (sample_bytes t) zs ≡ fine
+        all_is = sym (ef ∙ ap (λ (k : ℕ). all_in_range k high zs) el ∙ ap (λ (k : ℕ). all_in_range (lowest (number_kind t) (sample_bytes t)) k zs) eh ∙ all_in_range_lem (number_kind t) (sample_bytes t) zs)
 
-        pub early_count : (m ≡ n → ⊥) → wrong_count ≡ early_refusal version sizes t e endian zs
+        tests : early_refusal version sizes t e endian zs ≡ (if not fine then bad_sample else 0)
         unfolding early_refusal
-        early_count h =
-            rw (ok, le-ltb max_extent (extent sizes t) within, floating_at t known.type_in, lt-leb 8 t integer, ne_eqb (length zs) (product sizes) (λ q. h (em ∙ q ∙ sym exact)))
+        tests = rw (ok, le-ltb max_extent (extent sizes t) within, integer, eq-eqb (length zs) (product sizes) (sym em ∙ count ∙ exact), all_is)
 
-        module _ (count : m ≡ n) {low high : ℕ} (el : low ≡ lowest (number_kind t) (sample_bytes t)) (eh : high ≡ highest (number_kind t) (sample_bytes t))
-            {fine : Bool} (ef : fine ≡ all_in_range low high zs) where
-          all_is : all_in_type (number_kind t) (sample_bytes t) zs ≡ fine
-          all_is = sym (ef ∙ ap (λ (k : ℕ). all_in_range k high zs) el ∙ ap (λ (k : ℕ). all_in_range (lowest (number_kind t) (sample_bytes t)) k zs) eh ∙ all_in_range_lem (number_kind t) (sample_bytes t) zs)
+        pub early_sample : fine ≡ false → bad_sample ≡ early_refusal version sizes t e endian zs
+        early_sample h = sym (tests ∙ ap (λ (b : Bool). if not b then bad_sample else 0) h)
 
-          tests : early_refusal version sizes t e endian zs ≡ (if not fine then bad_sample else 0)
-          unfolding early_refusal
-          tests =
-              rw (ok, le-ltb max_extent (extent sizes t) within, floating_at t known.type_in, lt-leb 8 t integer, eq-eqb (length zs) (product sizes) (sym em ∙ count ∙ exact), all_is)
+        pub early_fine : fine ≡ true → 0 ≡ early_refusal version sizes t e endian zs
+        early_fine h = sym (tests ∙ ap (λ (b : Bool). if not b then bad_sample else 0) h)
 
-          pub early_sample : fine ≡ false → bad_sample ≡ early_refusal version sizes t e endian zs
-          early_sample h = sym (tests ∙ ap (λ (b : Bool). if not b then bad_sample else 0) h)
-
-          pub early_fine : fine ≡ true → 0 ≡ early_refusal version sizes t e endian zs
-          early_fine h = sym (tests ∙ ap (λ (b : Bool). if not b then bad_sample else 0) h)
-
-          pub ready : fine ≡ true → Ready version sizes t e endian zs
-          ready h = record {
-            numbers = known;
-            extent_small = omega (arith, ap (λ (k : ℕ). k * sample_bytes t) (sym em ∙ count ∙ exact), within);
-            in_type = all_is ∙ h;
-          }
+        pub ready : fine ≡ true → Ready t zs
+        ready h = record {
+          extent_small = omega (arith, ap (λ (k : ℕ). k * sample_bytes t) (sym em ∙ count ∙ exact), within);
+          in_type = all_is ∙ h;
+        }
 
 -- ---- what is known where none is met
 
 -- the samples are few
-pub few_samples : (version : ℕ) (sizes : List ℕ) (t e endian : ℕ) (zs : List ℤ) → Ready version sizes t e endian zs → length zs ≤ max_extent
-few_samples version sizes t e endian zs r = omega (arith, r.extent_small, le-mul_of_pos_right (length zs) (type_bytes t))
+pub few_samples : (t : ℕ) (zs : List ℤ) → Ready t zs → length zs ≤ max_extent
+few_samples t zs r = omega (arith, r.extent_small, le-mul_of_pos_right (length zs) (type_bytes t))

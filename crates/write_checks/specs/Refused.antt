@@ -1,14 +1,9 @@
--- Internal to the library. The samples of a call, and what is refused, in the words of the contracts. Each is tied to the definitions of `format` by a law of proofs/.
+-- Internal to the library. What is refused, in the words of the contracts. Each is tied to the definitions of `format` by a law of proofs/.
 use Rattle.std.specs.Prelude.{◌≡◌, ℕ, ◌+◌, ◌*◌, ◌^◌, ◌<◌, ◌≤◌, Bool, true, not, ◌&&◌, List, [], ◌∷◌, length, ℤ, pos, negsuc, ◌==◌, nat_le, nat_lt, if◌then◌else◌}
 use Rattle.format.specs.Limits.{max_file, max_extent}
 use Rattle.format.specs.Refusals.{file_too_long, bad_descriptor, extent_too_large, float_samples, bad_sample, lent_too_short, wrong_count}
 use Rattle.format.specs.Descriptors.{sample_bytes, number_kind, is_floating, product, extent}
-use Rattle.format.specs.Boundary.{samples_lent}
 use Rattle.format.specs.Writer.{all_in_type, writable}
-
--- the samples of a call: those that lent bytes hold, or the numbers themselves
-unfoldable pub chosen : Bool → List ℤ → List ℕ → List ℤ
-chosen packed samples lent = if packed then samples_lent lent else samples
 
 -- a sample lies from -low to high
 abbrev pub in_range : ℕ → ℕ → ℤ → Bool
@@ -37,16 +32,7 @@ early_refusal version sizes t e endian zs =
 abbrev pub late_refusal : ℕ → ℕ → ℕ
 late_refusal total room = if nat_lt max_file total then file_too_long else if nat_lt room total then lent_too_short else 0
 
--- the numbers of a header that can be written
-pub record Numbers (version : ℕ) (sizes : List ℕ) (t e endian : ℕ) : Type 0 where
-  pub type_in : t < 10
-  pub encoding_in : e < 3
-  pub endian_in : endian < 2
-  pub axes_from : 1 ≤ length sizes
-  pub axes_to : length sizes ≤ 16
-
--- what is known where no early refusal is met
-pub record Ready (version : ℕ) (sizes : List ℕ) (t e endian : ℕ) (zs : List ℤ) : Type 0 where
-  pub numbers : Numbers version sizes t e endian
+-- what is known of samples of a type where no early refusal is met
+pub record Ready (t : ℕ) (zs : List ℤ) : Type 0 where
   pub extent_small : length zs * sample_bytes t ≤ max_extent
   pub in_type : all_in_type (number_kind t) (sample_bytes t) zs ≡ true

@@ -1,5 +1,6 @@
-// What can be written: the samples of a call to the writer, and the refusals of its arguments.
+// What can be written: what a call to a writer asks for, its samples, and the refusals of both.
 #![tactic(auto)]
 
+pub mod asked;
 pub mod check;
 pub mod source;
