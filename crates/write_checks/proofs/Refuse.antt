@@ -20,7 +20,7 @@ use Rattle.format.specs.Limits.{max_extent}
 use Rattle.format.specs.Refusals.{bad_descriptor, extent_too_large, float_samples, bad_sample, wrong_count}
 use Rattle.format.specs.Descriptors.{NumberKind, type_at, sample_bytes, number_kind, is_floating, is_signed, product, extent, capped}
 use Rattle.format.specs.Samples.{in_type, lowest, highest}
-use Rattle.format.specs.Widths.{kind_by, width_by}
+use Rattle.format.specs.Widths.{Width, kind_by, width_by}
 use Rattle.format.specs.Writer.{all_in_type, writable}
 use Rattle.write_checks.specs.Refused.{in_range, all_in_range, WholeRange, early_refusal, Ready}
 use Rattle.format_values.proofs.ProductLaws.{times_capped}
@@ -103,6 +103,9 @@ type_few Int64 = lit< tt
 type_few Uint64 = lit< tt
 type_few Float = lit< tt
 type_few Double = lit< tt
+
+pub type_wide : (t : SampleType) → Width (sample_bytes (type_code t))
+type_wide t = type_width (type_code t)
 
 pub encoding_few : (e : Encoding) → encoding_code e < 3
 encoding_few Raw = lit< tt

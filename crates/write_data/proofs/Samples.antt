@@ -4,14 +4,14 @@ use Rattle.std.specs.Prelude.{if◌then◌else◌}
 use mathlib.Core.Path.{◌≡◌, refl, sym, ap, ◌∙◌}
 use mathlib.Core.Bool.{Bool, true, false}
 use mathlib.Core.List.{List, [], ◌∷◌, ◌++◌, flat_map, append_assoc}
-use Prim.Native.Nat.{ℕ, zero, suc, ◌+◌, ◌*◌, ◌-◌, ◌^◌, ◌/◌, ◌%◌, ◌≤◌, ◌<◌}
+use Prim.Native.Nat.{ℕ, zero, suc, ◌+◌, ◌*◌, ◌-◌, ◌^◌, ◌/◌, ◌%◌, ◌≤◌, ◌<◌, min}
 use lib.Pow.{pow-add}
 use native.Mathlib.Nat.{le-mul_of_pos_right, pow-suc, one-le-pow, mul-le-mul, mul_assoc, mul-sub, mul-one, mul_comm, mul_left_comm, suc-mul, zero-mul}
 use native.Mathlib.Omega.{arith}
 use lib.Dec.{ltb, lit<}
 use lib.IntN.{ℤ, pos, negsuc}
-use lib.ListN.{length, drop, length-append}
-use lib.Seq.{slice, length-slice}
+use lib.ListN.{length, take, drop, length-append}
+use lib.Seq.{sets, slice, length-slice}
 use borrow.Author.Tests.{ltb-true, ltb-false, le-ltb, ne_eqb}
 use Rattle.format.specs.Bytes.{LF}
 use Rattle.format.specs.Limits.{max_file}
@@ -24,8 +24,9 @@ use Rattle.format.proofs.Samples.{length_to_bytes, length_ordered, length_value_
 use Rattle.format.proofs.Boundary.{flat_length}
 use Rattle.format.proofs.Writer.{hex_length}
 use Rattle.write_parts.specs.Stored.{text_line}
+use Rattle.write_parts.proofs.Runs.{stored_front}
 use Rattle.write_checks.specs.Refused.{late_refusal}
-use Rattle.write_data.specs.LowBytes.{low_bytes}
+use Rattle.write_data.specs.Data.{low_bytes}
 use Rattle.write_data.proofs.Parts.{flat_parts}
 
 -- ---- text
@@ -40,8 +41,8 @@ flat_text (z ∷ zs) = rw (flat_text zs, append_assoc)
 pub low_size : (w endian : ℕ) (z : ℤ) → length (low_bytes w endian z) ≡ w
 low_size w endian z = length_ordered endian (to_bytes w (from_signed 8 z)) ∙ length_to_bytes w (from_signed 8 z)
 
-pub part_length : (w endian from to : ℕ) (zs : List ℤ) → to ≤ length zs → length (flat_map (low_bytes w endian) (slice from to zs)) ≡ (to - from) * w
-part_length w endian from to zs h = flat_length (low_bytes w endian) w (low_size w endian) (slice from to zs) ∙ mul_comm w (length (slice from to zs)) ∙ ap (λ (k : ℕ). k * w) (length-slice from to zs h)
+pub low_length : (w endian : ℕ) (zs : List ℤ) → length (flat_map (low_bytes w endian) zs) ≡ length zs * w
+low_length w endian zs = flat_length (low_bytes w endian) w (low_size w endian) zs ∙ mul_comm w (length zs)
 
 -- ---- bytes
 
@@ -148,11 +149,33 @@ module _ (encoding w endian : ℕ) (zs : List ℤ) where
       ap length (hex_is n m) ∙ length-append (hex_text (raw_data w endian zs)) (LF ∷ [])
       ∙ omega (arith, hex_length (raw_data w endian zs), raw_size w endian zs)
 
--- the bytes of 256 samples fit the buffer of a part
-pub part_room : (w i e : ℕ) → w ≤ 8 → e ≤ i + 256 → (e - i) * w ≤ 2048
-part_room w i e h l =
-    let k : e - i ≤ 256 = omega arith in
-    omega (arith, mul-le-mul k h)
+-- the same of the number for hex
+module _ (w endian : ℕ) (zs : List ℤ) where
+  pub hex_of : data_bytes 2 w endian zs ≡ hex_text (raw_data w endian zs) ++ LF ∷ []
+  hex_of = hex_is 2 w endian zs (λ e. absurd (omega (arith, e))) (λ e. absurd (omega (arith, e)))
+
+  pub hex_long : length (data_bytes 2 w endian zs) ≡ length zs * (2 * w) + 1
+  hex_long = hex_is_long 2 w endian zs (λ e. absurd (omega (arith, e))) (λ e. absurd (omega (arith, e))) ∙ ap (λ (k : ℕ). k + 1) (sym (twice (length zs) w))
+
+-- ---- a part of the samples: the next 256 of them, or as many as are left
+
+module _ (i m n : ℕ) (zs : List ℤ) (em : m ≡ min 256 (n - i)) (en : n ≡ length zs) (h : i ≤ length zs) where
+  pub part_end : i + m ≤ length zs
+  part_end = omega (arith, em, en, h)
+
+  part_many : length (slice i (i + m) zs) ≡ m
+  part_many = length-slice i (i + m) zs part_end ∙ omega arith
+
+  -- its bytes fit the buffer of a part
+  pub part_room : (w : ℕ) → w ≤ 8 → length (slice i (i + m) zs) * w ≤ 2048
+  part_room w l =
+      let k : m ≤ 256 = omega (arith, em) in
+      omega (arith, mul-le-mul k l, ap (λ (j : ℕ). j * w) part_many)
+
+-- what its buffer holds: the bytes of the part ps are stored there, r of them
+pub part_stored : (w endian r : ℕ) (ps : List ℤ) (new buffer : List ℕ) → new ≡ sets buffer 0 (flat_map (low_bytes w endian) ps) → r ≡ 0 + length ps * w → length ps * w ≤ length buffer
+    → take r new ≡ flat_map (low_bytes w endian) ps
+part_stored w endian r ps new buffer e q h = stored_front new buffer (flat_map (low_bytes w endian) ps) r e (omega (arith, q, low_length w endian ps)) (omega (arith, q, h))
 
 -- ---- the refusal by length
 

@@ -1,1 +1,1 @@
-pub mod LowBytes
+pub mod Data

@@ -1,170 +1,100 @@
 // The data of the samples in each encoding, and its length.
 #![tactic(auto)]
 
-ghost use Rattle.std.specs.Prelude.{◌≡◌, ℕ, ◌+◌, ◌*◌, ◌-◌, ◌≤◌, ◌<◌, true, length};
+ghost use Rattle.std.specs.Prelude.{◌≡◌, ℕ, ◌+◌, ◌*◌, ◌≤◌, true, length};
 ghost use mathlib.Core.List.{flat_map};
 ghost use Rattle.std.proofs.lemmas.List.Edits.{sets};
-ghost use Rattle.std.proofs.Math.Seq.{slice};
+ghost use Rattle.format.specs.Codes.{type_code, encoding_code, endian_code};
+ghost use Rattle.format.specs.Descriptors.{sample_bytes, as_text};
 ghost use Rattle.format.specs.Limits.{max_extent};
-ghost use Rattle.format.specs.Descriptors.{as_text};
-ghost use Rattle.format.specs.Writer.{hex_text, text_data, raw_data, data_bytes};
+ghost use Rattle.format.specs.Reasons.{refusal_number};
 ghost use Rattle.format.specs.Room.{header_room, sample_room};
-ghost use Rattle.write_checks.specs.Refused.{chosen, late_refusal};
-ghost use Rattle.write_data.specs.LowBytes.{low_bytes};
-ghost use Rattle.lent_numbers.specs.Widths.{Width};
+ghost use Rattle.format.specs.Writer.{hex_text, text_data};
+ghost use Rattle.write_checks.specs.Refused.{late_refusal};
+ghost use Rattle.write_data.specs.Data.{low_bytes, raw_of, data_of, RawIsLow};
 
-use format::wide;
+use format::codes::{Encoding, Endian};
+use format::reason::Reason;
+use write_checks::asked::Array;
+use write_checks::check;
+use write_checks::source::Source;
 
 // How many bytes the samples take as text.
-fn text_length(samples: &[i64], lent: &[u8], packed: bool) -> usize
-    requires { length (chosen packed samples.now lent.now) ≤ max_extent }
-    ensures { (result ≡ length (text_data (chosen packed samples.now lent.now))) × (result ≤ sample_room * length (chosen packed samples.now lent.now)) }
+fn text_length<S: Source>(samples: &[S]) -> usize
+    requires { length (S.samples samples.now) ≤ max_extent }
+    ensures { (result ≡ length (text_data (S.samples samples.now))) × (result ≤ sample_room * length (S.samples samples.now)) }
 {
-    let n = write_checks::source::count(samples, lent, packed);
     let mut total: usize = 0;
-    let mut i: usize = 0;
-    while i < n {
-        total += write_parts::samples::signed_length(write_checks::source::bits_at(
-            samples, lent, packed, i,
-        )) + 1;
-        i += 1;
+    for i in 0..S::count(samples) {
+        total += write_parts::samples::signed_length(S::bits_at(samples, i)) + 1;
     }
     total
 }
 
 // The samples as text, one on a line.
-fn put_text(out: &mut [u8], at: usize, samples: &[i64], lent: &[u8], packed: bool) -> usize
-    requires { at + length (text_data (chosen packed samples.now lent.now)) ≤ length out.old }
-    ensures place { result ≡ at + length (text_data (chosen packed samples.now lent.now)) }
-    ensures stored { out.new ≡ sets out.old at (text_data (chosen packed samples.now lent.now)) }
+fn put_text<S: Source>(out: &mut [u8], at: usize, samples: &[S]) -> usize
+    requires { at + length (text_data (S.samples samples.now)) ≤ length out.old }
+    ensures place { result ≡ at + length (text_data (S.samples samples.now)) }
+    ensures stored { out.new ≡ sets out.old at (text_data (S.samples samples.now)) }
 {
-    let n = write_checks::source::count(samples, lent, packed);
     let mut o = at;
-    let mut i: usize = 0;
-    while i < n {
-        o = write_parts::samples::put_text_line(
-            out,
-            o,
-            write_checks::source::bits_at(samples, lent, packed, i),
-        );
-        i += 1;
+    for i in 0..S::count(samples) {
+        o = write_parts::samples::put_text_line(out, o, S::bits_at(samples, i));
     }
     o
 }
 
-// The low w bytes of each of the samples from `from` up to `to`.
-fn put_raw(
+// The low W bytes of each sample. The compiler makes a loop of each W.
+fn put_low<const W: usize, S: Source>(
     out: &mut [u8],
     at: usize,
-    samples: &[i64],
-    lent: &[u8],
-    packed: bool,
-    from: usize,
-    to: usize,
-    w: usize,
-    endian: u64,
+    samples: &[S],
+    endian: Endian,
 ) -> usize
-    requires { (from ≤ to) × (to ≤ length (chosen packed samples.now lent.now)) × (at + (to - from) * w ≤ length out.old) }
-    ensures place { result ≡ at + (to - from) * w }
-    ensures stored { out.new ≡ sets out.old at (flat_map (low_bytes w endian) (slice from to (chosen packed samples.now lent.now))) }
+    requires width { W ≤ 8 }
+    requires room { at + length (S.samples samples.now) * W ≤ length out.old }
+    ensures place { result ≡ at + length (S.samples samples.now) * W }
+    ensures stored { out.new ≡ sets out.old at (flat_map (low_bytes W (endian_code endian)) (S.samples samples.now)) }
 {
     let mut o = at;
-    let mut i = from;
-    while i < to {
-        o = write_parts::bytes::put_word(
-            out,
-            o,
-            write_checks::source::bits_at(samples, lent, packed, i),
-            w,
-            endian,
-        );
-        i += 1;
+    for i in 0..S::count(samples) {
+        o = write_parts::bytes::put_word::<W>(out, o, S::bits_at(samples, i), endian);
     }
     o
 }
 
-// The same by a call for each width, of which the compiler makes a loop of its own.
-fn put_by_width(
-    out: &mut [u8],
-    at: usize,
-    samples: &[i64],
-    lent: &[u8],
-    packed: bool,
-    from: usize,
-    to: usize,
-    w: usize,
-    endian: u64,
-) -> usize
-    requires { Width w × (from ≤ to) × (to ≤ length (chosen packed samples.now lent.now)) × (at + (to - from) * w ≤ length out.old) }
-    ensures place { result ≡ at + (to - from) * w }
-    ensures stored { out.new ≡ sets out.old at (flat_map (low_bytes w endian) (slice from to (chosen packed samples.now lent.now))) }
+// The low bytes of each sample, as many as the type of the array has.
+fn put_raw<S: Source>(out: &mut [u8], at: usize, array: &Array, samples: &[S]) -> usize
+    requires { at + length (S.samples samples.now) * sample_bytes (type_code array.now.sample_type) ≤ length out.old }
+    ensures place { result ≡ at + length (S.samples samples.now) * sample_bytes (type_code array.now.sample_type) }
+    ensures stored { out.new ≡ sets out.old at (raw_of array.now (S.samples samples.now)) }
 {
-    if w == 1 {
-        return put_raw(out, at, samples, lent, packed, from, to, 1, endian);
+    let endian = array.endian;
+    match array.sample_type.bytes() {
+        1 => put_low::<1, S>(out, at, samples, endian),
+        2 => put_low::<2, S>(out, at, samples, endian),
+        4 => put_low::<4, S>(out, at, samples, endian),
+        _ => put_low::<8, S>(out, at, samples, endian),
     }
-    if w == 2 {
-        return put_raw(out, at, samples, lent, packed, from, to, 2, endian);
-    }
-    if w == 4 {
-        return put_raw(out, at, samples, lent, packed, from, to, 4, endian);
-    }
-    put_raw(out, at, samples, lent, packed, from, to, 8, endian)
-}
-
-// The same by a call for each endian.
-fn put_sized(
-    out: &mut [u8],
-    at: usize,
-    samples: &[i64],
-    lent: &[u8],
-    packed: bool,
-    from: usize,
-    to: usize,
-    w: usize,
-    endian: u64,
-) -> usize
-    requires { Width w × (from ≤ to) × (to ≤ length (chosen packed samples.now lent.now)) × (at + (to - from) * w ≤ length out.old) × (endian < 2) }
-    ensures place { result ≡ at + (to - from) * w }
-    ensures stored { out.new ≡ sets out.old at (flat_map (low_bytes w endian) (slice from to (chosen packed samples.now lent.now))) }
-{
-    if endian == wide::BIG {
-        return put_by_width(out, at, samples, lent, packed, from, to, w, wide::BIG);
-    }
-    put_by_width(out, at, samples, lent, packed, from, to, w, wide::LITTLE)
 }
 
 // How many samples are put to hex at a time.
 const PART: usize = 256;
 
-// Where the part that starts at i ends; the last one ends at n.
-fn part_end(i: usize, n: usize) -> usize
-    requires { i < n }
-    ensures { (i < result) × (result ≤ n) × (result ≤ i + 256) }
-{
-    if n - i < PART { n } else { i + PART }
-}
-
 // The samples in hex: their bytes are made in a buffer, a part of the samples at a time.
-fn put_hex(
-    out: &mut [u8],
-    at: usize,
-    samples: &[i64],
-    lent: &[u8],
-    packed: bool,
-    w: usize,
-    endian: u64,
-) -> usize
-    requires { Width w × (at + length (chosen packed samples.now lent.now) * (2 * w) ≤ length out.old) × (endian < 2) }
-    ensures place { result ≡ at + length (chosen packed samples.now lent.now) * (2 * w) }
-    ensures stored { out.new ≡ sets out.old at (hex_text (flat_map (low_bytes w endian) (chosen packed samples.now lent.now))) }
+fn put_hex<S: Source>(out: &mut [u8], at: usize, array: &Array, samples: &[S]) -> usize
+    requires { at + length (S.samples samples.now) * (2 * sample_bytes (type_code array.now.sample_type)) ≤ length out.old }
+    ensures place { result ≡ at + length (S.samples samples.now) * (2 * sample_bytes (type_code array.now.sample_type)) }
+    ensures stored { out.new ≡ sets out.old at (hex_text (raw_of array.now (S.samples samples.now))) }
 {
-    let n = write_checks::source::count(samples, lent, packed);
+    let n = S::count(samples);
     let mut part = [0u8; 8 * PART];
     let mut o = at;
     let mut i: usize = 0;
+    // A `while`, since a turn takes as many samples as a part has; of lent bytes `chunks` would count the bytes.
     while i < n {
-        let to = part_end(i, n);
-        let used = put_sized(&mut part, 0, samples, lent, packed, i, to, w, endian);
+        let to = i + PART.min(n - i);
+        let used = put_raw(&mut part, 0, array, S::part(samples, i, to));
         o = write_parts::bytes::put_hex_bytes(out, o, &part[..used]);
         i = to;
     }
@@ -172,84 +102,62 @@ fn put_hex(
 }
 
 // How many bytes the data takes.
-fn data_length(samples: &[i64], lent: &[u8], packed: bool, encoding: u64, w: usize) -> usize
-    requires { (length (chosen packed samples.now lent.now) ≤ max_extent) × (length (chosen packed samples.now lent.now) * w ≤ max_extent) }
-    ensures length_of_data { (endian : ℕ) → result ≡ length (data_bytes encoding w endian (chosen packed samples.now lent.now)) }
+fn data_length<S: Source>(array: &Array, samples: &[S]) -> usize
+    requires { (length (S.samples samples.now) ≤ max_extent) × (length (S.samples samples.now) * sample_bytes (type_code array.now.sample_type) ≤ max_extent) }
+    ensures length_of_data { result ≡ length (data_of array.now (S.samples samples.now)) }
     ensures long { result ≤ sample_room * max_extent }
 {
-    if encoding == wide::TEXT {
-        return text_length(samples, lent, packed);
+    let size = S::count(samples) * array.sample_type.bytes() as usize;
+    match array.encoding {
+        Encoding::Raw => size,
+        Encoding::Text => text_length(samples),
+        Encoding::Hex => 2 * size + 1,
     }
-    let size = write_checks::source::count(samples, lent, packed) * w;
-    if encoding == wide::RAW {
-        return size;
-    }
-    2 * size + 1
 }
 
 // Whether text fits, however long its n lines are.
-fn any_text_fits(start: usize, n: usize, encoding: u64, room: usize) -> bool
+fn any_text_fits(start: usize, n: usize, encoding: Encoding, room: usize) -> bool
     requires { (start ≤ header_room) × (n ≤ max_extent) }
-    ensures { result ≡ true → (encoding ≡ as_text) × (0 ≡ late_refusal (start + sample_room * n) room) }
+    ensures { result ≡ true → (encoding_code encoding ≡ as_text) × (0 ≡ late_refusal (start + sample_room * n) room) }
 {
-    if encoding == wide::TEXT {
-        return write_checks::check::late_refusal(start + format::SAMPLE_ROOM * n, room) == 0;
+    match encoding {
+        Encoding::Text => check::check_room(start + format::SAMPLE_ROOM * n, room).is_ok(),
+        _ => false,
     }
-    false
 }
 
-// The refusal of a file whose data starts at `start`. The length of text is worked out only where its lines might not fit.
-pub fn file_refusal(
+// Whether a file whose data starts at `start` can be written. The length of text is worked out only where its lines might not fit.
+pub fn check_file<S: Source>(
     start: usize,
-    samples: &[i64],
-    lent: &[u8],
-    packed: bool,
-    encoding: u64,
-    w: usize,
+    array: &Array,
+    samples: &[S],
     room: usize,
-) -> u32
-    requires bounded { (start ≤ header_room) × (length (chosen packed samples.now lent.now) ≤ max_extent) × (length (chosen packed samples.now lent.now) * w ≤ max_extent) }
-    requires text_bounded { length (text_data (chosen packed samples.now lent.now)) ≤ sample_room * length (chosen packed samples.now lent.now) }
-    ensures { (endian : ℕ) → result ≡ late_refusal (start + length (data_bytes encoding w endian (chosen packed samples.now lent.now))) room }
+) -> Result<(), Reason>
+    requires bounded { (start ≤ header_room) × (length (S.samples samples.now) ≤ max_extent) × (length (S.samples samples.now) * sample_bytes (type_code array.now.sample_type) ≤ max_extent) }
+    requires text_bounded { length (text_data (S.samples samples.now)) ≤ sample_room * length (S.samples samples.now) }
+    ensures { refusal_number result ≡ late_refusal (start + length (data_of array.now (S.samples samples.now))) room }
 {
-    if any_text_fits(
-        start,
-        write_checks::source::count(samples, lent, packed),
-        encoding,
-        room,
-    ) {
-        return 0;
+    if any_text_fits(start, S::count(samples), array.encoding, room) {
+        Ok(())
+    } else {
+        check::check_room(start + data_length(array, samples), room)
     }
-    write_checks::check::late_refusal(
-        start + data_length(samples, lent, packed, encoding, w),
-        room,
-    )
 }
 
-// The data. The samples are those of a type of w bytes: the low bytes of each are its bytes.
-pub fn put_data(
-    out: &mut [u8],
-    at: usize,
-    samples: &[i64],
-    lent: &[u8],
-    packed: bool,
-    encoding: u64,
-    w: usize,
-    endian: u64,
-) -> usize
-    requires raw_bytes { Width w × (endian < 2) × (flat_map (low_bytes w endian) (chosen packed samples.now lent.now) ≡ raw_data w endian (chosen packed samples.now lent.now)) }
-    requires room { at + length (data_bytes encoding w endian (chosen packed samples.now lent.now)) ≤ length out.old }
-    ensures place { result ≡ at + length (data_bytes encoding w endian (chosen packed samples.now lent.now)) }
-    ensures stored { out.new ≡ sets out.old at (data_bytes encoding w endian (chosen packed samples.now lent.now)) }
+// The data. The samples are those of the array's type: the low bytes of each are its bytes.
+pub fn put_data<S: Source>(out: &mut [u8], at: usize, array: &Array, samples: &[S]) -> usize
+    requires raw_bytes { RawIsLow array.now (S.samples samples.now) }
+    requires room { at + length (data_of array.now (S.samples samples.now)) ≤ length out.old }
+    ensures place { result ≡ at + length (data_of array.now (S.samples samples.now)) }
+    ensures stored { out.new ≡ sets out.old at (data_of array.now (S.samples samples.now)) }
 {
-    if encoding == wide::RAW {
-        let n = write_checks::source::count(samples, lent, packed);
-        return put_sized(out, at, samples, lent, packed, 0, n, w, endian);
+    match array.encoding {
+        Encoding::Raw => put_raw(out, at, array, samples),
+        Encoding::Text => put_text(out, at, samples),
+        Encoding::Hex => {
+            let end = put_hex(out, at, array, samples);
+            out[end] = b'\n';
+            end + 1
+        }
     }
-    if encoding == wide::TEXT {
-        return put_text(out, at, samples, lent, packed);
-    }
-    let end = put_hex(out, at, samples, lent, packed, w, endian);
-    out[end] = b'\n';
-    end + 1
 }

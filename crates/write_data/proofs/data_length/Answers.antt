@@ -1,44 +1,24 @@
 -- `write_data::data_length` meets its contract. Assumes nothing.
-use Prim.Native.Nat.{ℕ, ◌*◌}
-use mathlib.Core.Path.{sym, ap, ◌∙◌}
-use native.Mathlib.Omega.{arith}
-use lib.ListN.{length}
-use Rattle.write_checks.specs.Refused.{chosen}
+use Rattle.std.proofs.Common.{arith, sym, ap, ◌∙◌, refl, length}
+use Rattle.format.specs.Codes.{type_code, encoding_code, endian_code}
+use Rattle.format.specs.Descriptors.{sample_bytes}
 use Rattle.write_data.proofs.Samples.{raw_is_long, text_is, hex_is_long}
 use Rattle.write_data.proofs.data_length.Goals as goal
 
-pub returns-then-encoding-eq-TEXT : goal.returns-then-encoding-eq-TEXT
-returns-then-encoding-eq-TEXT c =
-    let a = c.args in
-    let zs = chosen a.packed a.samples.now a.lent.now in
-    let p = c.text_length in
-    record { length_of_data = λ n. p.ensures.0 ∙ ap length (sym (text_is a.encoding a.w n zs c.if-encoding-eq-TEXT.true)); long = omega (arith, p.ensures.1, c.requires.0) }
+pub returns-in-Raw-clause-length_of_data : goal.returns-in-Raw-clause-length_of_data
+returns-in-Raw-clause-length_of_data g c =
+    let a = c.args.array.now in
+    let zs = g.S.Source.samples c.args.samples.now in
+    rw (c.count.ensures, c.bytes.ensures, c.in-Raw.is) (sym (raw_is_long 0 (sample_bytes (type_code a.sample_type)) (endian_code a.endian) zs refl))
 
-pub overflow_mul-size : goal.overflow_mul-size
-overflow_mul-size c =
-    let q = ap (λ (k : ℕ). k * c.args.w) c.count.ensures in
-    omega (arith, q, c.requires.1)
+pub returns-in-Text-clause-length_of_data : goal.returns-in-Text-clause-length_of_data
+returns-in-Text-clause-length_of_data g c =
+    let a = c.args.array.now in
+    let zs = g.S.Source.samples c.args.samples.now in
+    c.text_length.ensures.0 ∙ rw c.in-Text.is (ap length (sym (text_is 1 (sample_bytes (type_code a.sample_type)) (endian_code a.endian) zs refl)))
 
-pub returns-then-encoding-eq-RAW : goal.returns-then-encoding-eq-RAW
-returns-then-encoding-eq-RAW c =
-    let a = c.args in
-    let zs = chosen a.packed a.samples.now a.lent.now in
-    let q = ap (λ (k : ℕ). k * a.w) c.count.ensures in
-    record { length_of_data = λ n. q ∙ sym (raw_is_long a.encoding a.w n zs c.if-encoding-eq-RAW.true); long = omega (arith, q, c.requires.1) }
-
-pub overflow_mul-result : goal.overflow_mul-result
-overflow_mul-result c =
-    let q = ap (λ (k : ℕ). k * c.args.w) c.count.ensures in
-    omega (arith, q, c.requires.1)
-
-pub overflow_add-result : goal.overflow_add-result
-overflow_add-result c =
-    let q = ap (λ (k : ℕ). k * c.args.w) c.count.ensures in
-    omega (arith, q, c.requires.1)
-
-pub returns : goal.returns
-returns c =
-    let a = c.args in
-    let zs = chosen a.packed a.samples.now a.lent.now in
-    let q = ap (λ (k : ℕ). k * a.w) c.count.ensures in
-    record { length_of_data = λ n. omega (arith, q, hex_is_long a.encoding a.w n zs c.if-encoding-eq-RAW.false c.if-encoding-eq-TEXT.false); long = omega (arith, q, c.requires.1) }
+pub returns-in-Hex-clause-length_of_data : goal.returns-in-Hex-clause-length_of_data
+returns-in-Hex-clause-length_of_data g c =
+    let a = c.args.array.now in
+    let zs = g.S.Source.samples c.args.samples.now in
+    rw (c.count.ensures, c.bytes.ensures, c.in-Hex.is) (sym (hex_is_long 2 (sample_bytes (type_code a.sample_type)) (endian_code a.endian) zs (λ e. absurd (omega (arith, e))) (λ e. absurd (omega (arith, e)))))
