@@ -22,6 +22,9 @@ use Rattle.format.specs.Descriptors.{NumberKind, type_at, sample_bytes, number_k
 use Rattle.format.specs.Samples.{in_type, lowest, highest}
 use Rattle.format.specs.Widths.{Width, kind_by, width_by}
 use Rattle.format.specs.Writer.{all_in_type, writable}
+use Rattle.write_checks.specs.declared.asked.Array.{Array}
+use Rattle.write_checks.specs.declared.asked.Asked.{Asked}
+use Rattle.write_checks.specs.Checked.{on_asked, on_array, IsOf}
 use Rattle.write_checks.specs.Refused.{in_range, all_in_range, WholeRange, early_refusal, Ready}
 use Rattle.format_values.proofs.ProductLaws.{times_capped}
 use Rattle.format_values.proofs.TypeLaws.{below_10, type_width, type_bytes, floating_is, kind_by_lem, width_by_lem, lowest_most, highest_most}
@@ -135,6 +138,15 @@ module _ (version : ℕ) (sizes : List ℕ) (t e endian : ℕ) where
   pub sized_is : t < 10 → e < 3 → endian < 2 → writable version sizes t e endian ≡ (between 1 5 version && (between 1 16 (length sizes) && not (is_in 0 sizes)))
   unfolding writable
   sized_is h k l = rw (lt-ltb t 10 h, lt-ltb e 3 k, lt-ltb endian 2 l)
+
+  -- what cannot be written is refused first
+  pub early_descriptor : (zs : List ℤ) → writable version sizes t e endian ≡ false → early_refusal version sizes t e endian zs ≡ bad_descriptor
+  unfolding early_refusal
+  early_descriptor zs h = rw h
+
+-- the array that comes of what is asked for has its numbers
+pub on_same : {T : Type 0} (f : ℕ → List ℕ → ℕ → ℕ → ℕ → T) (asked : Asked) (array : Array) → IsOf asked array → on_array f array ≡ on_asked f asked
+on_same f asked array r = rw (r.version, r.sizes, r.sample_type, r.encoding, r.endian) refl
 
 -- ---- what is known of an array that a header can describe
 

@@ -10,6 +10,9 @@ use lib.Dec.{eqb}
 use lib.ListN.{length, set, take, drop, length-append}
 use lib.Seq.{sets}
 use Rattle.format.specs.Bytes.{bytes, LF, SPACE}
+use Rattle.format.specs.Codes.{encoding_code}
+use Rattle.format.specs.declared.codes.Encoding.{Encoding}
+use Rattle.format.specs.declared.codes.Encoding.TheVariants.{Raw, Text, Hex}
 use Rattle.format.specs.Descriptors.{type_at, type_name, encodings, endians, endian_needed, raw, hex}
 use Rattle.format.specs.Lines.{line, lf, unlines}
 use Rattle.format.specs.Writer.{decimal, spaced, name_at, field_line, endian_lines, header_lines, header_bytes}
@@ -39,19 +42,11 @@ space_each n (m ∷ ns) = ap (λ (r : List ℕ). SPACE ∷ (decimal n ++ r)) (sp
 
 -- ---- encodings
 
--- the part of the table at an encoding is its name
-pub encoding_part : (e : ℕ) → e < 3 → take (3 * e + 3 - 3 * e) (drop (3 * e) (bytes "rawtxthex")) ≡ name_at encodings e
-encoding_part zero h = refl
-encoding_part (suc zero) h = refl
-encoding_part (suc (suc zero)) h = refl
-encoding_part (suc (suc (suc e))) h = absurd (omega arith)
-
 -- every encoding but text is raw or hex
-pub raw_or_hex : (e : ℕ) → e < 3 → (e ≡ 1 → ⊥) → (eqb e raw || eqb e hex) ≡ true
-raw_or_hex zero h n = refl
-raw_or_hex (suc zero) h n = absurd (n refl)
-raw_or_hex (suc (suc zero)) h n = refl
-raw_or_hex (suc (suc (suc e))) h n = absurd (omega arith)
+pub raw_or_hex : (e : Encoding) → (e ≡ Text → ⊥) → (eqb (encoding_code e) raw || eqb (encoding_code e) hex) ≡ true
+raw_or_hex Raw n = refl
+raw_or_hex Text n = absurd (n refl)
+raw_or_hex Hex n = refl
 
 -- ---- the header
 

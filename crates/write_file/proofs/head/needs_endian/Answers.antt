@@ -1,15 +1,12 @@
 -- `write_file::head::needs_endian` meets its contract. Assumes nothing.
-use mathlib.Core.Path.{sym, ap, ◌∙◌}
-use mathlib.Core.Bool.{and-false, and-true}
+use Rattle.std.proofs.Common.{ap, ◌∙◌, sym}
+use mathlib.Core.Bool.{and-true}
 use lib.Dec.{ltb}
+use Rattle.format.specs.Codes.{type_code}
 use Rattle.format.specs.Descriptors.{sample_bytes}
 use Rattle.write_file.proofs.Header.{raw_or_hex}
 use Rattle.write_file.proofs.head.needs_endian.Goals as goal
 
-pub returns-then-encoding-eq-TEXT : goal.returns-then-encoding-eq-TEXT
-returns-then-encoding-eq-TEXT c = rw c.if-encoding-eq-TEXT.true (sym (and-false (ltb 1 (sample_bytes c.args.sampletype))))
-
-pub returns : goal.returns
-returns c =
-    let a = c.args in
-    rw (raw_or_hex a.encoding c.requires.1 c.if-encoding-eq-TEXT.false) (ap (ltb 1) c.sample_bytes.ensures ∙ sym (and-true (ltb 1 (sample_bytes a.sampletype))))
+pub returns-in_default : goal.returns-in_default
+returns-in_default c =
+    rw (raw_or_hex c.args.encoding c.in_default.not-Text) (ap (ltb 1) c.bytes.ensures ∙ sym (and-true (ltb 1 (sample_bytes (type_code c.args.sample_type)))))

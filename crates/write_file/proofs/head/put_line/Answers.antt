@@ -18,10 +18,8 @@ returns c =
     let q = c.put_bytes-e in
     let name = a.name.now in
     let value = a.value.now in (record {
-      written = (
-        omega (arith, p.ensures.place, q.ensures.place, value_length name value),
-        ap (λ (d : List ℕ). set d q.result 10) (q.ensures.stored ∙ ap (λ (d : List ℕ). sets d p.result value) p.ensures.stored)
-            ∙ value_stored a.out.now name value a.at p.result q.result p.ensures.place q.ensures.place,
-      );
+      place = omega (arith, p.ensures.place, q.ensures.place, value_length name value);
+      stored = ap (λ (d : List ℕ). set d q.result 10) (q.ensures.stored ∙ ap (λ (d : List ℕ). sets d p.result value) p.ensures.stored)
+            ∙ value_stored a.out.now name value a.at p.result q.result p.ensures.place q.ensures.place;
       long = omega (arith, p.ensures.place, q.ensures.place);
     })

@@ -23,10 +23,8 @@ returns c =
     let q = c.put_decimal-e in
     let name = a.name.now in
     let value = decimal a.n in (record {
-      written = (
-        omega (arith, p.ensures.place, q.ensures.place.0, value_length name value),
-        ap (λ (d : List ℕ). set d q.result 10) (q.ensures.stored ∙ ap (λ (d : List ℕ). sets d p.result value) p.ensures.stored)
-            ∙ value_stored a.out.now name value a.at p.result q.result p.ensures.place q.ensures.place.0,
-      );
+      place = omega (arith, p.ensures.place, q.ensures.place.0, value_length name value);
+      stored = ap (λ (d : List ℕ). set d q.result 10) (q.ensures.stored ∙ ap (λ (d : List ℕ). sets d p.result value) p.ensures.stored)
+            ∙ value_stored a.out.now name value a.at p.result q.result p.ensures.place q.ensures.place.0;
       long = omega (arith, p.ensures.place, q.ensures.place.1);
     })

@@ -20,10 +20,8 @@ returns c =
     let q = c.put_spaced-e in
     let name = bytes "sizes:" in
     let value = flat_map after_space a.sizes.now in (record {
-      written = (
-        omega (arith, p.ensures.place, q.ensures.written.0, value_length name value),
-        ap (λ (d : List ℕ). set d q.result 10) (q.ensures.written.1 ∙ ap (λ (d : List ℕ). sets d p.result value) p.ensures.stored)
-            ∙ value_stored a.out.now name value a.at p.result q.result p.ensures.place q.ensures.written.0,
-      );
+      place = omega (arith, p.ensures.place, q.ensures.place, value_length name value);
+      stored = ap (λ (d : List ℕ). set d q.result 10) (q.ensures.stored ∙ ap (λ (d : List ℕ). sets d p.result value) p.ensures.stored)
+            ∙ value_stored a.out.now name value a.at p.result q.result p.ensures.place q.ensures.place;
       long = omega (arith, p.ensures.place, q.ensures.long);
     })

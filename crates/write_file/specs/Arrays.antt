@@ -1,0 +1,14 @@
+-- Internal to this crate. The parts of the header of an array.
+use Rattle.std.specs.Prelude.{ℕ, List, length}
+use Rattle.format.specs.Codes.{type_code, encoding_code, endian_code}
+use Rattle.write_checks.specs.declared.asked.Array.{Array}
+use Rattle.write_file.specs.Stored.{endian_text, top_text, rest_text}
+
+abbrev pub endian_text_of : Array → List ℕ
+endian_text_of a = endian_text (type_code a.sample_type) (encoding_code a.encoding) (endian_code a.endian)
+
+abbrev pub top_of : Array → List ℕ
+top_of a = top_text a.version (type_code a.sample_type) (length a.sizes.now)
+
+abbrev pub rest_of : Array → List ℕ
+rest_of a = rest_text a.sizes.now (type_code a.sample_type) (encoding_code a.encoding) (endian_code a.endian)
