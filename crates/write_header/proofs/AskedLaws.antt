@@ -27,6 +27,12 @@ use Rattle.format.specs.Writer.{writable}
 use Rattle.format.specs.HeaderWriter.{orientation, vector_of, direction_of, has, if_given, orientation_of, oriented_bytes, shape_fine, space_listed, since_for, in_version, header_refused, after_reading, write_header, write_header_call}
 use Rattle.format.proofs.Numbered.{NumberedOutcome, header_numbered}
 use Rattle.write_file.specs.Stored.{answer_of}
+use Rattle.write_checks.specs.declared.asked.Asked.{Asked}
+use Rattle.write_checks.specs.Checked.{on_asked, IsOf}
+use Rattle.write_checks.proofs.Refuse.{on_same}
+use Rattle.write_header.specs.declared.checks.Given.{Given}
+use Rattle.write_header.specs.declared.checks.Header.{Header}
+use Rattle.write_header.specs.Headers.{text_of}
 use Rattle.write_header.specs.Stored.{space_fine, field_fine, version_fine, asked_refusal, Shaped}
 
 -- ---- the tests
@@ -126,16 +132,15 @@ module _ (version : ℕ) (sizes : List ℕ) (t e endian : ℕ) (s : Shape) {a : 
       unfolding asked_refusal
       asked_none h = rw (sym ea, ha, sym eb, hb, sym ec, h)
 
+-- the text of a header that is asked for
+pub text_same : (asked : Asked) (h : Header) (g : Given) → IsOf asked h.array → h.given.now ≡ g → text_of h ≡ on_asked oriented_bytes asked (orientation_of g.shape g.origin g.directions g.frame)
+text_same asked h g same e =
+    ap (λ f. f (orientation_of h.given.now.shape h.given.now.origin h.given.now.directions h.given.now.frame)) (on_same oriented_bytes asked h.array same)
+    ∙ ap (λ (x : Given). on_asked oriented_bytes asked (orientation_of x.shape x.origin x.directions x.frame)) e
+
 -- ---- what the reading says
 
 module _ (text out : List ℕ) (a : ReadAnswer) (is : a ≡ read_header_call text) where
-  pub read_refused : (a.refusal.number ≡ 0 → ⊥) → ◌≡◌ {A = WriteAnswer × List ℕ} (record { refusal = a.refusal; length = 0 }, out) (after_reading (header text) text out)
-  read_refused h = go (header text) is
-    where
-      go : (o : Outcome) → a ≡ read_answer o → ◌≡◌ {A = WriteAnswer × List ℕ} (record { refusal = a.refusal; length = 0 }, out) (after_reading o text out)
-      go (refused r) q = rw q
-      go (accepted es gs ls) q = absurd (h (ap (λ (x : ReadAnswer). x.refusal.number) q))
-
   module _ (fine : a.refusal.number ≡ 0) where
     taken : after_reading (header text) text out ≡ (if ltb (length out) (length text) then header_refused (refusal lent_too_short) out else (answer_of 0 (length text), over text out))
     taken = go (header text) is (header_numbered text)

@@ -1,14 +1,14 @@
 -- Laws of the call with lent bytes: the sizes, and the orientation.
 -- Assumes nothing.
 use mathlib.Core.Path.{◌≡◌, refl, sym, ap, ◌∙◌}
-use mathlib.Core.Bool.{Bool, true, false}
+use mathlib.Core.Bool.{Bool, true, false, false≢true}
 use mathlib.Core.List.{List, [], ◌∷◌}
 use Prim.Native.Nat.{ℕ, suc, ◌<◌, min}
 use native.Mathlib.Omega.{arith}
 use lib.Dec.{eqb, leb}
 use lib.ListN.{length, take, drop, replicate, length-take}
 use lib.Seq.{take_all}
-use borrow.Author.Tests.{eq-eqb, ne_eqb, leb-true, leb-false}
+use borrow.Author.Tests.{eqb-true, eq-eqb, ne_eqb, leb-true, leb-false}
 use Rattle.format.specs.declared.Decimal.{Decimal}
 use Rattle.format.specs.declared.Shape.{Shape}
 use Rattle.format.specs.Bytes.{is_empty}
@@ -46,6 +46,12 @@ module _ (version t e endian : ℕ) (sizes : List ℕ) (n : ℕ) (q : n ≡ min 
       )
 
 -- ---- an orientation in lent bytes
+
+pub is_none : (l : List ℕ) → eqb (length l) 0 ≡ true → length l ≡ 0
+is_none l e = eqb-true (length l) 0 e
+
+pub is_some : (l : List ℕ) → eqb (length l) 0 ≡ false → length l ≡ 0 → ⊥
+is_some l e q = absurd (false≢true (sym e ∙ eq-eqb (length l) 0 q))
 
 empty_is : (l : List ℕ) → is_empty l ≡ eqb (length l) 0
 empty_is [] = refl

@@ -12,7 +12,6 @@ use Rattle.format.specs.HeaderWriter.{vector_text, directions_text, frame_text, 
 use Rattle.format.specs.Columns.{column, matrix}
 use Rattle.format.specs.Boundary.{decimals_lent}
 use Rattle.format.specs.EntryPoints.{orientation_width, shape_lent, columns_lent, no_shape}
-use Rattle.write_checks.specs.Refused.{Numbers}
 use Rattle.write_file.specs.Stored.{value_line}
 
 -- ---- the text
@@ -80,11 +79,6 @@ pub record Shaped (s : Shape) : Type 0 where
   pub axes_to : s.axes ≤ 16
   pub columns_to : s.columns ≤ 8
   pub space_in : has s.given 1 ≡ true → s.space < 12
-
--- what is known where nothing is refused
-pub record Asked (version : ℕ) (sizes : List ℕ) (t e endian : ℕ) (s : Shape) : Type 0 where
-  pub numbers : Numbers version sizes t e endian
-  pub shaped : Shaped s
 
 -- ---- sizes as numbers and an orientation in lent bytes
 
