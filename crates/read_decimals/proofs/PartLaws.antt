@@ -1,6 +1,6 @@
 -- A sign, a fraction and an exponent by the first byte of a text.
 -- Assumes nothing.
-use Prim.Native.Nat.{ℕ, ◌+◌, ◌-◌, ◌≤◌}
+use Prim.Native.Nat.{ℕ, ◌+◌, ◌-◌, ◌≤◌, ◌<◌}
 use native.Mathlib.Numerals.{one-add}
 use native.Mathlib.Omega.{arith}
 use mathlib.Core.Path.{◌≡◌, refl, sym, ap, ◌∙◌}
@@ -9,6 +9,7 @@ use mathlib.Core.List.{List, [], ◌∷◌}
 use mathlib.Core.Option.{none}
 use lib.ListN.{length, take, drop, get_or}
 use borrow.Author.Tests.{eq-eqb, ne_eqb}
+use Rattle.std.specs.Prelude.{Some, None}
 use Rattle.format.specs.Bytes.{MINUS, PLUS, POINT}
 use Rattle.format.specs.Words.{number}
 use Rattle.format.specs.Decimals.{past_number, is_minus, after_sign, digits_of, is_e, signed_size, exponent_of}
@@ -19,21 +20,17 @@ use Rattle.read_decimals.proofs.DigitLaws.{suffix, after_digits_lem, digits_shor
 
 -- ---- a sign
 
-pub sign_empty : (t : List ℕ) → length t ≡ 0 → SignRead t record { minus = false; length = 0 }
-sign_empty [] h = record { minus = refl; rest = refl; within = omega arith }
-sign_empty (b ∷ t) h = absurd (omega arith)
-
-pub sign_minus : (t : List ℕ) → (length t ≡ 0 → ⊥) → get_or t 0 0 ≡ MINUS → SignRead t record { minus = true; length = 1 }
-sign_minus [] n e = absurd (n refl)
+pub sign_minus : (t : List ℕ) → 0 < length t → get_or t 0 0 ≡ MINUS → SignRead t record { minus = true; length = 1 }
+sign_minus [] n e = absurd (omega arith)
 sign_minus (b ∷ t) n e = let m = eq-eqb b MINUS e in record { minus = sym m; rest = rw m; within = omega arith }
 
-pub sign_plus : (t : List ℕ) → (length t ≡ 0 → ⊥) → get_or t 0 0 ≡ PLUS → SignRead t record { minus = false; length = 1 }
-sign_plus [] n e = absurd (n refl)
+pub sign_plus : (t : List ℕ) → 0 < length t → get_or t 0 0 ≡ PLUS → SignRead t record { minus = false; length = 1 }
+sign_plus [] n e = absurd (omega arith)
 sign_plus (b ∷ t) n e = record { minus = rw e; rest = rw e; within = omega arith }
 
-pub sign_none : (t : List ℕ) → (length t ≡ 0 → ⊥) → (get_or t 0 0 ≡ MINUS → ⊥) → (get_or t 0 0 ≡ PLUS → ⊥) → SignRead t record { minus = false; length = 0 }
-sign_none [] n d e = absurd (n refl)
-sign_none (b ∷ t) n d e =
+pub sign_none : (t : List ℕ) → (get_or t 0 0 ≡ MINUS → ⊥) → (get_or t 0 0 ≡ PLUS → ⊥) → SignRead t record { minus = false; length = 0 }
+sign_none [] d e = record { minus = refl; rest = refl; within = omega arith }
+sign_none (b ∷ t) d e =
     let m = ne_eqb b MINUS d in
     let p = ne_eqb b PLUS e in record { minus = sym m; rest = rw (m, p); within = omega arith }
 
@@ -80,19 +77,19 @@ module _ (s : List ℕ) (g : Sign) (d : Digits) (p : SignRead s g) (q : d ≡ di
   unfolding digits_answer
   count_is = ap (λ (x : Digits). x.count) digits_are
 
-  pub size_missing : d.count ≡ 0 → exponent_answer none ≡ exponent_answer (signed_size (is_minus s) (number (after_sign s)))
+  pub size_missing : d.count ≡ 0 → None ≡ exponent_answer (signed_size (is_minus s) (number (after_sign s)))
   size_missing h = rw (number_missing (after_sign s) (sym count_is ∙ h))
 
-  pub size_partly : (d.count ≡ length (take (length s - g.length) (drop g.length s)) → ⊥) → exponent_answer none ≡ exponent_answer (signed_size (is_minus s) (number (after_sign s)))
+  pub size_partly : (d.count ≡ length (take (length s - g.length) (drop g.length s)) → ⊥) → None ≡ exponent_answer (signed_size (is_minus s) (number (after_sign s)))
   size_partly n = rw (number_partly (after_sign s) (λ e. n (count_is ∙ e ∙ ap length (sym rest_is))))
 
   pub size_whole : (d.count ≡ 0 → ⊥) → d.count ≡ length (take (length s - g.length) (drop g.length s))
-      → record { fine = true; minus = g.minus; size = d.number } ≡ exponent_answer (signed_size (is_minus s) (number (after_sign s)))
+      → Some record { minus = g.minus; size = d.number } ≡ exponent_answer (signed_size (is_minus s) (number (after_sign s)))
   unfolding digits_answer
   size_whole n h =
       rw (number_whole (after_sign s) (λ e. n (count_is ∙ e)) (sym count_is ∙ h ∙ ap length rest_is), ← p.minus, digits_are)
 
-pub exponent_empty : (s : List ℕ) → length s ≡ 0 → record { fine = true; minus = false; size = 0 } ≡ exponent_answer (exponent_of s)
+pub exponent_empty : (s : List ℕ) → length s ≡ 0 → Some record { minus = false; size = 0 } ≡ exponent_answer (exponent_of s)
 exponent_empty [] h = refl
 exponent_empty (b ∷ s) h = absurd (omega arith)
 
@@ -101,6 +98,6 @@ pub exponent_some : (s : List ℕ) → (length s ≡ 0 → ⊥) → is_e (get_or
 exponent_some [] n e = absurd (n refl)
 exponent_some (b ∷ s) n e = rw (e, suffix (b ∷ s) 1)
 
-pub exponent_none : (s : List ℕ) → (length s ≡ 0 → ⊥) → is_e (get_or s 0 0) ≡ false → exponent_answer none ≡ exponent_answer (exponent_of s)
+pub exponent_none : (s : List ℕ) → (length s ≡ 0 → ⊥) → is_e (get_or s 0 0) ≡ false → None ≡ exponent_answer (exponent_of s)
 exponent_none [] n e = absurd (n refl)
 exponent_none (b ∷ s) n e = rw e

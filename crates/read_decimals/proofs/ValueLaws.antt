@@ -17,8 +17,9 @@ use Rattle.format.specs.Words.{value_of_number}
 use Rattle.format.specs.Decimals.{past_number, max_power, digits_of, after_digits, pointed, numeral, numeral_of, exponent_of, point_folded, with_exponent, numeral_value}
 use Rattle.format.proofs.Bytes.{every_append}
 use Rattle.read_decimals.specs.Parts.{number_from, digits_answer, fraction_of, after_fraction, FractionRead, exponent_answer}
-use Rattle.read_decimals.specs.Components.{component_answer, power_of, valued_number}
-use Rattle.read_decimals.specs.declared.Power.{Power}
+use Rattle.read_decimals.specs.Components.{component_told, power_of, valued_number}
+use Rattle.std.specs.Prelude.{Option as Maybe}
+use Rattle.std.specs.Prelude.{Some, None}
 use Rattle.read_decimals.specs.declared.parts.Digits.{Digits}
 use Rattle.read_decimals.specs.declared.parts.Fraction.{Fraction}
 use Rattle.read_decimals.specs.declared.parts.Exponent.{Exponent}
@@ -62,22 +63,22 @@ module _ (minus : Bool) (f : ℕ) where
   no_digits [] (some e) h = refl
   no_digits (b ∷ ds) o h = absurd (omega arith)
 
-  module _ (x : Exponent) where
-    no_exponent : (ds : List ℕ) (o : Option (Bool × ℕ)) → x ≡ exponent_answer o → x.fine ≡ false → none ≡ with_exponent minus ds f o
-    no_exponent ds none q h = refl
-    no_exponent ds (some e) q h = absurd (false≢true (sym h ∙ ap (λ (y : Exponent). y.fine) q))
+  no_exponent : (ds : List ℕ) (o : Option (Bool × ℕ)) → None ≡ exponent_answer o → none ≡ with_exponent minus ds f o
+  no_exponent ds none q = refl
+  no_exponent ds (some e) q = cc
 
-    both : (n : ℕ) (ds : List ℕ) (o : Option (Bool × ℕ)) → x ≡ exponent_answer o → x.fine ≡ true → (length ds ≡ 0 → ⊥) → f ≤ max_header
-        → n ≡ min (value_of_number ds) past_number → valued_number minus n (point_folded (x.minus, x.size) f) ≡ with_exponent minus ds f o
-    both n ds none q h d l e = absurd (false≢true (sym (ap (λ (y : Exponent). y.fine) q) ∙ h))
-    both n [] (some p) q h d l e = absurd (d refl)
-    both n (b ∷ ds) (some (m, k)) q h d l e =
-        rw (q, e)
-        (exponent_cut minus (min (value_of_number (b ∷ ds)) past_number) m k f l ∙ digits_cut minus (value_of_number (b ∷ ds)) (point_folded (m, k) f))
+  both : (x : Exponent) (n : ℕ) (ds : List ℕ) (o : Option (Bool × ℕ)) → Some x ≡ exponent_answer o → (length ds ≡ 0 → ⊥) → f ≤ max_header
+      → n ≡ min (value_of_number ds) past_number → valued_number minus n (point_folded (x.minus, x.size) f) ≡ with_exponent minus ds f o
+  both x n ds none q d l e = cc
+  both x n [] (some p) q d l e = absurd (d refl)
+  both x n (b ∷ ds) (some (m, k)) q d l e =
+      let y : x ≡ record { minus = m; size = min k past_number } = cc in
+      rw (y, e)
+      (exponent_cut minus (min (value_of_number (b ∷ ds)) past_number) m k f l ∙ digits_cut minus (value_of_number (b ∷ ds)) (point_folded (m, k) f))
 
-exponent_few : (x : Exponent) (o : Option (Bool × ℕ)) → x ≡ exponent_answer o → x.size ≤ past_number
-exponent_few x none q = rw q (omega arith)
-exponent_few x (some e) q = rw q (omega arith)
+exponent_few : (x : Exponent) (o : Option (Bool × ℕ)) → Some x ≡ exponent_answer o → x.size ≤ past_number
+exponent_few x none q = cc
+exponent_few x (some e) q = let y : x ≡ record { minus = e.0; size = min e.1 past_number } = cc in rw y (omega arith)
 
 -- ---- a numeral by its parts: w are the digits before the point, g is the fraction, x the exponent
 
@@ -157,28 +158,30 @@ module _ (minus : Bool) (t : List ℕ) (w : Digits) (g : Fraction) (q : w ≡ di
       (omega (arith, w_count, digits_short t), omega (arith, found.count, fraction_short (after_digits t), after_short t))
 
   -- there is no digit
-  pub numeral_empty : w.count + g.count ≡ 0 → component_answer none ≡ component_answer (numeral_value minus (numeral_of t))
-  numeral_empty h = ap component_answer (no_digits minus g.count ds (exponent_of end) (count_is ∙ h) ∙ value_is)
+  pub numeral_empty : w.count + g.count ≡ 0 → component_told none ≡ component_told (numeral_value minus (numeral_of t))
+  numeral_empty h = ap component_told (no_digits minus g.count ds (exponent_of end) (count_is ∙ h) ∙ value_is)
 
-  module _ (x : Exponent) (s : List ℕ) (r : s ≡ take (length t - w.count) (drop w.count t)) (e : x ≡ exponent_answer (exponent_of (take (length s - g.length) (drop g.length s)))) where
-    x_is : x ≡ exponent_answer (exponent_of end)
+  -- what stands after it
+  module _ (s : List ℕ) (r : s ≡ take (length t - w.count) (drop w.count t)) where
+    end_is : {o : Maybe Exponent} → o ≡ exponent_answer (exponent_of (take (length s - g.length) (drop g.length s))) → o ≡ exponent_answer (exponent_of end)
     unfolding end
-    x_is =
+    end_is e =
         let k : take (length s - g.length) (drop g.length s) ≡ after_fraction (after_digits t) =
         suffix s g.length ∙ ap (drop g.length) (r ∙ rest_is) ∙ found.rest in
         e ∙ ap (λ (u : List ℕ). exponent_answer (exponent_of u)) k
 
-    -- the size of the exponent is cut
-    pub size_few : x.size ≤ past_number
-    size_few = exponent_few x (exponent_of end) x_is
+    -- no exponent
+    pub numeral_bad : None ≡ exponent_answer (exponent_of (take (length s - g.length) (drop g.length s))) → component_told none ≡ component_told (numeral_value minus (numeral_of t))
+    numeral_bad e = ap component_told (no_exponent minus g.count ds (exponent_of end) (end_is e) ∙ value_is)
 
-    -- no exponent ends it
-    pub numeral_bad : x.fine ≡ false → component_answer none ≡ component_answer (numeral_value minus (numeral_of t))
-    numeral_bad h = ap component_answer (no_exponent minus g.count x ds (exponent_of end) x_is h ∙ value_is)
+    module _ {x : Exponent} (e : Some x ≡ exponent_answer (exponent_of (take (length s - g.length) (drop g.length s)))) where
+      -- the size of the exponent is cut
+      pub size_few : x.size ≤ past_number
+      size_few = exponent_few x (exponent_of end) (end_is e)
 
-    -- the value of its digits and its power r
-    pub numeral_good : (r : Power) → r ≡ power_of (point_folded (x.minus, x.size) g.count) → x.fine ≡ true → (w.count + g.count ≡ 0 → ⊥) → length t ≤ max_header
-        → component_answer (valued_number minus g.number (r.minus, r.size)) ≡ component_answer (numeral_value minus (numeral_of t))
-    numeral_good r k h d l =
-        ap (λ (y : Power). component_answer (valued_number minus g.number (y.minus, y.size))) k
-        ∙ ap component_answer (both minus g.count x g.number ds (exponent_of end) x_is h (λ z. d (sym count_is ∙ z)) (omega (arith, numeral_short.1)) number_is ∙ value_is)
+      -- the value of its digits and its power p
+      pub numeral_good : (p : Exponent) → p ≡ power_of (point_folded (x.minus, x.size) g.count) → (w.count + g.count ≡ 0 → ⊥) → length t ≤ max_header
+          → component_told (valued_number minus g.number (p.minus, p.size)) ≡ component_told (numeral_value minus (numeral_of t))
+      numeral_good p k d l =
+          ap (λ (y : Exponent). component_told (valued_number minus g.number (y.minus, y.size))) k
+          ∙ ap component_told (both minus g.count x g.number ds (exponent_of end) (end_is e) (λ z. d (sym count_is ∙ z)) (omega (arith, numeral_short.1)) number_is ∙ value_is)

@@ -1,5 +1,7 @@
 -- Internal to the library. The answers of the functions on the parts of a component's text.
 use Rattle.std.specs.Prelude.{ℕ, ◌+◌, ◌*◌, ◌-◌, ◌≤◌, min, ◌≡◌, Bool, true, false, List, [], ◌∷◌, ◌==◌, length, drop, if◌then◌else◌}
+use Rattle.std.specs.Prelude.{Option as Maybe}
+use Rattle.std.specs.Prelude.{Some, None}
 use Rattle.std.proofs.Math.Option.{Option, none, some}
 use Rattle.format.specs.Bytes.{POINT}
 use Rattle.format.specs.Decimals.{past_number, is_minus, after_sign, digits_of, after_digits}
@@ -40,6 +42,6 @@ pub record FractionRead (m : ℕ) (s : List ℕ) (r : Fraction) : Type 0 where
   pub within : r.length ≤ length s
 
 -- an exponent, its size cut
-abbrev pub exponent_answer : Option (Bool × ℕ) → Exponent
-exponent_answer none = record { fine = false; minus = false; size = 0 }
-exponent_answer (some e) = record { fine = true; minus = e.0; size = min e.1 past_number }
+abbrev pub exponent_answer : Option (Bool × ℕ) → Maybe Exponent
+exponent_answer none = None
+exponent_answer (some e) = Some record { minus = e.0; size = min e.1 past_number }

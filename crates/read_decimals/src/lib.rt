@@ -2,28 +2,14 @@
 #![tactic(auto)]
 
 ghost use Rattle.std.specs.Prelude.{◌≡◌, ◌+◌, ◌≤◌, ◌<◌, ◌^◌, length, if◌then◌else◌};
-ghost use Rattle.std.proofs.Math.Option.{some};
 ghost use Rattle.format.specs.Limits.{max_header};
 ghost use Rattle.format.specs.Decimals.{past_number, max_power, inf, minus_inf, marked, signed_of, point_folded, numeral_of, numeral_value, unsigned_value, component};
-ghost use Rattle.read_decimals.specs.Components.{component_answer, power_of, valued_number};
+ghost use Rattle.read_decimals.specs.Components.{component_told, power_of, valued_number};
 
+use crate::parts::Exponent;
 use format::Decimal;
 
 pub mod parts;
-
-// Whether a text is a component, and its value.
-#[derive(Clone, Copy)]
-pub struct Component {
-    pub fine: bool,
-    pub value: Decimal,
-}
-
-// A power of ten, its sign apart.
-#[derive(Clone, Copy)]
-struct Power {
-    minus: bool,
-    size: u64,
-}
 
 // The limits and kinds of decimals.
 const MAX_POWER: u64 = 400;
@@ -42,32 +28,28 @@ const NOUGHT: Decimal = Decimal {
     kind: NUMERIC,
 };
 
-// No component.
-const NONE: Component = Component {
-    fine: false,
-    value: NOUGHT,
-};
-
-// The power of an exponent, less the digits after the point that are folded into it.
-fn power_of(minus: bool, size: u64, folded: u64) -> Power
-    requires { size + folded < 2 ^ 64 }
-    ensures { result ≡ power_of (point_folded (minus, size) folded) }
+// The power of ten: an exponent, less the digits after the point that are folded into it.
+fn power_of(e: Exponent, folded: u64) -> Exponent
+    requires { e.size + folded < 2 ^ 64 }
+    ensures { result ≡ power_of (point_folded (e.minus, e.size) folded) }
 {
+    let minus = e.minus;
+    let size = e.size;
     if minus {
-        return Power {
+        Exponent {
             minus: true,
             size: size + folded,
-        };
-    }
-    if size < folded {
-        return Power {
+        }
+    } else if size < folded {
+        Exponent {
             minus: true,
             size: folded - size,
-        };
-    }
-    Power {
-        minus: false,
-        size: size - folded,
+        }
+    } else {
+        Exponent {
+            minus: false,
+            size: size - folded,
+        }
     }
 }
 
@@ -76,46 +58,39 @@ fn signed_64(minus: bool, n: u64) -> i64
     requires { n < past_number }
     ensures { result ≡ signed_of minus n }
 {
-    if minus {
-        return 0 - (n as i64);
-    }
-    n as i64
+    if minus { 0 - (n as i64) } else { n as i64 }
 }
 
-// The same in 32 bits.
+// The same in 32 bits: not one generic function, since neither width has a conversion to the other that is known to fit.
 fn signed_32(minus: bool, n: u64) -> i32
     requires { n ≤ max_power }
     ensures { result ≡ signed_of minus n }
 {
-    if minus {
-        return 0 - (n as i32);
-    }
-    n as i32
+    if minus { 0 - (n as i32) } else { n as i32 }
 }
 
 // The number n with a sign, times ten to a power.
-fn valued(minus: bool, n: u64, p: Power) -> Component
-    ensures { result ≡ component_answer (valued_number minus n (p.minus, p.size)) }
+fn valued(minus: bool, n: u64, p: Exponent) -> Option<Decimal>
+    ensures { result ≡ component_told (valued_number minus n (p.minus, p.size)) }
 {
     let below = p.minus;
     let size = p.size;
     if (n < parts::PAST_NUMBER) & (size <= MAX_POWER) {
         let number = signed_64(minus, n);
         let power = signed_32(below, size);
-        let value = Decimal {
+        return Some(Decimal {
             number,
             power,
             kind: NUMERIC,
-        };
-        return Component { fine: true, value };
+        });
     }
-    NONE
+    None
 }
 
 // The numeral that is the whole text t.
-fn read_numeral(t: &[u8], minus: bool) -> Component
+fn read_numeral(t: &[u8], minus: bool) -> Option<Decimal>
     requires { length t.now ≤ max_header }
-    ensures { result ≡ component_answer (numeral_value minus (numeral_of t.now)) }
+    ensures { result ≡ component_told (numeral_value minus (numeral_of t.now)) }
 {
     let whole = parts::read_digits(t, 0);
     let count = whole.count;
@@ -124,56 +99,48 @@ fn read_numeral(t: &[u8], minus: bool) -> Component
     let places = fraction.count;
     let end = fraction.length;
     if count + places == 0 {
-        return NONE;
+        return None;
     }
-    let exponent = parts::read_exponent(&rest[end..]);
-    if !exponent.fine {
-        return NONE;
-    }
+    let exponent = parts::read_exponent(&rest[end..])?;
     let folded = places as u64;
-    let power = power_of(exponent.minus, exponent.size, folded);
+    let power = power_of(exponent, folded);
     valued(minus, fraction.number, power)
 }
 
 // What is no number.
-fn marked(kind: u32) -> Component
-    ensures { result ≡ component_answer (some (marked kind)) }
+fn marked(kind: u32) -> Decimal
+    ensures { result ≡ marked kind }
 {
-    let value = Decimal { kind, ..NOUGHT };
-    Component { fine: true, value }
+    Decimal { kind, ..NOUGHT }
 }
 
 // One of the two infinities.
-fn infinity(minus: bool) -> Component
-    ensures { result ≡ component_answer (some (marked (if minus then minus_inf else inf))) }
+fn infinity(minus: bool) -> Decimal
+    ensures { result ≡ marked (if minus then minus_inf else inf) }
 {
-    if minus {
-        return marked(MINUS_INF);
-    }
-    marked(INF)
+    marked(if minus { MINUS_INF } else { INF })
 }
 
 // The component whose text after the sign is t.
-fn read_unsigned(t: &[u8], minus: bool) -> Component
+fn read_unsigned(t: &[u8], minus: bool) -> Option<Decimal>
     requires { length t.now ≤ max_header }
-    ensures { result ≡ component_answer (unsigned_value minus t.now) }
+    ensures { result ≡ component_told (unsigned_value minus t.now) }
 {
     if read_text::words::is_alike(t, b"nan") {
-        return marked(NAN);
+        Some(marked(NAN))
+    } else if read_text::words::is_alike(t, b"inf") {
+        Some(infinity(minus))
+    } else if read_text::words::is_alike(t, b"infinity") {
+        Some(infinity(minus))
+    } else {
+        read_numeral(t, minus)
     }
-    if read_text::words::is_alike(t, b"inf") {
-        return infinity(minus);
-    }
-    if read_text::words::is_alike(t, b"infinity") {
-        return infinity(minus);
-    }
-    read_numeral(t, minus)
 }
 
 // The component that is the whole text t. No line of a header is longer than what is asked.
-pub fn read_component(t: &[u8]) -> Component
+pub fn read_component(t: &[u8]) -> Option<Decimal>
     requires { length t.now ≤ max_header }
-    ensures { result ≡ component_answer (component t.now) }
+    ensures { result ≡ component_told (component t.now) }
 {
     let sign = parts::read_sign(t);
     let from = sign.length;

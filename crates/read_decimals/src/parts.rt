@@ -19,27 +19,19 @@ pub struct Sign {
 pub fn read_sign(t: &[u8]) -> Sign
     ensures { SignRead t.now result }
 {
-    if t.len() == 0 {
-        return Sign {
-            minus: false,
-            length: 0,
-        };
-    }
-    if t[0] == b'-' {
-        return Sign {
+    match t.first() {
+        Some(b'-') => Sign {
             minus: true,
             length: 1,
-        };
-    }
-    if t[0] == b'+' {
-        return Sign {
+        },
+        Some(b'+') => Sign {
             minus: false,
             length: 1,
-        };
-    }
-    Sign {
-        minus: false,
-        length: 0,
+        },
+        _ => Sign {
+            minus: false,
+            length: 0,
+        },
     }
 }
 
@@ -48,13 +40,6 @@ pub fn read_sign(t: &[u8]) -> Sign
 pub struct Digits {
     pub number: u64,
     pub count: usize,
-}
-
-// Whether a byte is a digit.
-fn is_digit(b: u8) -> bool
-    ensures { result ≡ is_digit b }
-{
-    (b'0' <= b) & (b <= b'9')
 }
 
 // The number m with one digit more.
@@ -75,21 +60,18 @@ pub fn read_digits(s: &[u8], before: u64) -> Digits
     ensures { result ≡ digits_answer before s.now }
 {
     let mut m = before;
-    let mut i: usize = 0;
-    while i < s.len() {
-        let b = s[i];
-        if !is_digit(b) {
+    for (i, b) in s.iter().enumerate() {
+        if !b.is_ascii_digit() {
             return Digits {
                 number: m,
                 count: i,
             };
         }
-        m = with_digit(m, b);
-        i += 1;
+        m = with_digit(m, *b);
     }
     Digits {
         number: m,
-        count: i,
+        count: s.len(),
     }
 }
 
@@ -111,7 +93,7 @@ pub fn read_fraction(s: &[u8], before: u64) -> Fraction
         count: 0,
         length: 0,
     };
-    if s.len() == 0 {
+    if s.is_empty() {
         return missing;
     }
     if s[0] != b'.' {
@@ -126,22 +108,15 @@ pub fn read_fraction(s: &[u8], before: u64) -> Fraction
     }
 }
 
-// Whether a text is an exponent; its sign, and its size, cut to `PAST_NUMBER`.
+// An exponent: its sign, and its size, cut to `PAST_NUMBER`.
 #[derive(Clone, Copy)]
 pub struct Exponent {
-    pub fine: bool,
     pub minus: bool,
     pub size: u64,
 }
 
-const NO_EXPONENT: Exponent = Exponent {
-    fine: false,
-    minus: false,
-    size: 0,
-};
-
 // The exponent whose text after the `e` is s.
-fn read_signed(s: &[u8]) -> Exponent
+fn read_signed(s: &[u8]) -> Option<Exponent>
     ensures { result ≡ exponent_answer (signed_size (is_minus s.now) (number (after_sign s.now))) }
 {
     let sign = read_sign(s);
@@ -150,32 +125,30 @@ fn read_signed(s: &[u8]) -> Exponent
     let t = &s[from..];
     let d = read_digits(t, 0);
     if d.count == 0 {
-        return NO_EXPONENT;
+        return None;
     }
     if d.count != t.len() {
-        return NO_EXPONENT;
+        return None;
     }
-    Exponent {
-        fine: true,
+    Some(Exponent {
         minus,
         size: d.number,
-    }
+    })
 }
 
 // What ends a numeral: nothing, or an exponent.
-pub fn read_exponent(s: &[u8]) -> Exponent
+pub fn read_exponent(s: &[u8]) -> Option<Exponent>
     ensures { result ≡ exponent_answer (exponent_of s.now) }
 {
-    if s.len() == 0 {
-        return Exponent {
-            fine: true,
+    if s.is_empty() {
+        return Some(Exponent {
             minus: false,
             size: 0,
-        };
+        });
     }
     let b = s[0];
     if (b == b'e') | (b == b'E') {
         return read_signed(&s[1..]);
     }
-    NO_EXPONENT
+    None
 }

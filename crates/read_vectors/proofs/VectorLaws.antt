@@ -22,8 +22,7 @@ use Rattle.read_text.proofs.Places.{drop_next}
 use Rattle.std.specs.Prelude.{Option as Maybe}
 use Rattle.std.specs.Prelude.{Some, None}
 use Rattle.format.specs.Decimals.{marked, no_direction}
-use Rattle.read_decimals.specs.declared.Component.{Component}
-use Rattle.read_decimals.specs.Components.{component_answer}
+use Rattle.read_decimals.specs.Components.{component_told}
 use Rattle.read_vectors.specs.declared.vector.Vector.{Vector}
 use Rattle.format.specs.Columns.{eight, column}
 use Rattle.read_vectors.specs.Answers.{vector_answer, direction_answer, vector_column, direction_column}
@@ -42,13 +41,13 @@ part_text p from n e i =
     rw (k, d, j) (take_trimmed (trim_front p))
 
 -- what its answer tells
-component_some : (o : Option Decimal) (c : Component) → c ≡ component_answer o → c.fine ≡ true → o ≡ some c.value
-component_some none c e f = absurd (false≢true (ap (λ (x : Component). x.fine) (sym e) ∙ f))
-component_some (some d) c e f = ap (λ (x : Component). some x.value) (sym e)
+component_some : (o : Option Decimal) (d : Decimal) → Some d ≡ component_told o → o ≡ some d
+component_some none d e = cc
+component_some (some x) d e = cc
 
-component_none : (o : Option Decimal) (c : Component) → c ≡ component_answer o → c.fine ≡ false → o ≡ none
-component_none none c e f = refl
-component_none (some d) c e f = absurd (false≢true (sym f ∙ ap (λ (x : Component). x.fine) e))
+component_none : (o : Option Decimal) → None ≡ component_told o → o ≡ none
+component_none none e = refl
+component_none (some d) e = cc
 
 -- ---- what commas part
 
@@ -133,20 +132,19 @@ module _ (s : List ℕ) (a : List Decimal) (n i at : ℕ) where
     pub vector_short : length s < at → None ≡ Left
     vector_short e = rw (parts_end s at e, said_short component_in (n - i) (omega arith))
 
-    module _ (p : List ℕ) (ps : List (List ℕ)) (c : Component) (q : parts_at s at ≡ p ∷ ps) (r : c ≡ component_answer (component_in p)) where
+    module _ (p : List ℕ) (ps : List (List ℕ)) (q : parts_at s at ≡ p ∷ ps) where
       left_cons : Left ≡ stored a i (cons_said (component_in p) (said_by (n - (i + 1)) component_in ps))
       left_cons =
           let e : n - i - 1 ≡ n - (i + 1) = omega arith in
           rw (q, said_cons component_in (n - i) p ps (omega arith), e)
 
       -- a component that is none
-      pub vector_wrong : c.fine ≡ false → None ≡ Left
-      vector_wrong f = sym (left_cons ∙ rw (component_none (component_in p) c r f))
+      pub vector_wrong : None ≡ component_told (component_in p) → None ≡ Left
+      vector_wrong r = sym (left_cons ∙ rw (component_none (component_in p) r))
 
       -- one component more
-      pub vector_more : c.fine ≡ true → Left ≡ stored (set a i c.value) (i + 1) (said_by (n - (i + 1)) component_in ps)
-      vector_more f =
-          left_cons ∙ rw (component_some (component_in p) c r f) (stored_next a i c.value (said_by (n - (i + 1)) component_in ps))
+      pub vector_more : (d : Decimal) → Some d ≡ component_told (component_in p) → Left ≡ stored (set a i d) (i + 1) (said_by (n - (i + 1)) component_in ps)
+      vector_more d r = left_cons ∙ rw (component_some (component_in p) d r) (stored_next a i d (said_by (n - (i + 1)) component_in ps))
 
   module _ (h : n ≤ i) where
     -- a component too many

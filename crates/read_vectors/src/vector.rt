@@ -5,12 +5,11 @@ ghost use Rattle.format.specs.Bytes.{is_some};
 ghost use Rattle.format.specs.Limits.{max_header};
 ghost use Rattle.format.specs.Decimals.{marked, no_direction};
 ghost use Rattle.format.specs.Vectors.{enclosed, comma_parts, said_by, component_in, vector_said, direction_said};
-ghost use Rattle.read_decimals.specs.Components.{component_answer};
+ghost use Rattle.read_decimals.specs.Components.{component_told};
 ghost use Rattle.format.specs.Columns.{column};
 ghost use Rattle.read_vectors.specs.Answers.{vector_answer, direction_answer, vector_column, direction_column};
 
 use format::Decimal;
-use read_decimals::Component;
 
 // A vector, and whether there is one: its components, and zeros after them.
 #[derive(Clone, Copy)]
@@ -58,9 +57,9 @@ fn without_direction() -> [Decimal; 8]
 }
 
 // A component with the blanks beside it.
-fn read_part(p: &[u8]) -> Component
+fn read_part(p: &[u8]) -> Option<Decimal>
     requires { length p.now ≤ max_header }
-    ensures { result ≡ component_answer (component_in p.now) }
+    ensures { result ≡ component_told (component_in p.now) }
 {
     let from = read_text::lines::leading(p);
     let to = from + read_text::lines::without_trailing(&p[from..]);
@@ -75,21 +74,13 @@ fn read_parts(s: &[u8], n: usize) -> Option<[Decimal; 8]>
     let mut parts = blank_column();
     // where the next component starts; past the end where there is none
     let mut at: usize = 0;
-    let mut i: usize = 0;
-    while i < n {
+    for i in 0..n {
         if s.len() < at {
             return None;
         }
         let to = at + read_text::bytes::find_byte(&s[at..], b',');
-        let c = read_part(&s[at..to]);
-        let fine = c.fine;
-        if !fine {
-            return None;
-        }
-        let value = c.value;
-        parts[i] = value;
+        parts[i] = read_part(&s[at..to])?;
         at = to + 1;
-        i += 1;
     }
     if at <= s.len() {
         return None;
@@ -101,11 +92,11 @@ fn read_parts(s: &[u8], n: usize) -> Option<[Decimal; 8]>
 fn is_enclosed(w: &[u8]) -> bool
     ensures { result ≡ is_some (enclosed w.now) }
 {
-    let size = w.len();
-    if size < 2 {
-        return false;
+    if w.len() < 2 {
+        false
+    } else {
+        (w[0] == b'(') & (w[w.len() - 1] == b')')
     }
-    (w[0] == b'(') & (w[size - 1] == b')')
 }
 
 // The vector of n components that a word is, zeros after them.

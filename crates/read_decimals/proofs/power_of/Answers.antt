@@ -8,5 +8,5 @@ returns-then-minus c = rw c.if-minus.true
 pub returns-then-size-folded : goal.returns-then-size-folded
 returns-then-size-folded c = rw (c.if-minus.false, lt-ltb _ _ c.if-size-folded.true)
 
-pub returns : goal.returns
-returns c = rw (c.if-minus.false, le-ltb _ _ c.if-size-folded.false)
+pub returns-else-size-folded : goal.returns-else-size-folded
+returns-else-size-folded c = rw (c.if-minus.false, le-ltb _ _ c.if-size-folded.false)

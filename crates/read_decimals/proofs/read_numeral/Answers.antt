@@ -1,7 +1,6 @@
 -- `read_decimals::read_numeral` meets its contract.
 use native.Mathlib.Omega.{arith}
 use mathlib.Core.Path.{refl, ◌∙◌}
-use borrow.Author.Tests.{not-true, not-false}
 use Rattle.read_decimals.proofs.DigitLaws.{digits_few, digits_within}
 use Rattle.read_decimals.proofs.ValueLaws.{numeral_short, size_few, numeral_empty, numeral_bad, numeral_good}
 use Rattle.read_decimals.proofs.read_numeral.Goals as goal
@@ -28,22 +27,20 @@ returns-then-count-places-eq0 c =
     let g = c.read_fraction-fraction in
     numeral_empty a.minus a.t.now w.result g.result w.ensures g.ensures c.if-count-places-eq0.true
 
-pub returns-then-not-exponent : goal.returns-then-not-exponent
-returns-then-not-exponent c =
+pub returns-in_err-exponent : goal.returns-in_err-exponent
+returns-in_err-exponent c =
     let a = c.args in
     let w = c.read_digits-whole in
     let g = c.read_fraction-fraction in
-    let x = c.read_exponent-exponent in
-    numeral_bad a.minus a.t.now w.result g.result w.ensures g.ensures x.result _ refl x.ensures (not-true x.result.fine c.if-not-exponent.true)
+    c.from_residual.ensures ∙ numeral_bad a.minus a.t.now w.result g.result w.ensures g.ensures _ refl c.in_err-exponent.ensures
 
 pub power_of-power-requires : goal.power_of-power-requires
 power_of-power-requires c =
     let a = c.args in
     let w = c.read_digits-whole in
     let g = c.read_fraction-fraction in
-    let x = c.read_exponent-exponent in
     let s = numeral_short a.minus a.t.now w.result g.result w.ensures g.ensures in
-    let f = size_few a.minus a.t.now w.result g.result w.ensures g.ensures x.result _ refl x.ensures in
+    let f = size_few a.minus a.t.now w.result g.result w.ensures g.ensures _ refl c.in_ok-exponent.ensures in
     omega (arith, f, s.1, c.requires)
 
 pub returns : goal.returns
@@ -51,7 +48,6 @@ returns c =
     let a = c.args in
     let w = c.read_digits-whole in
     let g = c.read_fraction-fraction in
-    let x = c.read_exponent-exponent in
     let p = c.power_of-power in
     c.valued.ensures
-    ∙ numeral_good a.minus a.t.now w.result g.result w.ensures g.ensures x.result _ refl x.ensures p.result p.ensures (not-false x.result.fine c.if-not-exponent.false) c.if-count-places-eq0.false c.requires
+    ∙ numeral_good a.minus a.t.now w.result g.result w.ensures g.ensures _ refl c.in_ok-exponent.ensures p.result p.ensures c.if-count-places-eq0.false c.requires

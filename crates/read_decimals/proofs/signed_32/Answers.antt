@@ -11,5 +11,5 @@ overflow_sub-result c = minus_fits w32 c.args.n (omega arith)
 pub returns-then-minus : goal.returns-then-minus
 returns-then-minus c = rw c.if-minus.true (minus_kept w32 c.args.n (omega arith))
 
-pub returns : goal.returns
-returns c = rw c.if-minus.false (to_z_pos w32 (omega arith))
+pub returns-else-minus : goal.returns-else-minus
+returns-else-minus c = rw c.if-minus.false (to_z_pos w32 (omega arith))
