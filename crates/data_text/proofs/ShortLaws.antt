@@ -17,8 +17,9 @@ use mir.Facts.{to_z-of_z}
 use borrow.Author.Tests.{ltb-true, ltb-false, eqb-true, eqb-false, ne_eqb}
 use Rattle.format.specs.Bytes.{is_digit}
 use Rattle.format.specs.Samples.{blank}
-use Rattle.data_text.specs.declared.reader.Digits.TheVariants.{Run}
-use Rattle.data_text.specs.Tokens.{Scan, is_sign, Front, ShortNumber, by_sign, minus, digits_at, bound_token, token_at}
+use Rattle.std.specs.Prelude.{Option as Maybe}
+use Rattle.data_text.specs.declared.reader.Run.{Run}
+use Rattle.data_text.specs.Tokens.{Scan, is_sign, Front, ShortNumber, by_sign, minus, run, digits_at, bound_token, token_at}
 use Rattle.data_text.proofs.TokenLaws.{digit_high, scan_none, scan_more, scan_done, token_stop, token_plus, token_minus, token_plain}
 
 pub bit_le : (d : Bool) → bool_byte d ≤ 1
@@ -222,8 +223,15 @@ module _ (low high : ℕ) (s : List ℕ) (at : ℕ) (low_fits : low ≤ 2 ^ 63) 
           let b : start s at ≡ at = omega (arith, ap bool_byte e) in
           ap (λ (k : ℕ). bound_token pos high (digits_at s k)) b ∙ token_plain low high s at h high_fits (eqb-false (get_or s at 0) 43 p) f
 
+  -- the same of the digits that are read after a sign, or without one
+  pub digits_bound : {x : Bool} {d : Maybe Run} → x ≡ is_sign (get_or s at 0) → d ≡ digits_at s (at + bool_byte x)
+      → let m = eqb (get_or s at 0) 45 in bound_token (by_sign m) (if m then low else high) d ≡ token_at low high s at
+  digits_bound {x} {d} p e =
+      let m = eqb (get_or s at 0) 45 in
+      ap (bound_token (by_sign m) (if m then low else high)) (e ∙ ap (λ (y : Bool). digits_at s (at + bool_byte y)) p) ∙ sign_token m refl
+
   pub short_token : (n m : ℕ) → at + n < length s → bool_byte (is_sign (get_or s at 0)) < n → blank (get_or s (at + n) 0) ≡ true → ShortNumber s at n m
-      → (x : Bool) → x ≡ eqb (get_or s at 0) 45 → bound_token (by_sign x) (if x then low else high) (Run m (at + n)) ≡ token_at low high s at
+      → (x : Bool) → x ≡ eqb (get_or s at 0) 45 → bound_token (by_sign x) (if x then low else high) (run m (at + n)) ≡ token_at low high s at
   short_token n m room some ends r x q =
       ap (bound_token (by_sign x) (if x then low else high))
       (scan_done r.scan (token_stop s (at + n) room ends) (λ (e : at + n ≡ start s at). omega arith))

@@ -19,10 +19,10 @@ use borrow.Author.Tests.{ne_eqb, le-leb, lt-leb, leb-true, leb-false, ltb-true, 
 use Rattle.format.specs.Bytes.{is_digit}
 use Rattle.format.specs.Words.{digits_from, number}
 use Rattle.format.specs.Samples.{blank, skip_blanks, token, token_value, signed_by}
-use Rattle.data_text.specs.declared.reader.Digits.{Digits}
-use Rattle.data_text.specs.declared.reader.Digits.TheVariants.{NoDigits, Run}
-use Rattle.data_text.specs.declared.reader.TokenRead.TheVariants.{NoSample, Sample}
-use Rattle.data_text.specs.Tokens.{Scan, in_range, ranged, cap, run_of, digits_at, minus, bound_token, token_of, token_at}
+use Rattle.std.specs.Prelude.{Option as Maybe}
+use Rattle.std.specs.Prelude.{None}
+use Rattle.data_text.specs.declared.reader.Run.{Run}
+use Rattle.data_text.specs.Tokens.{Scan, in_range, ranged, cap, run, sample, run_of, digits_at, minus, bound_token, token_of, token_at}
 
 module _ (s : List ℕ) (i : ℕ) where
   -- a text from i on: a byte and the text from i + 1 on, or nothing
@@ -117,21 +117,21 @@ module _ {s : List ℕ} {at i m : ℕ} (c : Scan s at i m) where
         long = omega (arith, ap length t);
       }
 
-  no_digits : number (token (drop at s)) ≡ none → NoDigits ≡ digits_at s at
+  no_digits : number (token (drop at s)) ≡ none → None ≡ digits_at s at
   no_digits e = sym (ap (λ (o : Option ℕ). run_of o (at + length (token (drop at s)))) e)
 
-  pub scan_bad : i < length s → blank (get_or s i 0) ≡ false → is_digit (get_or s i 0) ≡ false → NoDigits ≡ digits_at s at
+  pub scan_bad : i < length s → blank (get_or s i 0) ≡ false → is_digit (get_or s i 0) ≡ false → None ≡ digits_at s at
   scan_bad h nb d =
       no_digits
       (number_none (token (drop at s))
       (c.rest ∙ ap (digits_from c.far) (token_more s i h nb) ∙ digits_stop c.far (get_or s i 0) (token (drop (i + 1) s)) d))
 
   -- at the end of the token
-  pub scan_empty : token (drop i s) ≡ [] → i ≡ at → NoDigits ≡ digits_at s at
+  pub scan_empty : token (drop i s) ≡ [] → i ≡ at → None ≡ digits_at s at
   unfolding number
   scan_empty e q = no_digits (ap (λ (k : ℕ). number (token (drop k s))) (sym q) ∙ ap number e)
 
-  pub scan_done : token (drop i s) ≡ [] → (i ≡ at → ⊥) → Run m i ≡ digits_at s at
+  pub scan_done : token (drop i s) ≡ [] → (i ≡ at → ⊥) → run m i ≡ digits_at s at
   unfolding digits_from
   scan_done e q =
       let l : length (token (drop i s)) ≡ 0 = ap length e in
@@ -142,11 +142,11 @@ module _ {s : List ℕ} {at i m : ℕ} (c : Scan s at i m) where
 
 -- ---- a number within a bound
 
-module _ (f : ℕ → ℤ) (top m e : ℕ) (d : Digits) (q : d ≡ Run m e) where
-  pub bound_yes : (z : ℤ) → m ≤ top → z ≡ f m → Sample z e ≡ bound_token f top d
+module _ (f : ℕ → ℤ) (top m e : ℕ) (d : Maybe Run) (q : d ≡ run m e) where
+  pub bound_yes : (z : ℤ) → m ≤ top → z ≡ f m → sample z e ≡ bound_token f top d
   bound_yes z h r = rw (q, le-leb m top h, r) refl
 
-  pub bound_no : top < m → NoSample ≡ bound_token f top d
+  pub bound_no : top < m → None ≡ bound_token f top d
   bound_no h = rw (q, lt-leb m top h) refl
 
 -- what the code keeps of a number is told from the bound as the number is

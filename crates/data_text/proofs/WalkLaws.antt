@@ -18,12 +18,19 @@ use mir.Facts.{to_z-of_z}
 use borrow.Author.Tests.{ltb-true, ltb-false}
 use Rattle.format.specs.Bytes.{over}
 use Rattle.format.specs.Descriptors.{NumberKind, little}
+use Rattle.format.specs.declared.reason.Reason.{Reason}
+use Rattle.format.specs.Reasons.{reason_number}
 use Rattle.format.specs.Refusals.{bad_sample, data_ends_early}
 use Rattle.format.specs.Samples.{Decoded, stopped, with_sample, blank, skip_blanks, token, after_token, token_value, lowest, highest, in_type, text_sample, tokens, text_samples, value_bytes}
-use Rattle.lent_numbers.proofs.PackedLaws.{Packed, packed_more}
-use Rattle.data_text.specs.declared.reader.TokenRead.TheVariants.{NoSample, Sample}
-use Rattle.data_text.specs.Tokens.{in_range, ranged, push, tokens_in, samples_in, token_of, token_at, left, last_of, Walked, Skipped, Divides}
+use Rattle.std.specs.Prelude.{Option as Maybe}
+use Rattle.std.specs.Prelude.{Some, None}
+use Rattle.data_text.specs.declared.reader.Sample.{Sample}
+use Rattle.data_text.specs.Tokens.{in_range, ranged, push, tokens_in, samples_in, sample, token_of, token_at, left, last_of, Walked, Skipped, Divides}
 use Rattle.data_text.proofs.TokenLaws.{front, back}
+
+-- every reason has a number
+pub not_fine : (r : Reason) → reason_number r ≡ 0 → ⊥
+not_fine r e = grind arith
 
 -- ---- where a token ends
 
@@ -46,11 +53,20 @@ after_drop (b ∷ t) = go (blank b) refl (after_drop t)
     go true q ih = rw q refl
     go false q ih = rw q ih
 
-sampled : (o : Option ℤ) (e : ℕ) (z : ℤ) (k : ℕ) → token_of o e ≡ Sample z k → (o ≡ some z) × (e ≡ k)
-sampled none e z k q = absurd (let x : ◌≡◌ {A = ℕ} 0 1 = cc in omega arith)
-sampled (some y) e z k q = (cc, cc)
+-- the value and the end of a token that was read
+abbrev value_in : Maybe Sample → ℤ
+value_in None = pos 0
+value_in (Some x) = x.value
 
-unsampled : (o : Option ℤ) (e : ℕ) → token_of o e ≡ NoSample → o ≡ none
+abbrev end_in : Maybe Sample → ℕ
+end_in None = 0
+end_in (Some x) = x.end
+
+sampled : (o : Option ℤ) (e : ℕ) (z : ℤ) (k : ℕ) → token_of o e ≡ sample z k → (o ≡ some z) × (e ≡ k)
+sampled none e z k q = absurd (let x : ◌≡◌ {A = ℕ} 0 1 = cc in omega arith)
+sampled (some y) e z k q = (ap (λ (w : Maybe Sample). some (value_in w)) q, ap end_in q)
+
+unsampled : (o : Option ℤ) (e : ℕ) → token_of o e ≡ None → o ≡ none
 unsampled none e q = refl
 unsampled (some y) e q = absurd (let x : ◌≡◌ {A = ℕ} 0 1 = cc in omega arith)
 
@@ -107,12 +123,12 @@ module _ (low high : ℕ) where
           ≡ push (ranged low high (token_value (token (drop at s)))) (samples_in low high (n - 1) (after_token (drop at s)))
       step = rw (front s at h) (tokens_cons n _ _ some_left)
 
-      pub tokens_bad : NoSample ≡ token_at low high s at → tokens_in low high n (drop at s) ≡ stopped bad_sample
+      pub tokens_bad : None ≡ token_at low high s at → tokens_in low high n (drop at s) ≡ stopped bad_sample
       tokens_bad q =
           let o = unsampled (ranged low high (token_value (token (drop at s)))) (at + length (token (drop at s))) (sym q) in
           step ∙ ap (λ (x : Option ℤ). push x (samples_in low high (n - 1) (after_token (drop at s)))) o
 
-      module _ (z : ℤ) (e : ℕ) (q : Sample z e ≡ token_at low high s at) where
+      module _ (z : ℤ) (e : ℕ) (q : sample z e ≡ token_at low high s at) where
         here : (ranged low high (token_value (token (drop at s))) ≡ some z) × (at + length (token (drop at s)) ≡ e)
         here = sampled (ranged low high (token_value (token (drop at s)))) (at + length (token (drop at s))) z e (sym q)
 
@@ -347,17 +363,6 @@ module _ (low high step n : ℕ) (s : List ℕ) (d₀ : List ℤ) where
           code = sym (f.code ∙ ap (λ (x : Decoded). x.number) none_left);
           held = λ one. sym (f.same one ∙ ap (λ (x : Decoded). sets d k x.seen) none_left);
         }
-
--- lent bytes in which sample k is stored where there is room
-pub packed_put : (d₀ : List ℕ) {P Q : List ℤ → Type 0} {d d' : List ℕ} (p : Packed d₀ P d) (k : ℕ) (z : ℤ)
-    → d' ≡ (if ltb k (length d / 8) then sets d (8 * k) (value_bytes 8 little z) else d) → Q (set p.list k z) → Packed d₀ Q d'
-packed_put d₀ {P} {Q} {d} {d'} p k z e q = go (ltb k (length d / 8)) refl e
-  where
-    go : (t : Bool) → ltb k (length d / 8) ≡ t → d' ≡ (if t then sets d (8 * k) (value_bytes 8 little z) else d) → Packed d₀ Q d'
-    go true b r = packed_more d₀ p k z (omega (arith, ltb-true k (length d / 8) b, p.long)) r q
-    go false b r =
-        let h : length p.list ≤ k = omega (arith, ltb-false k (length d / 8) b, p.few, p.long) in
-        record { list = p.list; held = subst Q (set_out p.list k z h) q; few = p.few; long = ap length r ∙ p.long; is = r ∙ p.is }
 
 -- ---- the samples of a type are those between its bounds
 

@@ -1,18 +1,16 @@
 -- Internal to this crate. Text samples as the code reads them: by position, and over the two bounds of a type.
 use Rattle.std.specs.Prelude.{ℕ, zero, suc, ◌+◌, ◌*◌, ◌^◌, ◌≤◌, ◌<◌, min, ◌≡◌, Bool, true, false, ◌||◌, List, [], ◌∷◌, nat_le, nat_lt, ◌==◌, ℤ, pos, negsuc, neg_ℤ, length, drop, slice_index, if◌then◌else◌}
 use Rattle.std.proofs.Math.Option.{Option, none, some}
-use Rattle.std.proofs.lemmas.List.Edits.{sets}
 use Rattle.std.specs.Int.{w64}
 use mir.Val.{SFits, bool_byte}
 use Rattle.format.specs.Bytes.{is_digit}
-use Rattle.format.specs.Boundary.{samples_lent, lent_samples}
 use Rattle.format.specs.Words.{number, digits_from}
 use Rattle.format.specs.Refusals.{bad_sample, data_ends_early}
 use Rattle.format.specs.Samples.{Decoded, stopped, with_sample, skip_blanks, token, after_token, token_value}
-use Rattle.data_text.specs.declared.reader.Digits.{Digits}
-use Rattle.data_text.specs.declared.reader.Digits.TheVariants.{NoDigits, Run}
-use Rattle.data_text.specs.declared.reader.TokenRead.{TokenRead}
-use Rattle.data_text.specs.declared.reader.TokenRead.TheVariants.{NoSample, Sample}
+use Rattle.std.specs.Prelude.{Option as Maybe}
+use Rattle.std.specs.Prelude.{Some, None}
+use Rattle.data_text.specs.declared.reader.Run.{Run}
+use Rattle.data_text.specs.declared.reader.Sample.{Sample}
 
 -- ---- samples from -low to high: `text_samples` of a type with these bounds
 
@@ -49,28 +47,35 @@ pub record Skipped (s : List ℕ) (at r : ℕ) : Type 0 where
 abbrev pub cap : ℕ
 cap = 2 ^ 63 + 1
 
-abbrev pub run_of : Option ℕ → ℕ → Digits
-run_of none e = NoDigits
-run_of (some m) e = Run (min m cap) e
+-- a number of digits, and where they end; a value, and where its token ends
+abbrev pub run : ℕ → ℕ → Maybe Run
+run m e = Some (record { number = m; end = e })
+
+abbrev pub sample : ℤ → ℕ → Maybe Sample
+sample z e = Some (record { value = z; end = e })
+
+abbrev pub run_of : Option ℕ → ℕ → Maybe Run
+run_of none e = None
+run_of (some m) e = run (min m cap) e
 
 -- the digits from `at` to the end of the token
-abbrev pub digits_at : List ℕ → ℕ → Digits
+abbrev pub digits_at : List ℕ → ℕ → Maybe Run
 digits_at s at = run_of (number (token (drop at s))) (at + length (token (drop at s)))
 
 abbrev pub minus : ℕ → ℤ
 minus m = neg_ℤ (pos m)
 
 -- the value that f makes of digits whose number is at most top
-abbrev pub bound_token : (ℕ → ℤ) → ℕ → Digits → TokenRead
-bound_token f top NoDigits = NoSample
-bound_token f top (Run m e) = if nat_le m top then Sample (f m) e else NoSample
+abbrev pub bound_token : (ℕ → ℤ) → ℕ → Maybe Run → Maybe Sample
+bound_token f top None = None
+bound_token f top (Some r) = if nat_le r.number top then sample (f r.number) r.end else None
 
-abbrev pub token_of : Option ℤ → ℕ → TokenRead
-token_of none e = NoSample
-token_of (some z) e = Sample z e
+abbrev pub token_of : Option ℤ → ℕ → Maybe Sample
+token_of none e = None
+token_of (some z) e = sample z e
 
 -- the token at `at`
-abbrev pub token_at : ℕ → ℕ → List ℕ → ℕ → TokenRead
+abbrev pub token_at : ℕ → ℕ → List ℕ → ℕ → Maybe Sample
 token_at low high s at = token_of (ranged low high (token_value (token (drop at s)))) (at + length (token (drop at s)))
 
 -- the token from `at` on is read up to i: its number so far, of which the code keeps m
@@ -128,9 +133,3 @@ pub record Walked (low high n : ℕ) (t : List ℕ) (z : ℤ) (s : List ℕ) (r 
 -- n is so many times step
 abbrev pub Divides : ℕ → ℕ → Type 0
 Divides step n = (turns : ℕ) × (n ≡ turns * step)
-
--- n samples of s were read, `step` in each turn: r is what they come to, and d what the lent bytes d₀ then hold. Read one in each turn, all up to
--- the first that is refused are at the front of d, as far as there is room
-pub record Stored (low high step n : ℕ) (s d₀ : List ℕ) (r : ℕ) (d : List ℕ) : Type 0 where
-  pub code : r ≡ (samples_in low high n s).number
-  pub held : step ≡ 1 → d ≡ lent_samples (sets (samples_lent d₀) 0 (samples_in low high n s).seen) d₀

@@ -23,11 +23,9 @@ pub(crate) fn front(s: &[u8], at: usize) -> usize
     let b = s[at];
     let mut more = reader::is_sign(b) | reader::is_digit(b);
     let mut n = more as usize;
-    let mut j: usize = 1;
-    while j < 5 {
+    for j in 1..5 {
         more = more & reader::is_digit(s[at + j]);
         n += more as usize;
-        j += 1;
     }
     n
 }
@@ -55,10 +53,8 @@ pub(crate) fn number(s: &[u8], at: usize, n: usize) -> u64
 {
     let b = s[at];
     let mut m = with_digit(0, b, reader::is_digit(b));
-    let mut j: usize = 1;
-    while j < 5 {
+    for j in 1..5 {
         m = with_digit(m, s[at + j], j < n);
-        j += 1;
     }
     m
 }

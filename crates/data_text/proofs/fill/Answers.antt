@@ -1,23 +1,16 @@
 -- `fill` meets its contract: the bounds are those of the type.
-use native.Mathlib.Omega.{arith}
-use mathlib.Core.Path.{refl, ◌∙◌}
-use lib.Seq.{sets}
-use Rattle.format.specs.Boundary.{samples_lent, lent_samples}
+use Rattle.std.proofs.Common.{refl, ◌∙◌, arith}
+use Rattle.std.proofs.lemmas.List.Edits.{sets}
 use Rattle.format.specs.Samples.{Decoded}
 use Rattle.lent_numbers.specs.Widths.{kind_by}
 use Rattle.data_text.proofs.WalkLaws.{by_type}
-use Rattle.data_text.proofs.packed.fill.Goals as goal
+use Rattle.data_text.proofs.fill.Goals as goal
 
-pub read-requires : goal.read-requires
-read-requires c =
-    let a = c.args in
-    ((a.n, omega arith), (c.lowest_of-low.ensures.0, c.highest_of-high.ensures.0))
+pub read-checked-requires : goal.read-checked-requires
+read-checked-requires g c = (c.args.n, omega arith)
 
 pub returns : goal.returns
-returns c =
+returns g c =
     let a = c.args in
-    let d₀ = a.dst.now in
-    λ x.
-    c.read.ensures.held refl
-    ∙ by_type (kind_by a.signed) a.w (c.lowest_of-low.ensures.1 x) (c.highest_of-high.ensures.1 x)
-    (λ (d : Decoded). lent_samples (sets (samples_lent d₀) 0 d.seen) d₀) a.n a.s.now
+    let v = g.C.Lent in
+    λ x. c.read-checked.ensures.stored refl ∙ by_type (kind_by a.signed) a.w (c.of.ensures.low x) (c.of.ensures.high x) (λ (d : Decoded). v.lent (sets (v.samples a.dst.now) 0 d.seen) a.dst.now) a.n a.s.now

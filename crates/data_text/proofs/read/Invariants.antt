@@ -1,13 +1,13 @@
--- `packed::read` meets its contract: the list that the bytes hold is filled as by `list::fill`.
--- The measure is the samples to come. Assumes nothing.
-use Prim.Native.Nat.{◌-◌}
-use Rattle.format.specs.Boundary.{samples_lent}
-use Rattle.lent_numbers.proofs.PackedLaws.{Packed}
+-- `read` meets its contract: after k samples the rest, from `at` on, makes of the list what all make of it at the start. The measure is the samples to come.
+use Rattle.std.proofs.Common.{◌-◌}
+use Rattle.lent_lists.proofs.Seen.{Seen}
 use Rattle.data_text.proofs.WalkLaws.{Filling}
-use Rattle.data_text.proofs.packed.read.Given as goal
+use Rattle.data_text.proofs.read.Given as goal
 
 abbrev pub invariant-loop-k : goal.invariant-loop-k
-invariant-loop-k l = Packed l.initial.dst (λ d. Filling l.low l.high l.step l.n l.s (samples_lent l.initial.dst) d l.at l.k l.v) l.dst
+invariant-loop-k g l =
+    let view = g.C.Lent in
+    Seen view.samples view.lent l.initial.dst (λ d. Filling l.bounds.low l.bounds.high l.step l.n l.s (view.samples l.initial.dst) d l.at l.k l.v) l.dst
 
 abbrev pub decreases-loop-k : goal.decreases-loop-k
-decreases-loop-k l = l.n - l.k
+decreases-loop-k g l = l.n - l.k

@@ -13,8 +13,8 @@ front-n-requires c = omega (arith, c.has_room.ensures c.if-has_room.true)
 pub is_token-requires : goal.is_token-requires
 is_token-requires c = omega (arith, c.front-n.ensures.few, c.has_room.ensures c.if-has_room.true)
 
-pub number-m-requires : goal.number-m-requires
-number-m-requires c =
+pub number-requires : goal.number-requires
+number-requires c =
     (omega (arith, c.has_room.ensures c.if-has_room.true), (c.front-n.ensures, (c.is_token.ensures c.if-is_token.true).0))
 
 pub returns-then-is_token : goal.returns-then-is_token
@@ -23,5 +23,5 @@ returns-then-is_token c =
     let yes = c.is_token.ensures c.if-is_token.true in
     let room = c.has_room.ensures c.if-has_room.true in
     c.bounded.ensures
-    ∙ short_token a.low a.high a.s.now a.at (search rules) (search rules) (omega arith) c.front-n.result c.number-m.result
-    (omega (arith, c.front-n.ensures.few)) yes.0 yes.1 c.number-m.ensures (eqb (get_or a.s.now a.at 0) 45) refl
+    ∙ short_token a.bounds.now.low a.bounds.now.high a.s.now a.at (search rules) (search rules) (omega arith) c.front-n.result c.number.result
+    (omega (arith, c.front-n.ensures.few)) yes.0 yes.1 c.number.ensures (eqb (get_or a.s.now a.at 0) 45) refl
