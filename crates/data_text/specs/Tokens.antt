@@ -9,6 +9,8 @@ use Rattle.format.specs.Refusals.{bad_sample, data_ends_early}
 use Rattle.format.specs.Samples.{Decoded, stopped, with_sample, skip_blanks, token, after_token, token_value}
 use Rattle.std.specs.Prelude.{Option as Maybe}
 use Rattle.std.specs.Prelude.{Some, None}
+use Rattle.data_text.specs.declared.reader.Ended.{Ended}
+use Rattle.data_text.specs.declared.reader.Ended.TheVariants.{AllRead, NoSample, NoToken}
 use Rattle.data_text.specs.declared.reader.Run.{Run}
 use Rattle.data_text.specs.declared.reader.Sample.{Sample}
 
@@ -121,6 +123,12 @@ left (suc n) (b ∷ s) = left n (skip_blanks (after_token (b ∷ s)))
 abbrev pub last_of : ℤ → List ℤ → ℤ
 last_of z [] = z
 last_of z (y ∷ l) = last_of y l
+
+-- the number of the refusal that the reading of tokens ends with
+abbrev pub ended_number : Ended → ℕ
+ended_number AllRead = 0
+ended_number NoSample = bad_sample
+ended_number NoToken = data_ends_early
 
 -- n tokens of t, a part of s, were read from the value z on: r is what they come to, e the place after them, y the last value
 pub record Walked (low high n : ℕ) (t : List ℕ) (z : ℤ) (s : List ℕ) (r e : ℕ) (y : ℤ) : Type 0 where

@@ -17,7 +17,8 @@ use format::reason::Reason;
 use lent_lists::Lent;
 
 // Reads n samples, `step` in each turn. The last of a turn goes to dst, where there is room, at the number of samples before the turn.
-// The pass that checks and the one that stores share this call of `token`: the compiler then inlines it, and what is lent to it stays in registers.
+// The pass that checks and the one that stores share this call of `token`: the compiler then inlines it, and what is lent to it stays in registers, as do the
+// bounds, since they are copied.
 fn read<C: Lent>(
     s: &[u8],
     n: usize,
@@ -29,12 +30,13 @@ fn read<C: Lent>(
     ensures refusal { refusal_number result ≡ (samples_in bounds.now.low bounds.now.high n s.now).number }
     ensures stored { step ≡ 1 → dst.new ≡ C.lent (sets (C.samples dst.old) 0 (samples_in bounds.now.low bounds.now.high n s.now).seen) dst.old }
 {
+    let copied = *bounds;
     let room = C::entries(dst);
     let mut at = reader::skip(s, 0);
     let mut v: i64 = 0;
     let mut k: usize = 0;
     while k < n {
-        reader::token(&s, &mut at, step, bounds, &mut v)?;
+        reader::token(&s, &mut at, step, &copied, &mut v).result()?;
         if k < room {
             C::put(dst, k, v);
         }

@@ -1,9 +1,8 @@
 // Text samples: blanks are skipped and a token is read, in turn, as often as samples are wanted.
 ghost use Rattle.std.specs.Prelude.{◌≡◌, true, false, ◌+◌, ◌*◌, ◌-◌, ◌^◌, ◌≤◌, ◌<◌, min, length, drop, Some, if◌then◌else◌};
 ghost use Rattle.format.specs.Bytes.{is_digit};
-ghost use Rattle.format.specs.Reasons.{refusal_number};
 ghost use Rattle.format.specs.Samples.{blank, skip_blanks};
-ghost use Rattle.data_text.specs.Tokens.{cap, is_sign, by_sign, Skipped, digits_at, bound_token, token_at, Walked};
+ghost use Rattle.data_text.specs.Tokens.{cap, is_sign, by_sign, Skipped, digits_at, bound_token, token_at, ended_number, Walked};
 
 use crate::bounds::Bounds;
 use crate::short;
@@ -21,6 +20,31 @@ pub(crate) struct Run {
 pub(crate) struct Sample {
     pub value: i64,
     pub end: usize,
+}
+
+// How the reading of tokens ends. It has no fields, so that it is answered in a register: with a Result `token` and `blanks` would not be jumps.
+#[derive(Clone, Copy, PartialEq, Eq)]
+pub(crate) enum Ended {
+    AllRead,
+    NoSample,
+    NoToken,
+}
+
+impl Ended {
+    ghost use Rattle.std.specs.Prelude.{◌≡◌};
+    ghost use Rattle.format.specs.Reasons.{refusal_number};
+    ghost use Rattle.data_text.specs.Tokens.{ended_number};
+
+    // The refusal, if there is one.
+    pub(crate) fn result(self) -> Result<(), Reason>
+        ensures { refusal_number result ≡ ended_number self }
+    {
+        match self {
+            Ended::AllRead => Ok(()),
+            Ended::NoSample => Err(Reason::BadSample),
+            Ended::NoToken => Err(Reason::DataEndsEarly),
+        }
+    }
 }
 
 pub(crate) fn is_blank(b: u8) -> bool
@@ -70,18 +94,14 @@ fn digits_at(s: &[u8], at: usize) -> Option<Run>
     requires { at ≤ length s.now }
     ensures { result ≡ digits_at s.now at }
 {
-    let mut i = at;
     let mut m: u64 = 0;
-    while i < s.len() {
-        let b = s[i];
-        if !is_digit(b) {
-            if is_blank(b) {
-                break;
-            }
-            return None;
-        }
-        m = with_digit(m, b);
+    let mut i = at;
+    while i < s.len() && is_digit(s[i]) {
+        m = with_digit(m, s[i]);
         i += 1;
+    }
+    if i < s.len() && !is_blank(s[i]) {
+        return None;
     }
     if i == at {
         None
@@ -153,19 +173,19 @@ pub(crate) fn token(
     n: usize,
     bounds: &Bounds,
     v: &mut i64,
-) -> Result<(), Reason>
+) -> Ended
     requires { at.old ≤ length s.now.now }
-    ensures { Walked bounds.now.low bounds.now.high n (drop at.old s.now.now) v.old s.now.now (refusal_number result) at.new v.new }
+    ensures { Walked bounds.now.low bounds.now.high n (drop at.old s.now.now) v.old s.now.now (ended_number result) at.new v.new }
 {
     if n == 0 {
-        return Ok(());
+        return Ended::AllRead;
     }
     let i = *at;
     if i == s.len() {
-        return Err(Reason::DataEndsEarly);
+        return Ended::NoToken;
     }
     match token_at(*s, i, bounds) {
-        None => Err(Reason::BadSample),
+        None => Ended::NoSample,
         Some(sample) => {
             *v = sample.value;
             *at = sample.end;
@@ -182,9 +202,9 @@ fn blanks(
     n: usize,
     bounds: &Bounds,
     v: &mut i64,
-) -> Result<(), Reason>
+) -> Ended
     requires { at.old ≤ length s.now.now }
-    ensures { Walked bounds.now.low bounds.now.high n (skip_blanks (drop at.old s.now.now)) v.old s.now.now (refusal_number result) at.new v.new }
+    ensures { Walked bounds.now.low bounds.now.high n (skip_blanks (drop at.old s.now.now)) v.old s.now.now (ended_number result) at.new v.new }
 {
     let i = skip(*s, *at);
     *at = i;

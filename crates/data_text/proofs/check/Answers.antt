@@ -1,12 +1,9 @@
 -- `check` meets its contract: the bounds are those of the type, and all samples are read in one turn.
-use Rattle.std.proofs.Common.{◌∙◌, arith}
+use Rattle.std.proofs.Common.{◌∙◌}
 use Rattle.format.specs.Samples.{Decoded}
 use Rattle.lent_numbers.specs.Widths.{kind_by}
 use Rattle.data_text.proofs.WalkLaws.{by_type}
 use Rattle.data_text.proofs.check.Goals as goal
-
-pub read-requires : goal.read-requires
-read-requires c = (1, omega arith)
 
 pub returns : goal.returns
 returns c =

@@ -1,4 +1,4 @@
--- `fill` meets its contract: the bounds are those of the type.
+-- `fill` meets its contract: the bounds are those of the type, and each turn is one sample.
 use Rattle.std.proofs.Common.{refl, ◌∙◌, arith}
 use Rattle.std.proofs.lemmas.List.Edits.{sets}
 use Rattle.format.specs.Samples.{Decoded}
