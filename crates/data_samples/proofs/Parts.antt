@@ -1,38 +1,41 @@
 -- Laws of the sample calls: the order of the bytes, and the place of the samples.
--- Assumes nothing.
 use Rattle.std.specs.Prelude.{if◌then◌else◌}
 use Prim.Native.Nat.{ℕ, zero, suc, ◌+◌, ◌*◌, ◌^◌, ◌-◌, ◌/◌, ◌≤◌, ◌<◌}
 use native.Mathlib.Nat.{le_refl, mul-div_cancel}
 use native.Mathlib.Omega.{arith}
-use mathlib.Core.Path.{◌≡◌, refl, sym, ap, ◌∙◌}
+use mathlib.Core.Path.{◌≡◌, refl, sym, ap, ◌∙◌, subst}
 use mathlib.Core.Bool.{Bool, true, false, ◌&&◌}
 use mathlib.Core.List.{List, reverse}
 use mathlib.Core.Option.{Option, none, some}
 use lib.Dec.{eqb, ltb, leb}
-use lib.IntN.{ℤ}
 use lib.ListN.{length, take, drop, length-drop}
 use lib.Seq.{length-take-le}
-use borrow.Author.Tests.{eqb-true, eqb-false, eq-eqb, ne_eqb, ltb-false}
+use borrow.Author.Tests.{eqb-false, ne_eqb}
+use Rattle.std.specs.Prelude.{Result, Ok, Err, MatchResult}
+use Rattle.std.specs.Result.{result_unwrap_or}
+use Rattle.format.specs.declared.codes.NotListed.{NotListed}
+use Rattle.data_samples.specs.declared.data.Data.{Data}
+use Rattle.data_samples.proofs.SamplesSeen.{samples_seen}
+use Rattle.std.proofs.Common.{◌⊎◌, inl, inr}
 use Rattle.format.specs.declared.Reading.{Reading}
 use Rattle.format.specs.declared.ReadAnswer.{ReadAnswer}
-use Rattle.format.specs.declared.DataAnswer.{DataAnswer}
-use Rattle.format.specs.declared.CountAnswer.{CountAnswer}
-use Rattle.format.specs.Bytes.{over}
+use Rattle.format.specs.declared.codes.Encoding.{Encoding}
+use Rattle.format.specs.declared.codes.Encoding.TheVariants.{Raw, Text, Hex}
+use Rattle.format.specs.Codes.{encoding_code}
+use Rattle.format.specs.Answers.{reading_answered}
 use Rattle.format.specs.Limits.{max_file}
-use Rattle.format.specs.Refusals.{file_too_long, several_files, place_too_large, data_too_short, float_samples, lent_too_short, refusal, fine}
+use Rattle.format.specs.Refusals.{file_too_long, several_files, place_too_large, data_too_short, float_samples, lent_too_short, refusal}
 use Rattle.format.specs.Fields.{Given}
-use Rattle.format.specs.Descriptors.{NumberKind, number_kind, is_floating, is_signed, sample_bytes, type_of, encoding_of, extent_of, is_detached, raw, big, file_count_of}
-use Rattle.format_values.proofs.TypeLaws.{type_width, type_bytes, kind_by_lem}
+use Rattle.format.specs.Descriptors.{NumberKind, number_kind, is_floating, is_signed, sample_bytes, type_of, encoding_of, extent_of, is_detached, raw, as_text, big, file_count_of}
+use Rattle.format_values.proofs.TypeLaws.{type_bytes, kind_by_lem}
 use Rattle.format.specs.Header.{Entry, Outcome, refused, accepted, header, header_length}
 use Rattle.format.specs.Data.{after_skips, Place, nowhere, part, place_from, place_of, part_of}
 use Rattle.format.specs.Samples.{Decoded, sample_value, ordered, raw_samples, text_samples, HexRun, no_hex, hex_run, hex_bytes, hex_sample, hex_samples, without_blanks, samples_of}
-use Rattle.format.specs.Calls.{reading_of, read_answer, read_header_call, data_answer, no_samples, count_of, decoded, answer_decoded, check_at, check_in, check_samples_call, seen_in, samples_call}
+use Rattle.format.specs.Calls.{reading_of, read_answer, read_header_call, no_samples, count_of, decoded, answer_decoded, check_in, check_samples_call, seen_in}
 use Rattle.format.proofs.Numbered.{NumberedOutcome, header_numbered}
-use Rattle.format.specs.Room.{Enough, samples_room}
-use Rattle.theorem_room.proofs.Enough.{samples_answered}
-use Rattle.lent_numbers.specs.Widths.{Width, kind_by, endian_by}
+use Rattle.lent_numbers.specs.Widths.{kind_by, endian_by}
 use Rattle.data_place.specs.Places.{IsReading}
-use Rattle.data_samples.specs.Parts.{decoded_by, Decodable, part_by, Held, Placed}
+use Rattle.data_samples.specs.Parts.{decoded_by, decoded_of, Decodable, Found}
 use Rattle.data_place.proofs.Located.{place_lies}
 
 -- ---- the order of a sample's bytes: only big turns it round
@@ -66,30 +69,37 @@ module _ (k : NumberKind) (e : ℕ) where
         go (no_hex m) f = refl
         go (hex_run v r) f = rw (sample_by v, f r)
 
--- ---- the samples of a part, by the encoding
+-- ---- the samples of bytes, by the code of their encoding
 
--- what is asked and decoded of a part, for samples of w bytes, signed or not
-pub record PartIs (x : Reading) (n : ℕ) (s : List ℕ) (w : ℕ) (g : Bool) : Type 0 where
-  pub width : Width w
-  pub enough : x.encoding ≡ 0 → n * w ≤ length s
-  pub as_raw : x.encoding ≡ 0 → raw_samples (kind_by g) w (endian_by (eqb x.endian 1)) n s ≡ decoded_by x n s
-  pub as_text : x.encoding ≡ 1 → text_samples (kind_by g) w n s ≡ decoded_by x n s
-  pub as_hex : (x.encoding ≡ 0 → ⊥) → (x.encoding ≡ 1 → ⊥)
-      → hex_samples (kind_by g) w (endian_by (eqb x.endian 1)) n (without_blanks s) ≡ decoded_by x n s
+module _ (k : NumberKind) (w e n : ℕ) (s : List ℕ) where
+  samples_by : (c : ℕ) → samples_of c k w (endian_by (eqb e big)) n s ≡ samples_of c k w e n s
+  unfolding samples_of
+  samples_by c = go (eqb c raw) (eqb c as_text)
+    where
+      go : (x y : Bool)
+          → (if x then raw_samples k w (endian_by (eqb e big)) n s else if y then text_samples k w n s else hex_samples k w (endian_by (eqb e big)) n (without_blanks s))
+          ≡ (if x then raw_samples k w e n s else if y then text_samples k w n s else hex_samples k w e n (without_blanks s))
+      go true y = raw_by k e w n s
+      go false true = refl
+      go false false = hex_by k e w n (without_blanks s)
 
-pub part_is : (x : Reading) (n : ℕ) (s : List ℕ) (w : ℕ) (g : Bool) → Decodable x n s → w ≡ sample_bytes x.sampletype → g ≡ is_signed (number_kind x.sampletype) → PartIs x n s w g
-unfolding samples_of
-part_is x n s w g h l es =
-    let k : kind_by g ≡ number_kind x.sampletype = ap kind_by es ∙ kind_by_lem (number_kind x.sampletype) h.integer in
-    record {
-      width = rw l (type_width x.sampletype);
-      enough = λ e. rw l (h.enough e);
-      as_raw = λ e. rw (e, l, k) (raw_by (number_kind x.sampletype) x.endian (sample_bytes x.sampletype) n s);
-      as_text = λ e. rw (e, l, k);
-      as_hex = λ a b.
-          rw (ne_eqb x.encoding 0 a, ne_eqb x.encoding 1 b, l, k)
-          (hex_by (number_kind x.sampletype) x.endian (sample_bytes x.sampletype) n (without_blanks s));
-    }
+  -- by an encoding for the code: what is no code is hex
+  coded : (x : Encoding) (c : ℕ) → (encoding_code x ≡ c) ⊎ ((3 ≤ c) × (x ≡ Hex)) → samples_of (encoding_code x) k w (endian_by (eqb e big)) n s ≡ samples_of c k w e n s
+  unfolding samples_of
+  coded x c (inl q) = rw (← q) (samples_by (encoding_code x))
+  coded x c (inr q) = rw (q.1, ne_eqb c raw (λ z. omega (arith, z, q.0)), ne_eqb c as_text (λ z. omega (arith, z, q.0))) (hex_by k e w n (without_blanks s))
+
+-- raw is the code 0 alone
+pub raw_coded : (x : Encoding) (c : ℕ) → (encoding_code x ≡ c) ⊎ ((3 ≤ c) × (x ≡ Hex)) → x ≡ Raw → c ≡ raw
+raw_coded Raw c (inl q) r = sym q
+raw_coded Raw c (inr q) r = absurd (let z : 0 ≡ 2 = ap encoding_code q.1 in omega (arith, z))
+raw_coded Text c q r = absurd (let z : 1 ≡ 0 = ap encoding_code r in omega (arith, z))
+raw_coded Hex c q r = absurd (let z : 2 ≡ 0 = ap encoding_code r in omega (arith, z))
+
+pub data_decoded : (x : Reading) (n : ℕ) (s : List ℕ) (c : Encoding) → Decodable x n s → (encoding_code c ≡ x.encoding) ⊎ ((3 ≤ x.encoding) × (c ≡ Hex))
+    → samples_of (encoding_code c) (kind_by (is_signed (number_kind x.sampletype))) (sample_bytes x.sampletype) (endian_by (eqb x.endian big)) n s ≡ decoded_by x n s
+data_decoded x n s c h q =
+    rw (kind_by_lem (number_kind x.sampletype) h.integer) (coded (number_kind x.sampletype) (sample_bytes x.sampletype) x.endian n s c x.encoding q)
 
 -- ---- the place of samples: its type is an integer, and raw data has the extent
 
@@ -134,34 +144,35 @@ part_long s a b h = length-take-le b (drop a s) (omega (arith, length-drop a s))
 -- ---- the calls
 
 module _ (file second : List ℕ) where
-  -- the reading is refused
-  pub check_refused : (a : ReadAnswer) → a ≡ read_header_call file → (a.refusal.number ≡ 0 → ⊥) → (room : ℕ)
-      → no_samples a.refusal ≡ check_samples_call file second room
-  check_refused a e n room = go (header file) e
-    where
-      go : (o : Outcome) → a ≡ read_answer o → no_samples a.refusal ≡ check_in room file second o
-      go (refused r) q = rw q
-      go (accepted es gs ls) q = absurd (n (ap (λ (x : ReadAnswer). x.refusal.number) q))
+  -- a reading of the file, and where its samples lie
+  pub record Placed (x : Reading) (p : Place) : Type 0 where
+    pub entries : List Entry
+    pub fields : List Given
+    pub reading : IsReading file x entries fields
+    pub place : p ≡ place_of true fields (header_length entries) file second
 
-  -- or it is accepted, and the place is that of the samples
-  pub samples_placed : (a : ReadAnswer) → a ≡ read_header_call file → a.refusal.number ≡ 0 → (d : DataAnswer)
-      → ((es : List Entry) (gs : List Given) → IsReading file a.reading es gs → d ≡ data_answer (place_of true gs (header_length es) file second))
-      → Placed file second a.reading d
-  samples_placed a e z d f = go (header file) refl e (header_numbered file)
+  pub samples_placed : (x : Reading) → reading_answered (Ok x) ≡ read_header_call file → (p : Place)
+      → ((es : List Entry) (gs : List Given) → IsReading file x es gs → p ≡ place_of true gs (header_length es) file second) → Placed x p
+  samples_placed x e p f = go (header file) refl e (header_numbered file)
     where
-      go : (o : Outcome) → header file ≡ o → a ≡ read_answer o → NumberedOutcome o → Placed file second a.reading d
-      go (refused r) p q n = absurd (let g : ⊥ = omega (arith, ap (λ (x : ReadAnswer). x.refusal.number) q) in g)
-      go (accepted es gs ls) p q n =
-          let i : IsReading file a.reading es gs = record { rest = ls; header_is = p; is = ap (λ (x : ReadAnswer). x.reading) q } in
+      go : (o : Outcome) → header file ≡ o → reading_answered (Ok x) ≡ read_answer o → NumberedOutcome o → Placed x p
+      go (refused r) h q n = absurd (let g : ⊥ = omega (arith, ap (λ (y : ReadAnswer). y.refusal.number) q) in g)
+      go (accepted es gs ls) h q n =
+          let i : IsReading file x es gs = record { rest = ls; header_is = h; is = ap (λ (y : ReadAnswer). y.reading) q } in
           record { entries = es; fields = gs; reading = i; place = f es gs i }
 
-  -- what the call answers where the place is not refused
-  pub record Ready (x : Reading) (d : DataAnswer) (n : ℕ) : Type 0 where
-    pub held : Held file second x n d
+  -- the place is refused
+  pub place_refused : {x : Reading} {n : ℕ} → Placed x (nowhere n) → (room : ℕ) → no_samples (refusal n) ≡ check_samples_call file second room
+  place_refused p room = rw (p.reading.header_is, ← p.place)
+
+  -- what the call answers where it is not
+  pub record Ready (x : Reading) (s : Bool) (a b n : ℕ) : Type 0 where
+    pub within : a + b ≤ length (if s then second else file)
+    pub decodable : Decodable x n (take b (drop a (if s then second else file)))
     pub call : (room : ℕ)
         → check_samples_call file second room
-        ≡ (if ltb room n then no_samples (refusal lent_too_short) else answer_decoded n (decoded_by x n (part_by d file second)))
-    pub seen : seen_in file second (header file) ≡ (decoded_by x n (part_by d file second)).seen
+        ≡ (if ltb room n then no_samples (refusal lent_too_short) else answer_decoded n (decoded_by x n (take b (drop a (if s then second else file)))))
+    pub seen : seen_in file second (header file) ≡ (decoded_by x n (take b (drop a (if s then second else file)))).seen
 
   module _ {x : Reading} {es : List Entry} {gs : List Given} (i : IsReading file x es gs) where
     type_is : x.sampletype ≡ type_of gs
@@ -180,95 +191,61 @@ module _ (file second : List ℕ) where
     unfolding reading_of
     decoded_by_lem s = sym (ap (λ (r : Reading). decoded_by r (count_of gs) s) i.is)
 
-    ready_at : {d : DataAnswer} (s : Bool) (a b : ℕ) → place_of true gs (header_length es) file second ≡ part s a b → d ≡ data_answer (part s a b)
-        → Sound gs (part s a b) → Ready x d (count_of gs)
-    ready_at s a b l e k =
+    ready_at : (s : Bool) (a b : ℕ) → place_of true gs (header_length es) file second ≡ part s a b → Sound gs (part s a b) → Ready x s a b (count_of gs)
+    ready_at s a b l k =
         let w = rw l at (place_lies file second true gs (header_length es)) in
         let t = part_long (if s then second else file) a b w in
         record {
-          held = record {
-            within = rw e w;
-            decodable = record {
-              integer = rw type_is k.0;
-              enough = λ q. let m = k.1 (sym encoding_is ∙ q) in rw (e, t, m, type_is) (le_refl (extent_of gs));
-            };
+          within = w;
+          decodable = record {
+            integer = rw type_is k.0;
+            enough = λ q. let m = k.1 (sym encoding_is ∙ q) in rw (t, m, type_is) (le_refl (extent_of gs));
           };
-          call = λ room. rw (i.header_is, l, e, ← decoded_by_lem);
+          call = λ room. rw (i.header_is, l, ← decoded_by_lem);
           seen =
               ap (λ (o : Outcome). seen_in file second o) i.header_is
               ∙ ap (λ (q : Place). (decoded gs (part_of q file second)).seen) l
-              ∙ rw (e, ← decoded_by_lem);
+              ∙ rw (← decoded_by_lem);
         }
 
-  module _ {x : Reading} {d : DataAnswer} (p : Placed file second x d) where
-    abbrev place : Place
-    place = place_of true p.fields (header_length p.entries) file second
+  -- the extent is for so many samples
+  pub place_ready : {x : Reading} {s : Bool} {a b : ℕ} → Placed x (part s a b) → Ready x s a b (x.extent / sample_bytes x.sampletype)
+  place_ready {x} {s} {a} {b} p =
+      let m = count_of p.fields in
+      let q : x.extent / sample_bytes x.sampletype ≡ m = rw (extent_is p.reading) (mul-div_cancel m (type_bytes x.sampletype)) in
+      let k = subst (Sound p.fields) (sym p.place) (place_sound p.fields (header_length p.entries) file second) in
+      rw q (ready_at p.reading s a b (sym p.place) k)
 
-    -- the place is refused
-    pub place_refused : (d.refusal.number ≡ 0 → ⊥) → (room : ℕ) → no_samples d.refusal ≡ check_samples_call file second room
-    place_refused k room = rw p.reading.header_is (go place p.place)
-      where
-        go : (q : Place) → d ≡ data_answer q → no_samples d.refusal ≡ check_at p.fields q room file second
-        go (nowhere n) e = rw e
-        go (part s a b) e = absurd (k (ap (λ (y : DataAnswer). y.refusal.number) e))
+-- ---- the samples of data, by its encoding
 
-    -- or it is not
-    place_ready : d.refusal.number ≡ 0 → Ready x d (count_of p.fields)
-    place_ready z = go place refl p.place (place_sound p.fields (header_length p.entries) file second)
-      where
-        go : (q : Place) → place ≡ q → d ≡ data_answer q → Sound p.fields q → Ready x d (count_of p.fields)
-        go (nowhere n) l e k = absurd (let g : ⊥ = omega (arith, ap (λ (y : DataAnswer). y.refusal.number) e) in g)
-        go (part s a b) l e k = ready_at p.reading s a b l e k
+module _ (d : Data) where
+  pub of_raw : d.encoding ≡ Raw → raw_samples (kind_by d.signed) d.width (endian_by d.big) d.count d.bytes.now ≡ decoded_of d
+  unfolding samples_of
+  of_raw e = rw e refl
 
-    -- n is the number of samples that the extent is for
-    pub count_ready : d.refusal.number ≡ 0 → (n : ℕ) → n ≡ x.extent / sample_bytes x.sampletype → Ready x d n
-    count_ready z n e =
-        let m = count_of p.fields in
-        let q : x.extent / sample_bytes x.sampletype ≡ m = rw (extent_is p.reading) (mul-div_cancel m (type_bytes x.sampletype)) in
-        rw (e ∙ q) (place_ready z)
+  pub of_text : d.encoding ≡ Text → text_samples (kind_by d.signed) d.width d.count d.bytes.now ≡ decoded_of d
+  unfolding samples_of
+  of_text e = rw e refl
 
-    -- what is known where the check refuses nothing
-    pub record Full (room : ℕ) (a : CountAnswer) : Type 0 where
-      pub held : Held file second x a.count d
-      pub none : (decoded_by x a.count (part_by d file second)).number ≡ 0
-      pub fits : a.count ≤ room
-      pub seen : seen_in file second (header file) ≡ (decoded_by x a.count (part_by d file second)).seen
+  pub of_hex : d.encoding ≡ Hex → hex_samples (kind_by d.signed) d.width (endian_by d.big) d.count (without_blanks d.bytes.now) ≡ decoded_of d
+  unfolding samples_of
+  of_hex e = rw e refl
 
-    module _ (room : ℕ) (a : CountAnswer) (e : a ≡ check_samples_call file second room) (z : a.refusal.number ≡ 0) where
-      ready_full : (n : ℕ) → Ready x d n → Full room a
-      ready_full n r = go (ltb room n) (eqb found.number 0) refl refl (e ∙ r.call room)
-        where
-          found : Decoded
-          found = decoded_by x n (part_by d file second)
+  -- where none is refused there are as many as are wanted
+  pub as_many : (decoded_of d).number ≡ 0 → length (decoded_of d).seen ≡ d.count
+  as_many = (samples_seen (kind_by d.signed) d.width (endian_by d.big) (encoding_code d.encoding) d.count d.bytes.now).1
 
-          go : (b c : Bool) → ltb room n ≡ b → eqb found.number 0 ≡ c
-              → a ≡ (if b then no_samples (refusal lent_too_short) else if c then record { refusal = fine; count = n } else no_samples (refusal found.number))
-              → Full room a
-          go true c s t q = absurd (let g : ⊥ = omega (arith, ap (λ (y : CountAnswer). y.refusal.number) q) in g)
-          go false true s t q =
-              rw q
-              (record { held = r.held; none = eqb-true found.number 0 t; fits = ltb-false room n s; seen = r.seen })
-          go false false s t q = absurd (eqb-false found.number 0 t (sym (ap (λ (y : CountAnswer). y.refusal.number) q) ∙ z))
+-- d is the data that the call looks for
+pub found : (file second : List ℕ) {x : Reading} {t : Bool} {a b n : ℕ} (d : Data) → d.count ≡ n → decoded_of d ≡ decoded_by x n (take b (drop a (if t then second else file)))
+    → Ready file second x t a b n → Found file second d
+found file second {n = n} d p q r = record {
+  call = λ room. r.call room ∙ ap (λ (y : Decoded). if ltb room n then no_samples (refusal lent_too_short) else answer_decoded n y) (sym q)
+      ∙ ap (λ (m : ℕ). if ltb room m then no_samples (refusal lent_too_short) else answer_decoded m (decoded_of d)) (sym p);
+  seen = r.seen ∙ ap (λ (y : Decoded). y.seen) (sym q);
+}
 
-      pub place_full : Full room a
-      place_full = go (eqb d.refusal.number 0) refl
-        where
-          go : (b : Bool) → eqb d.refusal.number 0 ≡ b → Full room a
-          go true q = ready_full (count_of p.fields) (place_ready (eqb-true d.refusal.number 0 q))
-          go false q =
-              let n = eqb-false d.refusal.number 0 q in
-              absurd (n (ap (λ (y : CountAnswer). y.refusal.number) (place_refused n room ∙ sym e) ∙ z))
-
-  -- the lent list as it returns
-  module _ (a : CountAnswer) (list : List ℤ) (e : a ≡ check_samples_call file second (length list)) where
-    pub list_kept : (a.refusal.number ≡ 0 → ⊥) → ◌≡◌ {A = CountAnswer × List ℤ} (a, list) (samples_call file second list)
-    list_kept n = rw (← e, ne_eqb a.refusal.number 0 n)
-
-    pub list_filled : a.refusal.number ≡ 0 → (after : List ℤ) → after ≡ over (seen_in file second (header file)) list
-        → ◌≡◌ {A = CountAnswer × List ℤ} (a, after) (samples_call file second list)
-    list_filled z after q = rw (← e, eq-eqb a.refusal.number 0 z, q)
-
--- an answer that is the call's, and the room that is enough for it
-pub list_answered : (file second : List ℕ) (list : List ℤ) {a : CountAnswer} {after : List ℤ} → ◌≡◌ {A = CountAnswer × List ℤ} (a, after) (samples_call file second list)
-    → (◌≡◌ {A = CountAnswer × List ℤ} (a, after) (samples_call file second list)) × (samples_room (header file) ≤ length list → Enough a.refusal)
-list_answered file second list e = (e, samples_answered file second list e)
+-- the encoding for a code: hex for what is no code
+pub code_of : (r : Result Encoding NotListed) (c : ℕ) → MatchResult r (λ e. encoding_code e ≡ c) (λ _. 3 ≤ c)
+    → (encoding_code (result_unwrap_or r Hex) ≡ c) ⊎ ((3 ≤ c) × (result_unwrap_or r Hex ≡ Hex))
+code_of (Ok e) c h = inl h
+code_of (Err e) c h = inr (h, refl)

@@ -1,14 +1,15 @@
 -- Internal to this crate. What the parts of the sample calls need and answer.
-use Rattle.std.specs.Prelude.{ℕ, ◌+◌, ◌*◌, ◌≤◌, ◌≡◌, true, false, List, length, take, drop, if◌then◌else◌}
+use Rattle.std.specs.Prelude.{ℕ, ◌*◌, ◌≤◌, ◌≡◌, false, ◌==◌, nat_lt, List, length, Result, Ok, Err, if◌then◌else◌}
 use Rattle.format.specs.declared.Reading.{Reading}
-use Rattle.format.specs.declared.DataAnswer.{DataAnswer}
-use Rattle.format.specs.Fields.{Given}
+use Rattle.format.specs.declared.reason.Refused.{Refused}
+use Rattle.format.specs.Codes.{encoding_code}
 use Rattle.format.specs.Descriptors.{raw, number_kind, is_floating, sample_bytes}
-use Rattle.format.specs.Header.{Entry, header_length}
-use Rattle.format.specs.Data.{place_of}
+use Rattle.format.specs.Header.{header}
+use Rattle.format.specs.Refusals.{refusal, lent_too_short}
 use Rattle.format.specs.Samples.{Decoded, samples_of}
-use Rattle.format.specs.Calls.{data_answer}
-use Rattle.data_place.specs.Places.{IsReading}
+use Rattle.format.specs.Calls.{no_samples, answer_decoded, check_samples_call, seen_in}
+use Rattle.format.specs.Widths.{kind_by, endian_by}
+use Rattle.data_samples.specs.declared.data.Data.{Data}
 
 -- n samples of the bytes s, by the numbers of a reading
 abbrev pub decoded_by : Reading → ℕ → List ℕ → Decoded
@@ -19,18 +20,22 @@ pub record Decodable (x : Reading) (n : ℕ) (s : List ℕ) : Type 0 where
   pub integer : is_floating (number_kind x.sampletype) ≡ false
   pub enough : x.encoding ≡ raw → n * sample_bytes x.sampletype ≤ length s
 
--- the bytes that a data answer names
-abbrev pub part_by : DataAnswer → List ℕ → List ℕ → List ℕ
-part_by d file second = take d.length (drop d.start (if d.second then second else file))
+-- the samples of the data
+abbrev pub decoded_of : Data → Decoded
+decoded_of d = samples_of (encoding_code d.encoding) (kind_by d.signed) d.width (endian_by d.big) d.count d.bytes.now
 
--- n samples can be decoded from the bytes that a data answer names, which lie in their file
-pub record Held (file second : List ℕ) (x : Reading) (n : ℕ) (d : DataAnswer) : Type 0 where
-  pub within : d.start + d.length ≤ length (if d.second then second else file)
-  pub decodable : Decodable x n (part_by d file second)
+-- d is the data of the samples of these files
+pub record Found (file second : List ℕ) (d : Data) : Type 0 where
+  pub call : (room : ℕ) → check_samples_call file second room ≡ (if nat_lt room d.count then no_samples (refusal lent_too_short) else answer_decoded d.count (decoded_of d))
+  pub seen : seen_in file second (header file) ≡ (decoded_of d).seen
 
--- the reading is that of the file, and the data answer names the place of its samples
-pub record Placed (file second : List ℕ) (x : Reading) (d : DataAnswer) : Type 0 where
-  pub entries : List Entry
-  pub fields : List Given
-  pub reading : IsReading file x entries fields
-  pub place : d ≡ data_answer (place_of true fields (header_length entries) file second)
+-- and there is room for its samples, none of which is refused
+pub record Ready (file second : List ℕ) (room : ℕ) (d : Data) : Type 0 where
+  pub fits : d.count ≤ room
+  pub none : (decoded_of d).number ≡ 0
+  pub seen : seen_in file second (header file) ≡ (decoded_of d).seen
+
+-- how many samples
+abbrev pub counted : Result Data Refused → Result ℕ Refused
+counted (Ok d) = Ok d.count
+counted (Err refused) = Err refused
