@@ -167,13 +167,7 @@ fn token_at(s: &[u8], at: usize, bounds: &Bounds) -> Option<Sample>
 // Reads n tokens, the first of them at *at, and passes the blanks after each.
 // *at is left at the first token that was not read, and the last value in *v. Each call of `blanks` and `token` is the last thing done, so that both compile to jumps.
 #[cycle(blanks_token)]
-pub(crate) fn token(
-    s: &&[u8],
-    at: &mut usize,
-    n: usize,
-    bounds: &Bounds,
-    v: &mut i64,
-) -> Ended
+pub(crate) fn token(s: &&[u8], at: &mut usize, n: usize, bounds: &Bounds, v: &mut i64) -> Ended
     requires { at.old ≤ length s.now.now }
     ensures { Walked bounds.now.low bounds.now.high n (drop at.old s.now.now) v.old s.now.now (ended_number result) at.new v.new }
 {
@@ -196,13 +190,7 @@ pub(crate) fn token(
 
 // The same from the blanks before a token on.
 #[cycle(blanks_token)]
-fn blanks(
-    s: &&[u8],
-    at: &mut usize,
-    n: usize,
-    bounds: &Bounds,
-    v: &mut i64,
-) -> Ended
+fn blanks(s: &&[u8], at: &mut usize, n: usize, bounds: &Bounds, v: &mut i64) -> Ended
     requires { at.old ≤ length s.now.now }
     ensures { Walked bounds.now.low bounds.now.high n (skip_blanks (drop at.old s.now.now)) v.old s.now.now (ended_number result) at.new v.new }
 {

@@ -3,6 +3,7 @@ use Rattle.std.specs.Prelude.{◌≡◌, ℕ, ◌≤◌, ◌<◌, List, [], ◌�
 use Rattle.std.proofs.Common.{◌∙◌, sym, ap, refl, set, arith, length-set, subst}
 use Rattle.std.proofs.lemmas.List.Edits.{sets}
 use lib.Seq.{set_out}
+use Rattle.lent_numbers.specs.Cells.{Stores}
 use Rattle.lent_lists.specs.Views.{Views}
 
 -- the cells d hold a list of samples of which P holds, and else what d₀ had
@@ -38,3 +39,9 @@ module _ {A : Type 0} {store : List ℤ → List A} {place room : ℕ → ℕ} {
     -- all are stored
     pub seen_done : {l : List ℤ} → p.list ≡ l → d ≡ lent l d₀
     seen_done e = p.is ∙ ap (λ l. lent l d₀) e
+
+  -- no more samples than cells
+  pub samples_few : Stores store place room → length (samples d₀) ≤ length d₀
+  samples_few s =
+      let n = length (samples d₀) in
+      omega (arith, s.least n, s.fits n (length d₀) (omega (arith, v.count d₀)))

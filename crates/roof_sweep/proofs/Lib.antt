@@ -4,5 +4,4 @@ mod OffsetLaws
 mod RowLaws
 mod LentStamps
 mod Ways
-mod SamplesSeen
 mod SweepsHold

@@ -1,5 +1,5 @@
 -- `read` meets its contract: the list that the cells hold is filled, sample by sample.
-use Rattle.std.proofs.Common.{◌+◌, refl, sym, arith, w64, rules, ◌≡◌, Err, ◌∙◌}
+use Rattle.std.proofs.Common.{refl, sym, arith, w64, rules, ◌≡◌, Err, ◌∙◌}
 use mir.Val.{to_z, of_z}
 use Rattle.lent_lists.proofs.Seen.{seen_none, seen_put, seen_out, seen_done}
 use Rattle.data_text.proofs.WalkLaws.{not_fine, filling_none, turn, filling_stop, filling_more, filling_done}
@@ -12,7 +12,7 @@ loop-k-init g c = seen_none g.met.C.Lent.views c.args.dst.now c.entries-room.ens
 pub put-requires : goal.put-requires
 put-requires g c =
     let d = c.args.dst.now in
-    g.C.Cell.stores.fits (c.loop-k.k + 1) _ (rw c.loop-k.auto.dst (omega (arith, c.if-k-room.true, c.entries-room.ensures.count, g.met.C.Lent.views.count d)))
+    g.C.Cell.stores.fits _ _ (rw c.loop-k.auto.dst (omega (arith, c.if-k-room.true, c.entries-room.ensures.count, g.met.C.Lent.views.count d)))
 
 pub returns-in_err-result-clause-refusal : goal.returns-in_err-result-clause-refusal
 returns-in_err-result-clause-refusal g c =
