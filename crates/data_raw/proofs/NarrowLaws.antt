@@ -1,7 +1,7 @@
 -- Laws of samples of 1 or 2 bytes, which go by way of numbers of 16 bits.
 -- Assumes nothing.
 use Rattle.std.specs.Prelude.{if◌then◌else◌}
-use Rattle.std.proofs.Common.{◌≡◌, ℕ, zero, suc, ◌+◌, ◌*◌, ◌%◌, ◌^◌, ◌<◌, ◌≤◌, min, Bool, true, false, ltb, List, [], ◌∷◌, length, get_or, take, drop, set, ℤ, pos, ◌-ℤ◌, sym, refl, ap, ◌∙◌, append-nil, mul-le-mul_right, suc-mul, add-mul, arith, lit<, length-drop, drop_of_length-le, get_or-drop, drop-drop, to_z-of_z, w64, SFits, to_z, of_z, eq-eqb, ne_eqb}
+use Rattle.std.proofs.Common.{◌≡◌, ℕ, zero, suc, ◌+◌, ◌*◌, ◌%◌, ◌^◌, ◌<◌, ◌≤◌, min, Bool, true, false, ltb, List, [], ◌∷◌, length, get_or, take, drop, set, ℤ, pos, ◌-ℤ◌, sym, refl, ap, ◌∙◌, append-nil, mul_comm, mul-le-mul_right, suc-mul, add-mul, arith, lit<, length-drop, drop_of_length-le, get_or-drop, drop-drop, to_z-of_z, w64, SFits, to_z, of_z, eq-eqb, ne_eqb}
 use lib.IntN.{sub_ℕ}
 use lib.ListN.{length-map}
 use lib.Seq.{sets}
@@ -134,33 +134,31 @@ module _ (big : Bool) (w up : ℕ) where
 -- ---- the loops of a block of n numbers
 
 -- number i goes to its place, and is read at `from`
+-- number i lies inside
+pub lifting_room : (w n : ℕ) (s : List ℕ) (at : ℕ) {i : ℕ} → i < n → at + n * w ≤ length s → at + w * i + w ≤ length s
+lifting_room w n s at {i = i} h r = omega (arith, mul_comm i w, suc-mul i w, mul-le-mul_right w h)
+
 module _ (big : Bool) (w up n : ℕ) (s : List ℕ) (at : ℕ) (a₀ : List ℕ) where
   abbrev pub numbers : List ℕ
   numbers = lifts big w up n (drop at s)
 
-  pub record Lifting (a : List ℕ) (from i : ℕ) : Type 0 where
-    pub run : Run in_list numbers a₀ 0 a i i
-    pub place : from ≡ at + i * w
+  abbrev pub Lifting : List ℕ → ℕ → Type 0
+  Lifting a i = Run in_list numbers a₀ 0 a i i
 
-  pub lifting_none : Lifting a₀ at 0
-  lifting_none = record { run = run_none in_list numbers a₀ 0 0 refl; place = omega arith }
+  pub lifting_none : Lifting a₀ 0
+  lifting_none = run_none in_list numbers a₀ 0 0 refl
 
-  module _ {a : List ℕ} {from i : ℕ} (l : Lifting a from i) where
-    pub lifting_room : i < n → at + n * w ≤ length s → from + w ≤ length s
-    lifting_room h r = omega (arith, l.place, suc-mul i w, mul-le-mul_right w h)
-
-    pub lifting_more : i < n → (y : ℕ) → y ≡ (bits_at big w s from + up) % range w → Lifting (set a i y) (from + w) (i + 1)
+  module _ {a : List ℕ} {i : ℕ} (l : Lifting a i) where
+    pub lifting_more : i < n → (y : ℕ) → y ≡ (bits_at big w s (at + w * i) + up) % range w → Lifting (set a i y) (i + 1)
     lifting_more h y q =
-        let e : get_or numbers i y ≡ (bits_at big w s from + up) % range w = lifts_at big w up n (drop at s) i y h ∙ rw (drop-drop (i * w) at s, sym l.place) in
-        record {
-          run = run_more in_list numbers a₀ 0 l.run y (omega (arith, length_lifts big w up n (drop at s))) (q ∙ sym e) (set a i y) refl (i + 1) refl;
-          place = omega (arith, l.place, suc-mul i w);
-        }
+        let p : at + i * w ≡ at + w * i = omega (arith, mul_comm i w) in
+        let e : get_or numbers i y ≡ (bits_at big w s (at + w * i) + up) % range w = lifts_at big w up n (drop at s) i y h ∙ rw (drop-drop (i * w) at s, p) in
+        run_more in_list numbers a₀ 0 l y (omega (arith, length_lifts big w up n (drop at s))) (q ∙ sym e) (set a i y) refl (i + 1) refl
 
     pub lifting_done : n ≤ i → length a₀ ≡ n → a ≡ numbers
     lifting_done h r =
         let e : length numbers ≡ n = length_lifts big w up n (drop at s) in
-        run_done in_list numbers a₀ 0 l.run (omega (arith, e))
+        run_done in_list numbers a₀ 0 l (omega (arith, e))
         ∙ sets_over numbers a₀ (omega (arith, e, r))
         ∙ rw (drop_of_length-le a₀ {i = length numbers} (omega (arith, e, r)), append-nil)
 

@@ -1,25 +1,24 @@
 -- Laws of raw samples, each stated once, over the width.
 -- Assumes nothing.
 use Rattle.std.specs.Prelude.{if◌then◌else◌}
-use Rattle.std.proofs.Common.{◌≡◌, ℕ, zero, suc, ◌+◌, ◌-◌, ◌*◌, ◌/◌, ◌%◌, ◌^◌, ◌<◌, ◌≤◌, min, Bool, true, false, ◌&&◌, eqb, ltb, leb, List, [], ◌∷◌, reverse, length, get_or, take, drop, ℤ, pos, ◌-ℤ◌, sym, refl, ap, ◌∙◌, mod-lt, mod-eq_of_lt, suc-mul, add-one, mul-le-mul_right, arith, lit≤, length-drop, get_or-drop, drop-drop, to_z-of_z, w64, SFits, to_z, of_z, ltb-false, ltb-true, le-ltb, lt-ltb, eq-eqb, ne_eqb, eqb-true, le-leb, leb-false, leb-true}
+use Rattle.std.proofs.Common.{◌≡◌, ℕ, zero, suc, ◌+◌, ◌-◌, ◌*◌, ◌/◌, ◌%◌, ◌^◌, ◌<◌, ◌≤◌, min, Bool, true, false, ◌&&◌, eqb, ltb, leb, List, [], ◌∷◌, reverse, length, get_or, take, drop, ℤ, pos, ◌-ℤ◌, sym, refl, ap, ◌∙◌, mod-eq_of_lt, suc-mul, add-one, mul-le-mul_right, arith, lit≤, length-drop, get_or-drop, drop-drop, w64, ltb-false, ltb-true, le-ltb, lt-ltb, eq-eqb, ne_eqb, eqb-true, le-leb, leb-false, leb-true}
+use Rattle.std.specs.Int.{w16, w32, byte_at, bytes_low_first, from_be_bytes, swap_bytes}
 use native.Mathlib.Nat.{add-mod_right}
-use mathlib.Core.List.{reverse-append}
+use Rattle.lent_numbers.proofs.Arrays.{le_bytes}
 use lib.IntN.{sub_ℕ}
-use lib.ListN.{length-reverse}
 use lib.Seq.{sets, length-sets}
 use borrow.Author.Tests.{eqb-false}
-use mir.Facts.{to_z_pos}
 use Rattle.format.specs.Bytes.{over}
 use Rattle.format.specs.Descriptors.{NumberKind, signed, unsigned}
 use Rattle.format.specs.Limits.{max_sample}
 use Rattle.format.specs.Refusals.{bad_sample}
 use Rattle.format.specs.Samples.{Decoded, raw_samples, then_samples, with_sample, stopped, sample_value, value_of_bits, in_type, from_bytes, to_bytes, ordered, to_signed}
-use Rattle.format.proofs.Samples.{AllBytes, all_bytes, length_to_bytes, to_from_bytes, from_bytes_below, ordered_bytes, length_ordered}
+use Rattle.format.proofs.Samples.{AllBytes, all_bytes, to_from_bytes, from_bytes_below, ordered_bytes, length_ordered}
 pub use Rattle.lent_numbers.proofs.Halves.{from_append, load_one, sample_is}
 use Rattle.format.proofs.Stores.{sets_then}
 use Rattle.data_raw.proofs.BlockLaws.{Storing, place_more, place_zero}
 pub use Rattle.lent_numbers.proofs.Stores.{sets_over}
-use Rattle.lent_numbers.proofs.Halves.{to_bytes_halves, length_part, halves_less}
+use Rattle.lent_numbers.proofs.Halves.{length_part}
 use Rattle.format.proofs.Boundary.{bytes_take, bytes_drop}
 use Rattle.lent_numbers.proofs.WidthLaws.{by_width}
 use Rattle.data_raw.specs.Bits.{Bits, turned, folded, bits_at, sample_at}
@@ -33,28 +32,36 @@ sample_of_lem s at w h sign big p f = rw (sample_is s at w h (kind_by sign) (end
 
 -- ---- the bytes in the other order
 
-pub turned_2 : (x : ℕ) → x < 256 ^ 2 → turned 2 x ≡ x / 256 + 256 * (x % 256)
-unfolding turned from_bytes to_bytes
-turned_2 x h = omega arith
+module _ (a b c d e f g h : ℕ) where
+  be_2 : from_be_bytes w16 (a ∷ b ∷ []) ≡ from_bytes (reverse (a ∷ b ∷ []))
+  unfolding from_bytes
+  be_2 = omega arith
+
+  be_4 : from_be_bytes w32 (a ∷ b ∷ c ∷ d ∷ []) ≡ from_bytes (reverse (a ∷ b ∷ c ∷ d ∷ []))
+  unfolding from_bytes
+  be_4 = omega arith
+
+  be_8 : from_be_bytes w64 (a ∷ b ∷ c ∷ d ∷ e ∷ f ∷ g ∷ h ∷ []) ≡ from_bytes (reverse (a ∷ b ∷ c ∷ d ∷ e ∷ f ∷ g ∷ h ∷ []))
+  unfolding from_bytes
+  be_8 = omega arith
+
+turned_is : (n x : ℕ) → from_bytes (reverse (bytes_low_first 0 n x)) ≡ turned n x
+unfolding turned
+turned_is n x = ap (λ (l : List ℕ). from_bytes (reverse l)) (le_bytes n x)
+
+pub swapped_2 : (x : ℕ) → swap_bytes w16 x ≡ turned 2 x
+swapped_2 x = be_2 (byte_at 0 x) (byte_at 1 x) 0 0 0 0 0 0 ∙ turned_is 2 x
+
+pub swapped_4 : (x : ℕ) → swap_bytes w32 x ≡ turned 4 x
+swapped_4 x = be_4 (byte_at 0 x) (byte_at 1 x) (byte_at 2 x) (byte_at 3 x) 0 0 0 0 ∙ turned_is 4 x
+
+pub swapped_8 : (x : ℕ) → swap_bytes w64 x ≡ turned 8 x
+swapped_8 x = be_8 (byte_at 0 x) (byte_at 1 x) (byte_at 2 x) (byte_at 3 x) (byte_at 4 x) (byte_at 5 x) (byte_at 6 x) (byte_at 7 x) ∙ turned_is 8 x
 
 -- one byte
 pub turned_1 : (w x : ℕ) → w ≡ 1 → x < 256 ^ w → Bits w (turned w x) x
 unfolding turned from_bytes to_bytes
 turned_1 w x e h = let l : x < 256 ^ 1 = rw e at h in rw e (record { is = omega arith; less = l })
-
--- 2 * w bytes by two halves
-turned_halves : (w x : ℕ) → turned (w + w) x ≡ turned w (x / 256 ^ w) + 256 ^ w * turned w (x % 256 ^ w)
-unfolding turned
-turned_halves w x =
-    let p = 256 ^ w in
-    let r = to_bytes w (x % p) in
-    let q = to_bytes w (x / p) in
-    let l : length (reverse q) ≡ w = length-reverse q ∙ length_to_bytes w (x / p) in
-    ap (λ (s : List ℕ). from_bytes (reverse s)) (to_bytes_halves w x) ∙ ap from_bytes (reverse-append r q) ∙ from_append (reverse q) (reverse r)
-    ∙ ap (λ (n : ℕ). from_bytes (reverse q) + 256 ^ n * from_bytes (reverse r)) l
-
-pub turn_halves : (w x : ℕ) {a b : ℕ} → Bits w (turned w (x / 256 ^ w)) a → Bits w (turned w (x % 256 ^ w)) b → Bits (w + w) (turned (w + w) x) (a + 256 ^ w * b)
-turn_halves w x f g = record { is = rw (f.is, g.is) (sym (turned_halves w x)); less = halves_less w f.less g.less }
 
 -- ---- the number at a place
 
@@ -98,31 +105,12 @@ module _ (x h : ℕ) (b : x < 2 * h) where
           let q : h - suc (x - h) ≡ 2 * h - 1 - x = omega arith in
           rw (shift_high l, lt-ltb (x - h) h (omega arith), q, e)
 
-  folded_fits : h ≤ 2147483648 → SFits w64 (folded h x)
-  folded_fits l = go (ltb x h) refl
-    where
-      go : (t : Bool) → ltb x h ≡ t → SFits w64 (folded h x)
-      go true e = rw e (record { sfits = omega (arith, ltb-true x h e) })
-      go false e = rw e (record { sfits = omega (arith, ltb-false x h e) })
-
 pub minus : (m h : ℕ) → pos m -ℤ pos h ≡ sub_ℕ m h
 minus m zero =
     let o : m - 0 ≡ m = omega arith in
     let p : m + 0 ≡ m = omega arith in
     rw (le-ltb m 0 (omega arith), o, p)
 minus m (suc h) = refl
-
-module _ (x h : ℕ) (b : x < 2 * h) (l : h ≤ 2147483648) where
-  fold_value : to_z w64 ((x + h) % (2 * h)) -ℤ to_z w64 h ≡ folded h x
-  fold_value =
-      let m : (x + h) % (2 * h) < 2 * h = mod-lt (x + h) (omega arith) in
-      rw (to_z_pos w64 {n = (x + h) % (2 * h)} (omega arith), to_z_pos w64 {n = h} (omega arith)) (minus _ h ∙ shifted x h b)
-
-  pub fold_fits : SFits w64 (to_z w64 ((x + h) % (2 * h)) -ℤ to_z w64 h)
-  fold_fits = rw fold_value (folded_fits x h b l)
-
-  pub fold_kept : to_z w64 (of_z w64 (to_z w64 ((x + h) % (2 * h)) -ℤ to_z w64 h)) ≡ folded h x
-  fold_kept = to_z-of_z fold_fits ∙ fold_value
 
 -- ---- the types
 

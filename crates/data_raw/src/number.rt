@@ -4,66 +4,32 @@ ghost use Rattle.format.specs.Samples.{from_bytes, in_type, value_of_bits, to_si
 ghost use Rattle.data_raw.specs.Bits.{Bits, turned, bits_at, sample_at, folded, range, lifts, low};
 ghost use Rattle.lent_numbers.specs.Widths.{Width, kind_by};
 
-fn wide(b: u8) -> u64
-    ensures { (result ≡ b) × (result < 256) }
-{
-    b as u64
-}
-
 // The number at a place, the least byte first.
 fn load(s: &[u8], at: usize, w: usize) -> u64
     requires width { Width w }
     requires bytes_there { at + w ≤ length s.now }
     ensures { Bits w (from_bytes (take w (drop at s.now))) result }
 {
-    if w == 8 {
-        return lent_numbers::load8(s, at);
+    match w {
+        8 => lent_numbers::load::<8>(s, at),
+        4 => lent_numbers::load::<4>(s, at),
+        2 => lent_numbers::load::<2>(s, at),
+        _ => lent_numbers::load::<1>(s, at),
     }
-    if w == 4 {
-        return lent_numbers::load4(s, at);
-    }
-    if w == 2 {
-        return lent_numbers::load2(s, at);
-    }
-    wide(s[at])
 }
 
-// The bytes in the other order. The compiler makes one instruction of each.
-fn turn2(x: u64) -> u64
-    requires { x < 256 ^ 2 }
-    ensures { Bits 2 (turned 2 x) result }
-{
-    x / 256 + 256 * (x % 256)
-}
-
-fn turn4(x: u64) -> u64
-    requires { x < 256 ^ 4 }
-    ensures { Bits 4 (turned 4 x) result }
-{
-    turn2(x / 65536) + 65536 * turn2(x % 65536)
-}
-
-fn turn8(x: u64) -> u64
-    ensures { Bits 8 (turned 8 x) result }
-{
-    turn4(x / 4294967296) + 4294967296 * turn4(x % 4294967296)
-}
-
+// Its bytes in the other order.
 fn turn(x: u64, w: usize) -> u64
     requires width { Width w }
     requires x_of_w_bytes { x < 256 ^ w }
     ensures { Bits w (turned w x) result }
 {
-    if w == 8 {
-        return turn8(x);
+    match w {
+        8 => x.swap_bytes(),
+        4 => (x as u32).swap_bytes() as u64,
+        2 => (x as u16).swap_bytes() as u64,
+        _ => x,
     }
-    if w == 4 {
-        return turn4(x);
-    }
-    if w == 2 {
-        return turn2(x);
-    }
-    x
 }
 
 // The number at a place, by its endian.
@@ -76,30 +42,18 @@ pub(crate) fn word(s: &[u8], at: usize, w: usize, big: bool) -> u64
     if big { turn(x, w) } else { x }
 }
 
-// Two's complement below 8 bytes. With a fixed half the compiler makes one instruction of it.
-fn fold(x: u64, half: u64) -> i64
-    requires x_in_range { x < 2 * half }
-    requires half_up_to_2_31 { half ≤ 2147483648 }
-    ensures { result ≡ folded half x }
-{
-    (((x + half) % (2 * half)) as i64) - (half as i64)
-}
-
+// Two's complement.
 fn signed_value(x: u64, w: usize) -> i64
     requires width { Width w }
     requires x_of_w_bytes { x < 256 ^ w }
     ensures { result ≡ to_signed w x }
 {
-    if w == 8 {
-        return lent_numbers::signed_of(x);
+    match w {
+        8 => x.cast_signed(),
+        4 => (x as u32).cast_signed() as i64,
+        2 => (x as u16).cast_signed() as i64,
+        _ => (x as u8).cast_signed() as i64,
     }
-    if w == 4 {
-        return fold(x, 2147483648);
-    }
-    if w == 2 {
-        return fold(x, 32768);
-    }
-    fold(x, 128)
 }
 
 // The value of a sample's bits, where the type has it.
@@ -149,12 +103,8 @@ pub(crate) fn lift(s: &[u8], at: usize, w: usize, up: u16, big: bool) -> [u16; 6
     ensures { result ≡ lifts big w up 64 (drop at s.now) }
 {
     let mut a = [0u16; 64];
-    let mut from = at;
-    let mut i: usize = 0;
-    while i < 64 {
-        a[i] = lifted(word(s, from, w, big), w, up);
-        from += w;
-        i += 1;
+    for i in 0..64 {
+        a[i] = lifted(word(s, at + w * i, w, big), w, up);
     }
     a
 }
@@ -168,10 +118,4 @@ pub(crate) fn lowered(y: u16, signed: bool, up: u16) -> i64
     } else {
         std::num::wrapping_add_u16(y, up) as i64
     }
-}
-
-pub(crate) fn least(a: usize, b: usize) -> usize
-    ensures { result ≡ min a b }
-{
-    if a < b { a } else { b }
 }

@@ -1,3 +1,4 @@
+pub mod Arrays
 pub mod Halves
 pub mod Signs
 pub mod Stores

@@ -8,86 +8,53 @@ ghost use Rattle.format.specs.Descriptors.{little};
 ghost use Rattle.format.specs.Samples.{from_bytes, to_bytes, to_signed, from_signed, value_bytes};
 ghost use Rattle.format.specs.Boundary.{numbers_of};
 ghost use Rattle.lent_numbers.specs.Bits.{Bits};
-ghost use Rattle.lent_numbers.specs.Widths.{is_width};
+ghost use Rattle.lent_numbers.specs.Widths.{Width, is_width};
 
 pub mod cell;
 
-fn wide(b: u8) -> u64
-    ensures { (result ≡ b) × (result < 256) }
+// W bytes at a place.
+fn chunk<const W: usize>(s: &[u8], at: usize) -> [u8; W]
+    requires { at + W ≤ length s.now }
+    ensures { result ≡ take W (drop at s.now) }
 {
-    b as u64
+    s[at..at + W].try_into().unwrap()
 }
 
-// Numbers of 2, 4 and 8 bytes at a place. The compiler makes one load of each.
-pub fn load2(s: &[u8], at: usize) -> u64
-    requires { at + 2 ≤ length s.now }
-    ensures { Bits 2 (from_bytes (take 2 (drop at s.now))) result }
+// The number of W bytes at a place. The compiler makes one load of it.
+pub fn load<const W: usize>(s: &[u8], at: usize) -> u64
+    requires width { Width W }
+    requires bytes_there { at + W ≤ length s.now }
+    ensures { Bits W (from_bytes (take W (drop at s.now))) result }
 {
-    let a = wide(s[at]);
-    let b = wide(s[at + 1]);
-    a + 256 * b
+    match W {
+        8 => u64::from_le_bytes(chunk(s, at)),
+        4 => u32::from_le_bytes(chunk(s, at)) as u64,
+        2 => u16::from_le_bytes(chunk(s, at)) as u64,
+        _ => s[at] as u64,
+    }
 }
 
-pub fn load4(s: &[u8], at: usize) -> u64
-    requires { at + 4 ≤ length s.now }
-    ensures { Bits 4 (from_bytes (take 4 (drop at s.now))) result }
+// The low W bytes of a number, stored at a place. The compiler makes one store of it.
+pub fn store<const W: usize>(d: &mut [u8], at: usize, x: u64)
+    requires width { W ≤ 8 }
+    requires room { at + W ≤ length d.old }
+    ensures { d.new ≡ sets d.old at (to_bytes W x) }
 {
-    load2(s, at) + 65536 * load2(s, at + 2)
-}
-
-pub fn load8(s: &[u8], at: usize) -> u64
-    requires { at + 8 ≤ length s.now }
-    ensures { Bits 8 (from_bytes (take 8 (drop at s.now))) result }
-{
-    load4(s, at) + 4294967296 * load4(s, at + 4)
-}
-
-// The low 2, 4 and 8 bytes of a number, stored at a place. The compiler makes one store of each.
-fn store2(d: &mut [u8], at: usize, x: u64)
-    requires { at + 2 ≤ length d.old }
-    ensures { d.new ≡ sets d.old at (to_bytes 2 x) }
-{
-    d[at] = (x % 256) as u8;
-    d[at + 1] = (x / 256 % 256) as u8;
-}
-
-pub fn store4(d: &mut [u8], at: usize, x: u64)
-    requires { at + 4 ≤ length d.old }
-    ensures { d.new ≡ sets d.old at (to_bytes 4 x) }
-{
-    store2(d, at, x % 65536);
-    store2(d, at + 2, x / 65536);
-}
-
-pub fn store8(d: &mut [u8], at: usize, x: u64)
-    requires { at + 8 ≤ length d.old }
-    ensures { d.new ≡ sets d.old at (to_bytes 8 x) }
-{
-    store4(d, at, x % 4294967296);
-    store4(d, at + 4, x / 4294967296);
+    d[at..at + W].copy_from_slice(&x.to_le_bytes()[..W]);
 }
 
 // The sample whose bits are x: two's complement.
 pub fn signed_of(x: u64) -> i64
     ensures { result ≡ to_signed 8 x }
 {
-    if x < 9223372036854775808 {
-        x as i64
-    } else {
-        -1 - ((18446744073709551615 - x) as i64)
-    }
+    x.cast_signed()
 }
 
 // The bits of a sample.
 pub fn bits_of(z: i64) -> u64
     ensures { result ≡ from_signed 8 z }
 {
-    let low = (z & 9223372036854775807) as u64;
-    if z < 0 {
-        low + 9223372036854775808
-    } else {
-        low
-    }
+    z.cast_unsigned()
 }
 
 // Table entry k.
@@ -95,14 +62,14 @@ pub fn entry_at(s: &[u8], k: usize) -> u32
     requires { 4 * k + 4 ≤ length s.now }
     ensures { result ≡ from_bytes (take 4 (drop (4 * k) s.now)) }
 {
-    load4(s, 4 * k) as u32
+    load::<4>(s, 4 * k) as u32
 }
 
 pub fn put_entry(d: &mut [u8], k: usize, x: u32)
     requires { 4 * k + 4 ≤ length d.old }
     ensures { d.new ≡ sets d.old (4 * k) (to_bytes 4 x) }
 {
-    store4(d, 4 * k, x as u64)
+    store::<4>(d, 4 * k, x as u64)
 }
 
 // Size or coordinate k.
@@ -110,7 +77,7 @@ pub fn word_at(s: &[u8], k: usize) -> u64
     requires { 8 * k + 8 ≤ length s.now }
     ensures { result ≡ from_bytes (take 8 (drop (8 * k) s.now)) }
 {
-    load8(s, 8 * k)
+    load::<8>(s, 8 * k)
 }
 
 // Sample k.
@@ -118,24 +85,16 @@ pub fn put_sample(d: &mut [u8], k: usize, z: i64)
     requires { 8 * k + 8 ≤ length d.old }
     ensures { d.new ≡ sets d.old (8 * k) (value_bytes 8 little z) }
 {
-    store8(d, 8 * k, bits_of(z))
-}
-
-fn least(a: usize, b: usize) -> usize
-    ensures { result ≡ min a b }
-{
-    if a < b { a } else { b }
+    store::<8>(d, 8 * k, bits_of(z))
 }
 
 // The sizes or coordinates of lent bytes to the front of t: as many as are there and have room.
 pub fn numbers(s: &[u8], t: &mut [u64]) -> usize
     ensures { (result ≡ min (length s.now / 8) (length t.old)) × (t.new ≡ over (take result (numbers_of 8 s.now)) t.old) }
 {
-    let n = least(s.len() / 8, t.len());
-    let mut i: usize = 0;
-    while i < n {
+    let n = (s.len() / 8).min(t.len());
+    for i in 0..n {
         t[i] = word_at(s, i);
-        i += 1;
     }
     n
 }
@@ -144,14 +103,5 @@ pub fn numbers(s: &[u8], t: &mut [u64]) -> usize
 pub fn is_width(w: usize) -> bool
     ensures { result ≡ is_width w }
 {
-    if w == 1 {
-        return true;
-    }
-    if w == 2 {
-        return true;
-    }
-    if w == 4 {
-        return true;
-    }
-    w == 8
+    matches!(w, 1 | 2 | 4 | 8)
 }

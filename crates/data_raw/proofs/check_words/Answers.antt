@@ -1,5 +1,5 @@
 -- `check_words` meets its contract. The invariant: what the samples from k on come to is what all come to, unless one before them is counted.
-use Rattle.std.proofs.Common.{◌*◌, true, false, leb, sym, arith, eq-eqb, ne_eqb}
+use Rattle.std.proofs.Common.{◌*◌, true, leb, sym, arith, eq-eqb}
 use Rattle.format.specs.Limits.{max_sample}
 use Rattle.format.specs.Descriptors.{unsigned}
 use Rattle.lent_numbers.specs.Widths.{endian_by}

@@ -23,5 +23,5 @@ loop-i-preserved c =
 
 pub returns : goal.returns
 returns c =
-    let e : c.loop-i.i ≡ c.least-n.result = omega arith in
+    let e : c.loop-i.i ≡ c.min-n.result = omega arith in
     (search rules, c.loop-i.invariant.2 ∙ rw e)

@@ -14,6 +14,6 @@ unfolding value_bytes
 returns c =
     let a = c.args in
     let d = a.d.now in
-    c.store8.ensures
+    c.store.ensures
     ∙ ap (λ (x : ℕ). sets d (8 * a.k) (to_bytes 8 x)) c.bits_of.ensures
     ∙ ap (λ (z : ℤ). sets d (8 * a.k) (value_bytes 8 little z)) (to_z-of_z {w = w64} c.ranges.z)

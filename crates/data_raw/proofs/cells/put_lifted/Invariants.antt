@@ -1,5 +1,5 @@
 -- `put_lifted` meets its contract: the samples before j are stored.
-use Rattle.std.proofs.Common.{◌+◌, ◌-◌}
+use Rattle.std.proofs.Common.{◌+◌}
 use Rattle.data_raw.specs.Bits.{lows}
 use Rattle.data_raw.proofs.BlockLaws.{storing, Run}
 use Rattle.data_raw.proofs.cells.put_lifted.Given as goal

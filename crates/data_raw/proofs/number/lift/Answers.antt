@@ -7,22 +7,20 @@ use Rattle.data_raw.proofs.number.lift.Goals as goal
 pub loop-i-init : goal.loop-i-init
 loop-i-init c = let a = c.args in lifting_none a.big a.w a.up 64 a.s.now a.at _
 
+pub overflow_mul-w : goal.overflow_mul-w
+overflow_mul-w c = let a = c.args in omega (arith, lifting_room a.w 64 a.s.now a.at c.loop-i-test.true c.requires.bytes_there)
+
+pub overflow_add-at : goal.overflow_add-at
+overflow_add-at c = let a = c.args in omega (arith, lifting_room a.w 64 a.s.now a.at c.loop-i-test.true c.requires.bytes_there)
+
 pub word-requires : goal.word-requires
 word-requires c =
     let a = c.args in
-    record { width = c.requires.width; bytes_there = lifting_room a.big a.w a.up 64 a.s.now a.at _ c.loop-i.invariant c.loop-i-test.true c.requires.bytes_there }
+    record { width = c.requires.width; bytes_there = lifting_room a.w 64 a.s.now a.at c.loop-i-test.true c.requires.bytes_there }
 
 pub lifted-requires : goal.lifted-requires
 lifted-requires c =
     (narrow_below c.args.w _ c.requires.width c.requires.narrow_shift.0 c.word.ensures.less, c.requires.narrow_shift.1)
-
-pub bounds-a-i : goal.bounds-a-i
-bounds-a-i c = omega (arith, c.loop-i.invariant.run.long)
-
-pub overflow_add-from : goal.overflow_add-from
-overflow_add-from c =
-    let a = c.args in
-    omega (arith, lifting_room a.big a.w a.up 64 a.s.now a.at _ c.loop-i.invariant c.loop-i-test.true c.requires.bytes_there)
 
 pub loop-i-preserved : goal.loop-i-preserved
 loop-i-preserved c =

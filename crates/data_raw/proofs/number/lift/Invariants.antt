@@ -1,10 +1,6 @@
 -- `lift` meets its contract: the numbers before i are stored.
-use Rattle.std.proofs.Common.{◌-◌}
 use Rattle.data_raw.proofs.NarrowLaws.{Lifting}
 use Rattle.data_raw.proofs.number.lift.Given as goal
 
 abbrev pub invariant-loop-i : goal.invariant-loop-i
-invariant-loop-i l = Lifting l.big l.w l.up 64 l.s l.at l.initial.a l.a l.from l.i
-
-abbrev pub decreases-loop-i : goal.decreases-loop-i
-decreases-loop-i l = 64 - l.i
+invariant-loop-i l = Lifting l.big l.w l.up 64 l.s l.at l.initial.a l.a l.i
