@@ -40,7 +40,7 @@ fn copy(s: &[u8], at: usize, d: &mut [u8], o: usize)
 {
     let mut j: usize = 0;
     while j < 4 {
-        lent_numbers::store8(d, o + 8 * j, lent_numbers::load8(s, at + 8 * j));
+        lent_numbers::store::<8>(d, o + 8 * j, lent_numbers::load::<8>(s, at + 8 * j));
         j += 1;
     }
 }
