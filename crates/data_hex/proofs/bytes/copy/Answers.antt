@@ -15,7 +15,7 @@ pub loop-j-preserved : goal.loop-j-preserved
 loop-j-preserved c =
     let i = c.loop-j in
     let a = c.args in
-    (search rules, (search rules, copy_more a.s.now (λ n. search rules) a.at c.requires.bytes_there c.requires.run a.d.now a.o i.d i.j i.invariant.1.1 (omega arith) (omega arith) _ c.load8.ensures.is _ c.store8.ensures))
+    (search rules, (search rules, copy_more a.s.now (λ n. search rules) a.at c.requires.bytes_there c.requires.run a.d.now a.o i.d i.j i.invariant.1.1 (omega arith) (omega arith) _ c.load.ensures.is _ c.store.ensures))
 
 pub returns : goal.returns
 returns c =
