@@ -26,10 +26,6 @@ range_1 w n = rw (ne_eqb w 2 n)
 pub narrow_below : (w x : ℕ) → Width w → w ≤ 2 → x < 256 ^ w → x < range w
 narrow_below w x d l h = by_width w d (λ e. rw e (rw e at h)) (λ e. rw e (rw e at h)) (λ e. absurd (omega (arith, e))) (λ e. absurd (omega (arith, e)))
 
--- the width that is left
-pub width_2 : (w : ℕ) → Width w → (w ≡ 1 → ⊥) → (w ≡ 8 → ⊥) → (w ≡ 4 → ⊥) → w ≡ 2
-width_2 w d n1 n8 n4 = by_width w d (λ e. absurd (n1 e)) (λ e. e) (λ e. absurd (n4 e)) (λ e. absurd (n8 e))
-
 -- ---- the shifts of the types
 
 pub int8 : Shifts 1 true 128

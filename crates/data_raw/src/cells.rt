@@ -21,31 +21,6 @@ fn put<C: Cell>(s: &[u8], n: usize, w: usize, signed: bool, big: bool, dst: &mut
     }
 }
 
-// The same, two samples a turn: of one of 4 or 8 bytes with its bytes turned the compiler would make vector code that is slower.
-fn put_pairs<C: Cell>(s: &[u8], n: usize, w: usize, signed: bool, big: bool, dst: &mut [C])
-    requires width { Width w }
-    requires bytes_there { n * w ≤ length s.now }
-    requires room { C.place n ≤ length dst.old }
-    ensures { (raw_samples (kind_by signed) w (endian_by big) n s.now).number ≡ 0 → dst.new ≡ over (C.store (raw_samples (kind_by signed) w (endian_by big) n s.now).seen) dst.old }
-{
-    for pair in 0..n / 2 {
-        let k = 2 * pair;
-        C::put(dst, k, number::sample_at(s, k * w, w, signed, big));
-        C::put(
-            dst,
-            k + 1,
-            number::sample_at(s, (k + 1) * w, w, signed, big),
-        );
-    }
-    if n % 2 == 1 {
-        C::put(
-            dst,
-            n - 1,
-            number::sample_at(s, (n - 1) * w, w, signed, big),
-        );
-    }
-}
-
 // The samples of 64 lifted numbers, from place k on.
 fn put_lifted<C: Cell>(a: [u16; 64], signed: bool, up: u16, dst: &mut [C], k: usize)
     requires { C.place (k + 64) ≤ length dst.old }
@@ -58,18 +33,9 @@ fn put_lifted<C: Cell>(a: [u16; 64], signed: bool, up: u16, dst: &mut [C], k: us
 }
 
 // Samples of 1 or 2 bytes, by blocks of 64. The last block ends with the last sample and may overlap the one before it, so that no samples are left over.
-fn put_narrow<C: Cell>(
-    s: &[u8],
-    n: usize,
-    w: usize,
-    signed: bool,
-    big: bool,
-    up: u16,
-    dst: &mut [C],
-)
+fn put_narrow<C: Cell>(s: &[u8], n: usize, w: usize, signed: bool, big: bool, dst: &mut [C])
     requires width { Width w }
     requires narrow { w ≤ 2 }
-    requires shift { Shifts w signed up }
     requires bytes_there { n * w ≤ length s.now }
     requires room { C.place n ≤ length dst.old }
     ensures { (raw_samples (kind_by signed) w (endian_by big) n s.now).number ≡ 0 → dst.new ≡ over (C.store (raw_samples (kind_by signed) w (endian_by big) n s.now).seen) dst.old }
@@ -77,8 +43,10 @@ fn put_narrow<C: Cell>(
     if n < 64 {
         return put(s, n, w, signed, big, dst);
     }
+    let up = number::shift(w, signed, big);
     let last = n - 64;
     let mut k: usize = 0;
+    // a step of up to 64 samples
     loop {
         put_lifted(number::lift(s, k * w, w, up, big), signed, up, dst, k);
         if k == last {
@@ -88,81 +56,48 @@ fn put_narrow<C: Cell>(
     }
 }
 
-// The same by the sign, with `up` for each. The callers give literals for width, endian and `up`: the compiler makes a loop of its own of each.
-fn put_by_sign<C: Cell>(
-    s: &[u8],
-    n: usize,
-    w: usize,
-    signed: bool,
-    big: bool,
-    half: u16,
-    up: u16,
-    dst: &mut [C],
-)
+// The same by the sign. The callers give literals for width and endian, and so does this one for the sign: the compiler makes a loop of its own of each.
+fn put_by_sign<C: Cell>(s: &[u8], n: usize, w: usize, signed: bool, big: bool, dst: &mut [C])
     requires width { Width w }
     requires narrow { w ≤ 2 }
-    requires signed_shift { Shifts w true half }
-    requires unsigned_shift { Shifts w false up }
     requires bytes_there { n * w ≤ length s.now }
     requires room { C.place n ≤ length dst.old }
     ensures { (raw_samples (kind_by signed) w (endian_by big) n s.now).number ≡ 0 → dst.new ≡ over (C.store (raw_samples (kind_by signed) w (endian_by big) n s.now).seen) dst.old }
 {
     if signed {
-        put_narrow(s, n, w, true, big, half, dst)
+        put_narrow(s, n, w, true, big, dst)
     } else {
-        put_narrow(s, n, w, false, big, up, dst)
+        put_narrow(s, n, w, false, big, dst)
     }
 }
 
-// Big-endian samples of more than a byte. A call for each width: the compiler makes a loop of its own of each.
-fn put_big<C: Cell>(s: &[u8], n: usize, w: usize, signed: bool, dst: &mut [C])
+// Samples of more than a byte, with a literal for each width.
+fn put_wide<C: Cell>(s: &[u8], n: usize, w: usize, signed: bool, big: bool, dst: &mut [C])
     requires width { Width w }
     requires not_one_byte { w ≢ 1 }
     requires bytes_there { n * w ≤ length s.now }
     requires room { C.place n ≤ length dst.old }
-    ensures { (raw_samples (kind_by signed) w (endian_by true) n s.now).number ≡ 0 → dst.new ≡ over (C.store (raw_samples (kind_by signed) w (endian_by true) n s.now).seen) dst.old }
+    ensures { (raw_samples (kind_by signed) w (endian_by big) n s.now).number ≡ 0 → dst.new ≡ over (C.store (raw_samples (kind_by signed) w (endian_by big) n s.now).seen) dst.old }
 {
     match w {
-        8 => put_pairs(s, n, 8, signed, true, dst),
-        4 => put_pairs(s, n, 4, signed, true, dst),
-        _ => put_by_sign(s, n, 2, signed, true, 32768, 0, dst),
+        8 => put(s, n, 8, signed, big, dst),
+        4 => put(s, n, 4, signed, big, dst),
+        _ => put_by_sign(s, n, 2, signed, big, dst),
     }
 }
 
-// Little-endian samples, in the same way.
-fn put_little<C: Cell>(s: &[u8], n: usize, w: usize, signed: bool, dst: &mut [C])
-    requires width { Width w }
-    requires not_one_byte { w ≢ 1 }
-    requires bytes_there { n * w ≤ length s.now }
-    requires room { C.place n ≤ length dst.old }
-    ensures { (raw_samples (kind_by signed) w (endian_by false) n s.now).number ≡ 0 → dst.new ≡ over (C.store (raw_samples (kind_by signed) w (endian_by false) n s.now).seen) dst.old }
-{
-    match w {
-        8 => put(s, n, 8, signed, false, dst),
-        4 => put(s, n, 4, signed, false, dst),
-        _ => put_by_sign(s, n, 2, signed, false, 32768, 32768, dst),
-    }
-}
-
-// By the width and the endian.
-pub(crate) fn put_by_endian<C: Cell>(
-    s: &[u8],
-    n: usize,
-    w: usize,
-    signed: bool,
-    big: bool,
-    dst: &mut [C],
-)
+// The samples to the front of dst, with a literal for each endian; a byte has none.
+pub(crate) fn put_all<C: Cell>(s: &[u8], n: usize, w: usize, signed: bool, big: bool, dst: &mut [C])
     requires width { Width w }
     requires bytes_there { n * w ≤ length s.now }
     requires room { C.place n ≤ length dst.old }
     ensures { (raw_samples (kind_by signed) w (endian_by big) n s.now).number ≡ 0 → dst.new ≡ over (C.store (raw_samples (kind_by signed) w (endian_by big) n s.now).seen) dst.old }
 {
     if w == 1 {
-        put_by_sign(s, n, 1, signed, big, 128, 0, dst)
+        put_by_sign(s, n, 1, signed, big, dst)
     } else if big {
-        put_big(s, n, w, signed, dst)
+        put_wide(s, n, w, signed, true, dst)
     } else {
-        put_little(s, n, w, signed, dst)
+        put_wide(s, n, w, signed, false, dst)
     }
 }

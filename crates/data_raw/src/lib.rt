@@ -58,5 +58,5 @@ pub fn fill<C: Cell>(s: &[u8], n: usize, w: usize, signed: bool, big: bool, dst:
     if C::room(dst) < n || !lent_numbers::is_width(w) || s.len() / w < n {
         return;
     }
-    cells::put_by_endian(s, n, w, signed, big, dst);
+    cells::put_all(s, n, w, signed, big, dst);
 }

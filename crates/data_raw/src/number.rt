@@ -1,7 +1,7 @@
 // The number that is at a place in raw data, and the sample that it is.
 ghost use Rattle.std.specs.Prelude.{◌≡◌, ◌+◌, ◌*◌, ◌%◌, ◌^◌, ◌<◌, ◌≤◌, min, true, length, take, drop};
 ghost use Rattle.format.specs.Samples.{from_bytes, in_type, value_of_bits, to_signed};
-ghost use Rattle.data_raw.specs.Bits.{Bits, turned, bits_at, sample_at, folded, range, lifts, low};
+ghost use Rattle.data_raw.specs.Bits.{Bits, turned, bits_at, sample_at, folded, range, lifts, low, Shifts};
 ghost use Rattle.lent_numbers.specs.Widths.{Width, kind_by};
 
 // The number at a place, the least byte first.
@@ -82,6 +82,18 @@ pub(crate) fn sample_at(s: &[u8], at: usize, w: usize, signed: bool, big: bool) 
 // Samples of 1 or 2 bytes go by way of 64 numbers of 16 bits: the compiler then unpacks eight of them at once. Each is lifted, `up` added modulo the range of its type, and
 // then lowered: of a signed type `up` is taken off, of an unsigned one it is added again, modulo 65536. Little-endian uint16 needs no `up`, but without one the compiler sees
 // through the copy and takes two samples at once.
+
+// The shift of a type.
+pub(crate) fn shift(w: usize, signed: bool, big: bool) -> u16
+    requires width { Width w }
+    requires narrow { w ≤ 2 }
+    ensures { Shifts w signed result }
+{
+    match w {
+        1 => if signed { 128 } else { 0 },
+        _ => if signed || !big { 32768 } else { 0 },
+    }
+}
 
 // A number, up added, modulo the range.
 fn lifted(x: u64, w: usize, up: u16) -> u16

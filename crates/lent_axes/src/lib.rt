@@ -17,8 +17,8 @@ fn put_pair(d: &mut [u8], at: usize, x: u32, y: u32)
     requires { at + 8 ≤ length d.old }
     ensures { d.new ≡ sets d.old at (to_bytes 4 x ++ to_bytes 4 y) }
 {
-    lent_numbers::store4(d, at, x as u64);
-    lent_numbers::store4(d, at + 4, y as u64);
+    lent_numbers::store::<4>(d, at, x as u64);
+    lent_numbers::store::<4>(d, at + 4, y as u64);
 }
 
 // A record stored at a place.
@@ -26,7 +26,7 @@ fn put_axis(d: &mut [u8], at: usize, a: Axis)
     requires { at + 32 ≤ length d.old }
     ensures { d.new ≡ sets d.old at (axis_bytes a) }
 {
-    lent_numbers::store8(d, at, a.size);
+    lent_numbers::store::<8>(d, at, a.size);
     put_pair(d, at + 8, a.centring, a.kind);
     put_pair(d, at + 16, a.labelplace, a.labellength);
     put_pair(d, at + 24, a.unitplace, a.unitlength);
@@ -37,9 +37,7 @@ pub fn put_axes(d: &mut [u8], records: [Axis; format::AXES], n: usize)
     requires { (n ≤ 16) × (32 * n ≤ length d.old) }
     ensures { d.new ≡ over (axes_bytes (take n records)) d.old }
 {
-    let mut i: usize = 0;
-    while i < n {
+    for i in 0..n {
         put_axis(d, RECORD * i, records[i]);
-        i += 1;
     }
 }

@@ -1,16 +1,12 @@
--- Laws of decimals in lent bytes: of the power's bits, of one decimal by its parts, and of several, one after the other.
+-- Laws of decimals in lent bytes: of one decimal by its parts, and of several, one after the other.
 -- Assumes nothing.
-use Prim.Native.Nat.{ℕ, ◌+◌, ◌*◌, ◌-◌, ◌%◌, ◌≤◌, ◌<◌}
+use Prim.Native.Nat.{ℕ, ◌+◌, ◌*◌, ◌-◌, ◌≤◌, ◌<◌}
 use native.Mathlib.Omega.{arith}
 use mathlib.Core.Path.{◌≡◌, sym, ap, ◌∙◌}
 use mathlib.Core.List.{List, [], ◌∷◌, ◌++◌, append-nil, append_assoc}
-use lib.IntN.{ℤ, pos, negsuc}
+use lib.IntN.{ℤ}
 use lib.ListN.{length, take, drop, get_or, length-append, length-drop}
 use lib.Seq.{sets, drop-drop, drop_at, take-add, take_all, take-take, drop-length, length-take-le}
-use lib.Signed.{mag}
-use mir.Syntax.{w32, w64}
-use mir.Val.{SFits, to_z, of_z}
-use mir.Facts.{to_z-of_z, sfits_widen}
 use Rattle.format.specs.declared.Decimal.{Decimal}
 use Rattle.format.specs.Bytes.{over}
 use Rattle.format.specs.Descriptors.{signed, little}
@@ -21,21 +17,6 @@ use Rattle.format.proofs.Stores.{sets_then, take_more}
 use Rattle.format.proofs.Boundary.{decimals_flat, flat_append, length_decimals, length_lent, lent_at}
 use Rattle.lent_numbers.specs.Bits.{Bits}
 use Rattle.lent_numbers.proofs.Halves.{sample_is}
-
--- ---- the bits of a power
-
-module _ (z : ℤ) (h : SFits w32 z) where
-  -- it fits 64 bits
-  pub power_wide : SFits w64 (to_z w32 (of_z w32 z))
-  power_wide = rw (to_z-of_z h) (sfits_widen tt h)
-
-  -- its bits are the low half of those that it has in 64 bits
-  pub power_bits : {x : ℕ} → x ≡ from_signed 8 (to_z w64 (of_z w64 (to_z w32 (of_z w32 z)))) → x % 4294967296 ≡ from_signed 4 z
-  power_bits e = go z h.sfits (e ∙ ap (from_signed 8) (to_z-of_z power_wide ∙ to_z-of_z h))
-    where
-      go : (z : ℤ) → mag z < 2147483648 → {x : ℕ} → x ≡ from_signed 8 z → x % 4294967296 ≡ from_signed 4 z
-      go (pos n) b e = omega arith
-      go (negsuc n) b e = omega arith
 
 -- ---- a decimal by its parts
 

@@ -23,18 +23,14 @@ fn power_of(x: u64) -> i32
     requires { x < 4294967296 }
     ensures { result ≡ to_signed 4 x }
 {
-    if x < 2147483648 {
-        x as i32
-    } else {
-        -1 - ((4294967295 - x) as i32)
-    }
+    (x as u32).cast_signed()
 }
 
-// The bits of a power: the low half of what they are in 64 bits.
+// The bits of a power.
 fn bits_of_power(z: i32) -> u64
     ensures { result ≡ from_signed 4 z }
 {
-    lent_numbers::bits_of(z as i64) % 4294967296
+    z.cast_unsigned() as u64
 }
 
 // The decimal at a place.
@@ -42,13 +38,13 @@ pub fn decimal_at(s: &[u8], at: usize) -> Decimal
     requires { at + 16 ≤ length s.now }
     ensures { result ≡ decimal_of (take 16 (drop at s.now)) }
 {
-    let number = lent_numbers::signed_of(lent_numbers::load8(s, at));
-    let power = power_of(lent_numbers::load4(s, at + 8));
-    let kind = lent_numbers::load4(s, at + 12) as u32;
+    let number = lent_numbers::signed_of(lent_numbers::load::<8>(s, at));
+    let power = power_of(lent_numbers::load::<4>(s, at + 8));
+    let kind = lent_numbers::load::<4>(s, at + 12) as u32;
     Decimal {
-        number: number,
-        power: power,
-        kind: kind,
+        number,
+        power,
+        kind,
     }
 }
 
@@ -57,9 +53,9 @@ pub fn put_decimal(d: &mut [u8], at: usize, x: Decimal)
     requires { at + 16 ≤ length d.old }
     ensures { d.new ≡ sets d.old at (decimal_bytes x) }
 {
-    lent_numbers::store8(d, at, lent_numbers::bits_of(x.number));
-    lent_numbers::store4(d, at + 8, bits_of_power(x.power));
-    lent_numbers::store4(d, at + 12, x.kind as u64);
+    lent_numbers::store::<8>(d, at, lent_numbers::bits_of(x.number));
+    lent_numbers::store::<4>(d, at + 8, bits_of_power(x.power));
+    lent_numbers::store::<4>(d, at + 12, x.kind as u64);
 }
 
 // The column at a place: eight decimals, one after the other.
@@ -68,10 +64,8 @@ pub fn column_at(s: &[u8], at: usize) -> [Decimal; COLUMN]
     ensures { result ≡ decimals_lent (take 128 (drop at s.now)) }
 {
     let mut v = [NOUGHT; COLUMN];
-    let mut i: usize = 0;
-    while i < COLUMN {
+    for i in 0..COLUMN {
         v[i] = decimal_at(s, at + 16 * i);
-        i += 1;
     }
     v
 }
@@ -81,9 +75,7 @@ pub fn put_column(d: &mut [u8], at: usize, v: [Decimal; COLUMN], n: usize)
     requires { (n ≤ 8) × (at + 16 * n ≤ length d.old) }
     ensures { d.new ≡ sets d.old at (decimals_bytes (take n v)) }
 {
-    let mut i: usize = 0;
-    while i < n {
+    for i in 0..n {
         put_decimal(d, at + 16 * i, v[i]);
-        i += 1;
     }
 }

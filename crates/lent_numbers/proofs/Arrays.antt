@@ -2,13 +2,11 @@
 use Rattle.std.proofs.Common.{◌≡◌, ℕ, zero, suc, ◌+◌, ◌-◌, ◌*◌, ◌/◌, ◌%◌, ◌<◌, ◌≤◌, ◌^◌, List, [], ◌∷◌, ◌++◌, length, get_or, take, drop, refl, ap, sym, ◌∙◌, arith, length-take-le, length-drop}
 use Rattle.std.specs.Int.{w16, w32, w64, from_le_bytes, to_le_bytes, byte_at, bytes_low_first}
 use native.Mathlib.Nat.{div-div-eq-div-mul, pow-suc, div-one}
-use lib.Seq.{sets, sets-eq, paste, take_all}
+use lib.Seq.{sets, sets-eq, take_all}
 use borrow.Rule.Slice.PartMut.{put_mid}
 use Rattle.std.proofs.lemmas.Slice.{put_mid-paste}
 use Rattle.format.specs.Samples.{from_bytes, to_bytes}
 use Rattle.format.proofs.Samples.{length_to_bytes}
-use mathlib.Core.Logic.{inl, inr}
-use Rattle.lent_numbers.specs.Widths.{Width}
 use Rattle.lent_numbers.proofs.Halves.{load_one}
 use Rattle.lent_numbers.specs.Bits.{Bits}
 
@@ -44,12 +42,6 @@ module _ (w n at r : ℕ) (s l : List ℕ) (e : w ≡ n) (fits : at + w ≤ leng
 
 pub one_bits : (w at : ℕ) (s : List ℕ) → w ≡ 1 → at + w ≤ length s → get_or s at 0 < 256 → Bits w (from_bytes (take w (drop at s))) (get_or s at 0)
 one_bits w at s e fits b = rw e (load_one s at (rw e at fits) refl b)
-
-pub only_one : (w : ℕ) → Width w → (w ≡ 8 → ⊥) → (w ≡ 4 → ⊥) → (w ≡ 2 → ⊥) → w ≡ 1
-only_one w (inl e) a b c = e
-only_one w (inr (inl e)) a b c = absurd (c e)
-only_one w (inr (inr (inl e))) a b c = absurd (b e)
-only_one w (inr (inr (inr e))) a b c = absurd (a e)
 
 -- ---- the bytes of a number
 

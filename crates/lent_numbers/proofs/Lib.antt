@@ -1,6 +1,5 @@
 pub mod Arrays
 pub mod Halves
-pub mod Signs
 pub mod Stores
 pub mod PackedLaws
 pub mod WidthLaws

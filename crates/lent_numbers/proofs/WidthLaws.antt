@@ -7,7 +7,7 @@ use mathlib.Core.Path.{◌≡◌, refl, sym, ◌∙◌}
 use mathlib.Core.Bool.{Bool, true, false, ◌&&◌, ◌||◌, false≢true}
 use mathlib.Core.Logic.{inl, inr, ⊎_elim}
 use lib.Dec.{eqb, leb}
-use borrow.Author.Tests.{eqb-true, ne_eqb, le-leb, leb-true}
+use borrow.Author.Tests.{eqb-true, le-leb, leb-true}
 use Rattle.format.proofs.Bytes.{and_left, and_right}
 use Rattle.lent_numbers.specs.Widths.{Width, is_width, enough}
 
@@ -36,9 +36,6 @@ is_width_lem w e = go (eqb w 1) (eqb w 2) (eqb w 4) refl refl refl e
 
 pub width_is : (w : ℕ) → Width w → is_width w ≡ true
 width_is w d = by_width w d (λ e. rw e) (λ e. rw e) (λ e. rw e) (λ e. rw e)
-
-pub last_width : (w : ℕ) → (w ≡ 1 → ⊥) → (w ≡ 2 → ⊥) → (w ≡ 4 → ⊥) → eqb w 8 ≡ is_width w
-last_width w n1 n2 n4 = rw (ne_eqb w 1 n1, ne_eqb w 2 n2, ne_eqb w 4 n4)
 
 pub not_width : (w : ℕ) → Width w → is_width w ≡ false → ⊥
 not_width w d e = false≢true (sym e ∙ width_is w d)

@@ -15,12 +15,12 @@ returns-then-room-n g c =
 pub nonzero_div-s : goal.nonzero_div-s
 nonzero_div-s g c = width_pos _ (is_width_lem _ (sym c.is_width.ensures ∙ c.if-not-is_width.false))
 
-pub put_by_endian-requires : goal.put_by_endian-requires
-put_by_endian-requires g c = let d = is_width_lem _ (sym c.is_width.ensures ∙ c.if-not-is_width.false) in record { width = d; bytes_there = (le-div_iff_mul-le (width_pos _ d)).0 c.if-s-w.false; room = g.C.Cell.stores.fits c.args.n _ (omega (arith, c.room.ensures, c.if-room-n.false)) }
+pub put_all-requires : goal.put_all-requires
+put_all-requires g c = let d = is_width_lem _ (sym c.is_width.ensures ∙ c.if-not-is_width.false) in record { width = d; bytes_there = (le-div_iff_mul-le (width_pos _ d)).0 c.if-s-w.false; room = g.C.Cell.stores.fits c.args.n _ (omega (arith, c.room.ensures, c.if-room-n.false)) }
 
 pub returns : goal.returns
 returns g c =
     let a = c.args in
     let d = is_width_lem _ (sym c.is_width.ensures ∙ c.if-not-is_width.false) in
     let e = enough_is a.w a.n _ d ((le-div_iff_mul-le (width_pos _ d)).0 c.if-s-w.false) in
-    record { kept = λ q. absurd (not_kept _ _ e (le-leb _ _ (omega (arith, c.room.ensures, c.if-room-n.false))) q); fills = λ d h l z. c.put_by_endian.ensures z }
+    record { kept = λ q. absurd (not_kept _ _ e (le-leb _ _ (omega (arith, c.room.ensures, c.if-room-n.false))) q); fills = λ d h l z. c.put_all.ensures z }

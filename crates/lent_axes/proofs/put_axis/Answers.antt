@@ -4,4 +4,4 @@ use Rattle.lent_axes.proofs.put_axis.Goals as goal
 
 pub returns : goal.returns
 returns c =
-    axis_stored c.args.d.now c.args.at c.args.a c.store8.ensures c.put_pair.ensures c.put_pair-2.ensures c.put_pair-3.ensures
+    axis_stored c.args.d.now c.args.at c.args.a c.store.ensures c.put_pair.ensures c.put_pair-2.ensures c.put_pair-3.ensures

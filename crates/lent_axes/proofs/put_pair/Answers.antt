@@ -4,4 +4,4 @@ use Rattle.lent_axes.proofs.put_pair.Goals as goal
 
 pub returns : goal.returns
 returns c =
-    pair_stored c.args.d.now c.args.at c.args.x c.args.y c.store4.ensures c.store4-2.ensures
+    pair_stored c.args.d.now c.args.at c.args.x c.args.y c.store.ensures c.store-2.ensures

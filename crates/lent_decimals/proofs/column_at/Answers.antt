@@ -10,16 +10,15 @@ use borrow.Author.Rules.{rules}
 use Rattle.lent_decimals.proofs.column_at.Goals as goal
 
 pub loop-i-init : goal.loop-i-init
-loop-i-init c = (search rules, search rules, refl)
+loop-i-init c = (search rules, refl)
 
 pub loop-i-preserved : goal.loop-i-preserved
 loop-i-preserved c =
     let l = c.loop-i in
     let s = c.args.s.now in
     let ds = decimals_lent (take 128 (drop c.args.at s)) in (
-      search rules,
       simp length-set (search rules),
-      over_more ds l.v _ l.i _ nought l.invariant.2 (c.decimal_at.ensures ∙ column_read s c.args.at c.requires l.i nought (omega arith)) (omega (arith, column_length s c.args.at c.requires)) (omega arith),
+      over_more ds l.v _ l.i _ nought l.invariant.1 (c.decimal_at.ensures ∙ column_read s c.args.at c.requires l.i nought (omega arith)) (omega (arith, column_length s c.args.at c.requires)) (omega arith),
     )
 
 pub returns : goal.returns
@@ -27,4 +26,4 @@ returns c =
     let l = c.loop-i in
     let s = c.args.s.now in
     let n = column_length s c.args.at c.requires in
-    l.invariant.2 ∙ over_whole (decimals_lent (take 128 (drop c.args.at s))) _ l.i (omega (arith, n)) n
+    l.invariant.1 ∙ over_whole (decimals_lent (take 128 (drop c.args.at s))) _ l.i (omega (arith, n)) n

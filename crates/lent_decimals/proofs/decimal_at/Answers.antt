@@ -8,5 +8,5 @@ use Rattle.lent_decimals.proofs.decimal_at.Goals as goal
 
 pub returns : goal.returns
 returns c =
-    decimal_read c.args.s.now c.args.at c.requires c.load8.ensures (to_z-of_z {w = w64} (sfits_of c.signed_of-number.type_inv) ∙ c.signed_of-number.ensures)
-    c.load4.ensures (to_z-of_z {w = w32} (sfits_of c.power_of-power.type_inv) ∙ c.power_of-power.ensures) c.load4-kind.ensures
+    decimal_read c.args.s.now c.args.at c.requires c.load.ensures (to_z-of_z {w = w64} (sfits_of c.signed_of-number.type_inv) ∙ c.signed_of-number.ensures)
+    c.load-2.ensures (to_z-of_z {w = w32} (sfits_of c.power_of-power.type_inv) ∙ c.power_of-power.ensures) c.load-kind.ensures

@@ -1,5 +1,4 @@
 -- `put_column` meets its contract. The invariant: the first i decimals are stored.
-use Prim.Native.Nat.{◌-◌, ◌≤◌}
 use mathlib.Core.Path.{◌≡◌}
 use lib.ListN.{length, take}
 use lib.Seq.{sets}
@@ -7,7 +6,4 @@ use Rattle.format.specs.Boundary.{decimals_bytes}
 use Rattle.lent_decimals.proofs.put_column.Given as goal
 
 abbrev pub invariant-loop-i : goal.invariant-loop-i
-invariant-loop-i l = (l.i ≤ l.n) × (length l.d ≡ length l.initial.d) × (l.d ≡ sets l.initial.d l.at (decimals_bytes (take l.i l.v)))
-
-abbrev pub decreases-loop-i : goal.decreases-loop-i
-decreases-loop-i l = l.n - l.i
+invariant-loop-i l = (length l.d ≡ length l.initial.d) × (l.d ≡ sets l.initial.d l.at (decimals_bytes (take l.i l.v)))

@@ -13,4 +13,4 @@ returns c =
     let f : SFits w64 c.args.x.number = search rules in
     let g : SFits w32 c.args.x.power = search rules in
     decimal_stored c.args.d.now c.args.at c.args.x (c.bits_of.ensures ∙ ap (from_signed 8) (to_z-of_z {w = w64} f))
-    (c.bits_of_power.ensures ∙ ap (from_signed 4) (to_z-of_z {w = w32} g)) c.store8.ensures c.store4.ensures c.store4-2.ensures
+    (c.bits_of_power.ensures ∙ ap (from_signed 4) (to_z-of_z {w = w32} g)) c.store.ensures c.store-2.ensures c.store-3.ensures

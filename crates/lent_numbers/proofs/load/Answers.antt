@@ -1,6 +1,7 @@
 -- `load` meets its contract, by the width.
 use Rattle.std.proofs.Common.{◌∙◌, arith}
-use Rattle.lent_numbers.proofs.Arrays.{le_2, le_4, le_8, chunk_long, chunk_bits, one_bits, only_one}
+use Rattle.lent_numbers.proofs.WidthLaws.{width_1}
+use Rattle.lent_numbers.proofs.Arrays.{le_2, le_4, le_8, chunk_long, chunk_bits, one_bits}
 use Rattle.lent_numbers.proofs.load.Goals as goal
 
 pub returns-in-8 : goal.returns-in-8
@@ -25,4 +26,4 @@ returns-in-2 g c =
     chunk_bits g.row.W 2 a.at _ a.s.now l c.in-2.is c.requires.bytes_there c.chunk-in-2.ensures (c.from_le_bytes-in-2.ensures ∙ le_2 l long) (omega (arith, c.from_le_bytes-in-2.type_inv))
 
 pub returns-in_default : goal.returns-in_default
-returns-in_default g c = one_bits g.row.W c.args.at c.args.s.now (only_one g.row.W c.requires.width (λ e. omega arith) (λ e. omega arith) (λ e. omega arith)) c.requires.bytes_there (omega (arith, c.type_inv.s c.args.at))
+returns-in_default g c = one_bits g.row.W c.args.at c.args.s.now (width_1 g.row.W c.requires.width (λ e. omega arith) (λ e. omega arith) (λ e. omega arith)) c.requires.bytes_there (omega (arith, c.type_inv.s c.args.at))

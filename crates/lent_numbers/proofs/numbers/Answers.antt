@@ -1,5 +1,4 @@
 -- `numbers` meets its contract. The invariant: the first i numbers are at the front.
-use Prim.Native.Nat.{◌-◌}
 use native.Mathlib.Omega.{arith}
 use mathlib.Core.Path.{◌≡◌, refl, sym, ◌∙◌}
 use lib.ListN.{length-set}

@@ -14,32 +14,32 @@ returns-then-n-lt64 g c = c.put.ensures
 pub loop-k-init : goal.loop-k-init
 loop-k-init g c =
     let a = c.args in
-    narrow_none (storing g.C.Cell.stores) a.s.now a.n a.w a.signed a.big a.up a.dst.now _ (omega arith) (omega arith)
+    narrow_none (storing g.C.Cell.stores) a.s.now a.n a.w a.signed a.big c.shift-up.result a.dst.now _ (omega arith) (omega arith)
 
 pub overflow_mul-k : goal.overflow_mul-k
 overflow_mul-k g c =
     let a = c.args in
-    omega (arith, narrow_room (storing g.C.Cell.stores) a.s.now a.n a.w a.signed a.big a.up a.dst.now _ c.loop-k.invariant c.requires.bytes_there)
+    omega (arith, narrow_room (storing g.C.Cell.stores) a.s.now a.n a.w a.signed a.big c.shift-up.result a.dst.now _ c.loop-k.invariant c.requires.bytes_there)
 
 pub lift-requires : goal.lift-requires
 lift-requires g c =
     let a = c.args in
-    record { width = c.requires.width; narrow_shift = (c.requires.narrow, c.requires.shift.within); bytes_there = narrow_room (storing g.C.Cell.stores) a.s.now a.n a.w a.signed a.big a.up a.dst.now _ c.loop-k.invariant c.requires.bytes_there }
+    record { width = c.requires.width; narrow_shift = (c.requires.narrow, c.shift-up.ensures.within); bytes_there = narrow_room (storing g.C.Cell.stores) a.s.now a.n a.w a.signed a.big c.shift-up.result a.dst.now _ c.loop-k.invariant c.requires.bytes_there }
 
 pub put_lifted-requires : goal.put_lifted-requires
 put_lifted-requires g c =
     let a = c.args in
-    omega (arith, place_more (storing g.C.Cell.stores) _ a.n (narrow_within (storing g.C.Cell.stores) a.s.now a.n a.w a.signed a.big a.up a.dst.now _ c.loop-k.invariant), narrow_long (storing g.C.Cell.stores) a.s.now a.n a.w a.signed a.big a.up a.dst.now _ c.loop-k.invariant, c.requires.room)
+    omega (arith, place_more (storing g.C.Cell.stores) _ a.n (narrow_within (storing g.C.Cell.stores) a.s.now a.n a.w a.signed a.big c.shift-up.result a.dst.now _ c.loop-k.invariant), narrow_long (storing g.C.Cell.stores) a.s.now a.n a.w a.signed a.big c.shift-up.result a.dst.now _ c.loop-k.invariant, c.requires.room)
 
 pub shape_of-dst-then-k-last : goal.shape_of-dst-then-k-last
 shape_of-dst-then-k-last g c =
     let a = c.args in
-    omega (arith, narrow_long (storing g.C.Cell.stores) a.s.now a.n a.w a.signed a.big a.up a.dst.now _ c.loop-k.invariant)
+    omega (arith, narrow_long (storing g.C.Cell.stores) a.s.now a.n a.w a.signed a.big c.shift-up.result a.dst.now _ c.loop-k.invariant)
 
 pub returns-then-k-last : goal.returns-then-k-last
 returns-then-k-last g c =
     let a = c.args in
-    narrow_done (storing g.C.Cell.stores) a.s.now a.n a.w a.signed a.big a.up a.dst.now _ c.loop-k.invariant c.lift.ensures c.put_lifted.ensures c.requires.width c.requires.narrow c.requires.shift (λ i. search rules) c.requires.bytes_there c.if-k-last.true
+    narrow_done (storing g.C.Cell.stores) a.s.now a.n a.w a.signed a.big c.shift-up.result a.dst.now _ c.loop-k.invariant c.lift.ensures c.put_lifted.ensures c.requires.width c.requires.narrow c.shift-up.ensures (λ i. search rules) c.requires.bytes_there c.if-k-last.true
 
 pub overflow_add-k : goal.overflow_add-k
 overflow_add-k g c = omega (arith, c.loop-k.invariant.most)
@@ -50,4 +50,4 @@ loop-k-smaller g c = omega (arith, c.loop-k.invariant.most, c.min-k.ensures, c.i
 pub loop-k-preserved : goal.loop-k-preserved
 loop-k-preserved g c =
     let a = c.args in
-    narrow_more (storing g.C.Cell.stores) a.s.now a.n a.w a.signed a.big a.up a.dst.now _ c.loop-k.invariant c.lift.ensures c.put_lifted.ensures _ c.min-k.ensures
+    narrow_more (storing g.C.Cell.stores) a.s.now a.n a.w a.signed a.big c.shift-up.result a.dst.now _ c.loop-k.invariant c.lift.ensures c.put_lifted.ensures _ c.min-k.ensures

@@ -1,6 +1,6 @@
 -- `turn` meets its contract, by the width.
 use Rattle.std.proofs.Common.{◌∙◌, arith}
-use Rattle.lent_numbers.proofs.Arrays.{only_one}
+use Rattle.lent_numbers.proofs.WidthLaws.{width_1}
 use Rattle.data_raw.proofs.RawLaws.{turned_1, swapped_2, swapped_4, swapped_8}
 use Rattle.data_raw.proofs.number.turn.Goals as goal
 
@@ -14,4 +14,4 @@ pub returns-in-2 : goal.returns-in-2
 returns-in-2 c = rw c.in-2.is (record { is = c.swap_bytes-in-2.ensures ∙ swapped_2 c.args.x; less = omega (arith, c.swap_bytes-in-2.type_inv) })
 
 pub returns-in_default : goal.returns-in_default
-returns-in_default c = turned_1 _ _ (only_one _ c.requires.width (λ e. omega arith) (λ e. omega arith) (λ e. omega arith)) c.requires.x_of_w_bytes
+returns-in_default c = turned_1 _ _ (width_1 _ c.requires.width (λ e. omega arith) (λ e. omega arith) (λ e. omega arith)) c.requires.x_of_w_bytes
