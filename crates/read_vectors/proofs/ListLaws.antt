@@ -8,6 +8,7 @@ use mathlib.Core.Path.{◌≡◌, refl, sym, ap, ◌∙◌}
 use mathlib.Core.Bool.{Bool, true, false, ◌&&◌}
 use mathlib.Core.List.{List, [], ◌∷◌, map}
 use mathlib.Core.Option.{Option, none, some}
+use Rattle.std.specs.Option.{unwrap_or}
 use lib.Dec.{eqb}
 use lib.ListN.{length, drop, set, replicate, length-set}
 use lib.Seq.{sets, length-sets, set_out}
@@ -17,9 +18,14 @@ use Rattle.format.specs.Vectors.{Direction, without, along, along_said, said_by,
 use Rattle.read_vectors.specs.declared.vector.Vector.{Vector}
 use Rattle.format.specs.Columns.{eight, column, matrix}
 use Rattle.read_vectors.specs.Outside.{part, Next}
-use Rattle.read_vectors.specs.Answers.{vector_answer, direction_answer, word_said, frame_said}
+use Rattle.read_vectors.specs.Answers.{vector_answer, direction_answer, vector_column, direction_column, word_said, frame_said}
 use Rattle.read_text.proofs.Said.{cons_some, said_done, said_short, said_long, said_cons, said_values, said_both}
 use Rattle.read_vectors.proofs.WordLaws.{words_none, words_more}
+
+-- a column of zeros for no vector
+pub column_or : (o : Option (List Decimal)) → unwrap_or (vector_column o) (column []) ≡ column (or_default [] o)
+column_or none = refl
+column_or (some ds) = refl
 
 -- ---- whether the vectors are there, `left` of them from a place on
 
@@ -106,9 +112,9 @@ module _ (n : ℕ) where
     frame_end e = rw (words_none w e)
 
     -- one column more
-    pub frame_more : (from ≡ to → ⊥) → (v : Vector) → v ≡ vector_answer (vector_said n (part from to t))
-        → sets m c (columns_of (vector_words (drop at t))) ≡ sets (set m c v.parts) (c + 1) (columns_of (vector_words (drop to t)))
-    frame_more e v q = rw (words_more w e, q, add-one)
+    pub frame_more : (from ≡ to → ⊥) → (ds : List Decimal) → ds ≡ column (or_default [] (vector_said n (part from to t)))
+        → sets m c (columns_of (vector_words (drop at t))) ≡ sets (set m c ds) (c + 1) (columns_of (vector_words (drop to t)))
+    frame_more e ds q = rw (words_more w e, q, add-one)
 
   -- of a text that says n vectors they are the matrix
   pub frame_of_lem : (k : ℕ) (t : List ℕ) (cs : List (List Decimal)) → vectors_said k n t ≡ some cs → frame_said n t ≡ matrix cs

@@ -18,11 +18,10 @@ fn word_fine(w: &[u8], n: usize, none: bool) -> bool
     ensures { result ≡ is_some (word_said none n w.now) }
 {
     if none {
-        let d = vector::read_direction(w, n);
-        return d.fine;
+        vector::direction_of(w, n).is_some()
+    } else {
+        vector::vector_of(w, n).is_some()
     }
-    let v = vector::read_vector(w, n);
-    v.fine
 }
 
 // Whether the words are so many, each a vector of n components, or `none` where that is taken.
@@ -31,19 +30,15 @@ fn words_fine(t: &[u8], count: usize, n: usize, none: bool) -> bool
     ensures { result ≡ is_some (said_by count (word_said none n) (vector_words t.now)) }
 {
     let mut at: usize = 0;
-    let mut left = count;
-    while 0 < left {
+    for _ in 0..count {
         let w = words::next_word(t, at);
-        let from = w.from;
-        let to = w.to;
-        if from == to {
+        if w.from == w.to {
             return false;
         }
-        if !word_fine(&t[from..to], n, none) {
+        if !word_fine(&t[w.from..w.to], n, none) {
             return false;
         }
-        at = to;
-        left -= 1;
+        at = w.to;
     }
     let w = words::next_word(t, at);
     w.from == w.to
@@ -73,9 +68,7 @@ pub fn nth_vector(t: &[u8], i: usize, n: usize) -> Option<[Decimal; 8]>
     ensures { result ≡ vector_column (vector_said n (slice_index_or (vector_words t.now) i [])) }
 {
     let w = words::word_at(t, i);
-    let from = w.from;
-    let to = w.to;
-    vector::vector_of(&t[from..to], n)
+    vector::vector_of(&t[w.from..w.to], n)
 }
 
 // The direction of axis i, from 0 for the first.
@@ -84,9 +77,7 @@ pub fn nth_direction(t: &[u8], i: usize, n: usize) -> Option<[Decimal; 8]>
     ensures { result ≡ direction_column (direction_said n (slice_index_or (vector_words t.now) i [])) }
 {
     let w = words::word_at(t, i);
-    let from = w.from;
-    let to = w.to;
-    vector::direction_of(&t[from..to], n)
+    vector::direction_of(&t[w.from..w.to], n)
 }
 
 // The vector number i, from 0 for the first.
@@ -128,19 +119,13 @@ pub fn read_frame(t: &[u8], n: usize) -> [[Decimal; 8]; 8]
 {
     let mut m = blank_matrix();
     let mut at: usize = 0;
-    let mut c: usize = 0;
-    while c < 8 {
+    for c in 0..8 {
         let w = words::next_word(t, at);
-        let from = w.from;
-        let to = w.to;
-        if from == to {
+        if w.from == w.to {
             return m;
         }
-        let v = vector::read_vector(&t[from..to], n);
-        let parts = v.parts;
-        m[c] = parts;
-        at = to;
-        c += 1;
+        m[c] = vector::vector_of(&t[w.from..w.to], n).unwrap_or(vector::blank_column());
+        at = w.to;
     }
     m
 }

@@ -63,14 +63,12 @@ pub fn word_at(t: &[u8], i: usize) -> Place
     ensures { WordAt t.now i result.from result.to }
 {
     let mut at: usize = 0;
-    let mut left = i;
-    while 0 < left {
+    for _ in 0..i {
         let w = next_word(t, at);
         if w.from == w.to {
             return w;
         }
         at = w.to;
-        left -= 1;
     }
     next_word(t, at)
 }

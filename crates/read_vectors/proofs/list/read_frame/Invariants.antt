@@ -11,6 +11,3 @@ use Rattle.read_vectors.proofs.list.read_frame.Given as goal
 abbrev pub invariant-loop-c : goal.invariant-loop-c
 invariant-loop-c l =
     (l.at ≤ length l.t) × (length l.m ≡ 8) × (frame_said l.n l.t ≡ sets l.m l.c (columns_of l.n (vector_words (drop l.at l.t))))
-
-abbrev pub decreases-loop-c : goal.decreases-loop-c
-decreases-loop-c l = 8 - l.c

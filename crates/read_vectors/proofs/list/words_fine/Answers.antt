@@ -1,40 +1,35 @@
--- `list::words_fine` meets its contract: what is said of the words from here on is said of all.
-use borrow.Author.Rules.{rules}
-use native.Mathlib.Omega.{arith}
-use mathlib.Core.Path.{refl, sym, ◌∙◌}
+-- `list::words_fine` meets its contract.
+use Rattle.std.proofs.Common.{rules, arith, sym, ◌∙◌, ◌≡◌, ◌-◌, ◌+◌}
+use native.Mathlib.Nat.{sub-zero}
 use Rattle.read_vectors.proofs.ListLaws.{fine_short, fine_wrong, fine_more, fine_end}
 use Rattle.read_vectors.proofs.list.words_fine.Goals as goal
 
-pub loop-left-init : goal.loop-left-init
-loop-left-init c = (search rules, refl)
+pub loop-init : goal.loop-init
+loop-init c = (search rules, rw sub-zero)
 
-pub returns-then-from-to : goal.returns-then-from-to
-returns-then-from-to c =
+pub returns-then-w : goal.returns-then-w
+returns-then-w c =
     let a = c.args in
-    let l = c.loop-left in
-    fine_short a.none a.n l.left c.next_word-w.ensures c.if-from-to.true c.loop-left-test.true ∙ sym l.invariant.1
+    let l = c.loop in
+    fine_short a.none a.n (a.count - l.counter) c.next_word-w.ensures c.if-w.true (omega arith) ∙ sym l.invariant.1
 
 pub returns-then-not-word_fine : goal.returns-then-not-word_fine
 returns-then-not-word_fine c =
     let a = c.args in
-    let l = c.loop-left in
+    let l = c.loop in
     let f = c.word_fine in
-    fine_wrong a.none a.n l.left c.next_word-w.ensures c.if-from-to.false c.loop-left-test.true (sym f.ensures ∙ c.if-not-word_fine.true)
-    ∙ sym l.invariant.1
+    fine_wrong a.none a.n (a.count - l.counter) c.next_word-w.ensures c.if-w.false (omega arith) (sym f.ensures ∙ c.if-not-word_fine.true) ∙ sym l.invariant.1
 
-pub loop-left-preserved : goal.loop-left-preserved
-loop-left-preserved c =
+pub loop-preserved : goal.loop-preserved
+loop-preserved c =
     let a = c.args in
-    let l = c.loop-left in
-    let f = c.word_fine in
-    let w = c.next_word-w.ensures in (
-      w.within,
-      l.invariant.1
-          ∙ fine_more a.none a.n l.left w c.if-from-to.false c.loop-left-test.true (sym f.ensures ∙ c.if-not-word_fine.false),
-    )
+    let l = c.loop in
+    let w = c.next_word-w.ensures in
+    let e : a.count - l.counter - 1 ≡ a.count - (l.counter + 1) = omega arith in
+    (w.within, l.invariant.1 ∙ rw (← e) (fine_more a.none a.n (a.count - l.counter) w c.if-w.false (omega arith) (sym c.word_fine.ensures ∙ c.if-not-word_fine.false)))
 
 pub returns : goal.returns
 returns c =
     let a = c.args in
-    let l = c.loop-left in
-    fine_end a.none a.n l.left c.next_word-w-2.ensures (omega (arith, c.loop-left-test.false)) ∙ sym l.invariant.1
+    let l = c.loop in
+    fine_end a.none a.n (a.count - l.counter) c.next_word-w-2.ensures (omega arith) ∙ sym l.invariant.1

@@ -1,28 +1,22 @@
--- `words::word_at` meets its contract: the word number i is the word number `left` from here on.
-use borrow.Author.Rules.{rules}
-use mathlib.Core.Path.{refl}
-use native.Mathlib.Omega.{arith}
+-- `words::word_at` meets its contract.
+use Rattle.std.proofs.Common.{rules, arith, ◌∙◌, ◌≡◌, ◌-◌, ◌+◌}
+use native.Mathlib.Nat.{sub-zero}
 use Rattle.read_vectors.proofs.WordLaws.{word_none, word_later, word_next}
 use Rattle.read_vectors.proofs.words.word_at.Goals as goal
 
-pub loop-left-init : goal.loop-left-init
-loop-left-init c = (search rules, refl)
+pub loop-init : goal.loop-init
+loop-init c = (search rules, rw sub-zero)
 
 pub returns-then-w : goal.returns-then-w
-returns-then-w c =
-    let a = c.args in
-    let l = c.loop-left in
-    word_none a.i l.left c.next_word-w.ensures l.invariant.1 c.if-w.true
+returns-then-w c = word_none c.args.i (c.args.i - c.loop.counter) c.next_word-w.ensures c.loop.invariant.1 c.if-w.true
 
-pub loop-left-preserved : goal.loop-left-preserved
-loop-left-preserved c =
-    let a = c.args in
-    let l = c.loop-left in
+pub loop-preserved : goal.loop-preserved
+loop-preserved c =
+    let i = c.args.i in
+    let l = c.loop in
     let w = c.next_word-w.ensures in
-    (w.within, word_later a.i l.left w l.invariant.1 c.if-w.false c.loop-left-test.true)
+    let e : i - l.counter - 1 ≡ i - (l.counter + 1) = omega arith in
+    (w.within, rw (← e) (word_later i (i - l.counter) w l.invariant.1 c.if-w.false (omega arith)))
 
 pub returns : goal.returns
-returns c =
-    let a = c.args in
-    let l = c.loop-left in
-    word_next a.i l.left c.next_word.ensures l.invariant.1 (omega arith)
+returns c = word_next c.args.i (c.args.i - c.loop.counter) c.next_word.ensures c.loop.invariant.1 (omega arith)

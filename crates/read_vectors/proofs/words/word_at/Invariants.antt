@@ -1,14 +1,8 @@
--- `words::word_at` meets its contract: the word number i is the word number `left` from here on.
-use Prim.Native.Nat.{◌≤◌}
-use mathlib.Core.Path.{◌≡◌}
-use mathlib.Core.List.{[]}
-use lib.ListN.{length, drop, get_or}
+-- The word number i is the word number i - counter from here on.
+use Rattle.std.proofs.Common.{◌≡◌, ◌≤◌, ◌-◌, [], length, drop, slice_index_or}
 use Rattle.format.specs.Vectors.{vector_words}
 use Rattle.read_vectors.proofs.words.word_at.Given as goal
 
-abbrev pub invariant-loop-left : goal.invariant-loop-left
-invariant-loop-left l =
-    (l.at ≤ length l.t) × (get_or (vector_words l.t) l.i [] ≡ get_or (vector_words (drop l.at l.t)) l.left [])
-
-abbrev pub decreases-loop-left : goal.decreases-loop-left
-decreases-loop-left l = l.left
+abbrev pub invariant-loop : goal.invariant-loop
+invariant-loop l =
+    (l.at ≤ length l.t) × (slice_index_or (vector_words l.t) l.i [] ≡ slice_index_or (vector_words (drop l.at l.t)) (l.i - l.counter) [])
