@@ -20,7 +20,6 @@ use Rattle.format.specs.AxisRecords.{string_place}
 use Rattle.read_text.proofs.Places.{drop_next}
 use Rattle.read_axes.specs.declared.strings.Span.{Span}
 use Rattle.read_axes.specs.declared.strings.Strings.{Strings}
-use Rattle.read_axes.specs.declared.strings.Found.{Found}
 use Rattle.std.specs.Prelude.{Option as Maybe}
 use Rattle.std.specs.Prelude.{Some, None}
 use Rattle.read_axes.specs.Strings.{text_from, blank_or_end, first_of, StringAt, span_of, no_span, no_strings, spans_from, strings_answer}
@@ -169,19 +168,8 @@ module _ (t : List ℕ) (at : ℕ) where
         strings_beside j l f = rw f at (strings_closed j l)
 
         -- a string
-        pub strings_first : (at + 1 + n ≡ length t → ⊥) → at + 1 + n ≤ length t → blank_or_end (drop (at + 1 + n + 1) t) ≡ true
-            → (w : List ℕ) × (length w ≡ n)
-            × (strings_from apart at (drop at t) ≡ first_of (quoted (at + 1) w) (strings_from apart (at + 1 + n + 1) (drop (at + 1 + n + 1) t)))
-        strings_first j l f = (text_from false rest, size, rw f at (strings_closed j l))
-
--- what is told of a place where no string stands
-pub nothing_at : (t : List ℕ) (at : ℕ) (r : Found) → r.fine ≡ false → strings_from apart at (drop at t) ≡ none → StringAt t at r
-nothing_at t at r f e =
-    record {
-      wrong = λ g. e;
-      within = λ g. absurd (false≢true (sym f ∙ g));
-      right = λ g. absurd (false≢true (sym f ∙ g));
-    }
+        pub strings_first : (at + 1 + n ≡ length t → ⊥) → at + 1 + n ≤ length t → blank_or_end (drop (at + 1 + n + 1) t) ≡ true → StringAt t at n
+        strings_first j l f = record { text = text_from false rest; size = size; within = omega arith; strings = rw f at (strings_closed j l) }
 
 -- ---- spans
 

@@ -9,7 +9,6 @@ use Rattle.format.specs.Strings.{Quoted, quoted, apart, strings_from}
 use Rattle.format.specs.AxisRecords.{string_place}
 use Rattle.read_axes.specs.declared.strings.Span.{Span}
 use Rattle.read_axes.specs.declared.strings.Strings.{Strings}
-use Rattle.read_axes.specs.declared.strings.Found.{Found}
 
 -- what stands before the quote that closes a string, all where it stays open; whether a backslash stands right before
 unfoldable pub text_from : Bool → List ℕ → List ℕ
@@ -26,14 +25,17 @@ unfoldable pub first_of : Quoted → Option (List Quoted) → Option (List Quote
 first_of q none = none
 first_of q (some qs) = some (q ∷ qs)
 
--- what is told of the string that begins at a place of t, where no blank stands: none, and the rest of t says no strings;
--- or the length of its text w, and the strings of the rest are this one and those after its closing quote
-pub record StringAt (t : List ℕ) (at : ℕ) (r : Found) : Type 0 where
-  pub wrong : r.fine ≡ false → strings_from apart at (drop at t) ≡ none
-  pub within : r.fine ≡ true → at + 1 + r.length + 1 ≤ length t
-  pub right : r.fine ≡ true
-      → (w : List ℕ) × (length w ≡ r.length)
-      × (strings_from apart at (drop at t) ≡ first_of (quoted (at + 1) w) (strings_from apart (at + 1 + r.length + 1) (drop (at + 1 + r.length + 1) t)))
+-- a string begins at a place of t: with the length n of its text w, the strings of the rest are this one and those after its closing quote
+pub record StringAt (t : List ℕ) (at n : ℕ) : Type 0 where
+  pub text : List ℕ
+  pub size : length text ≡ n
+  pub within : at + 1 + n + 1 ≤ length t
+  pub strings : strings_from apart at (drop at t) ≡ first_of (quoted (at + 1) text) (strings_from apart (at + 1 + n + 1) (drop (at + 1 + n + 1) t))
+
+-- what is told of a place where no blank stands: such a string, or none, and the rest of t says no strings
+abbrev pub StringIs : List ℕ → ℕ → Maybe ℕ → Type 0
+StringIs t at None = strings_from apart at (drop at t) ≡ none
+StringIs t at (Some n) = StringAt t at n
 
 -- the place of a string in a file
 abbrev pub span_of : ℕ × ℕ → Span

@@ -52,9 +52,10 @@ fn code_named(w: &[u8], kinds: bool) -> Option<u32>
     ensures { result ≡ row_answer (code_named kinds w.now) }
 {
     if kinds {
-        return kind_named(w);
+        kind_named(w)
+    } else {
+        centring_named(w)
     }
-    centring_named(w)
 }
 
 // As many words as axes, parted by spaces and tabs, each a kind, or else each a centring: their numbers, 0 past them.
@@ -65,6 +66,7 @@ pub fn codes_in(t: &[u8], axes: usize, kinds: bool) -> Option<[u32; format::AXES
     let mut at: usize = 0;
     let mut n: usize = 0;
     let mut v = [0u32; format::AXES];
+    // a `while`, since it goes on by a blank or by a word
     while at < t.len() {
         let size = read_text::numbers::word_length(&t[at..]);
         if size == 0 {

@@ -3,7 +3,7 @@ ghost use Rattle.std.specs.Prelude.{◌≡◌, false, ◌+◌, ◌≤◌, ◌<�
 ghost use Rattle.format.specs.Bytes.{space_or_tab};
 ghost use Rattle.format.specs.Limits.{max_axes, max_file};
 ghost use Rattle.format.specs.Strings.{strings_said};
-ghost use Rattle.read_axes.specs.Strings.{text_from, blank_or_end, StringAt, no_strings, spans_from, strings_answer};
+ghost use Rattle.read_axes.specs.Strings.{text_from, blank_or_end, StringIs, no_strings, spans_from, strings_answer};
 
 // Where the text of a string lies; both are 0 where there is none.
 #[derive(Clone, Copy)]
@@ -24,18 +24,6 @@ const NOWHERE: Span = Span {
     length: 0,
 };
 
-// A string at a place of a descriptor: whether there is one, and the length of its text.
-#[derive(Clone, Copy)]
-struct Found {
-    pub fine: bool,
-    pub length: usize,
-}
-
-const NOTHING: Found = Found {
-    fine: false,
-    length: 0,
-};
-
 // What is answered where there is not one string for each axis.
 fn no_strings() -> Strings
     ensures { result ≡ no_strings }
@@ -49,16 +37,13 @@ fn text_length(s: &[u8]) -> usize
     ensures { (result ≡ length (text_from false s.now)) × (result ≤ length s.now) }
 {
     let mut escaped = false;
-    let mut i: usize = 0;
-    while i < s.len() {
-        let b = s[i];
-        if (b == b'"') & !escaped {
+    for (i, b) in s.iter().enumerate() {
+        if (*b == b'"') & !escaped {
             return i;
         }
-        escaped = b == b'\\';
-        i += 1;
+        escaped = *b == b'\\';
     }
-    i
+    s.len()
 }
 
 // Whether a space or a tab stands at a place, or the text ends there.
@@ -72,27 +57,24 @@ fn is_blank_or_end(t: &[u8], at: usize) -> bool
     true
 }
 
-// The string that begins at a place: a quote, its text, a quote, and then a blank or the end.
-fn string_at(t: &[u8], at: usize) -> Found
+// The string that begins at a place: a quote, its text, a quote, and then a blank or the end. Its length is that of the text.
+fn string_at(t: &[u8], at: usize) -> Option<usize>
     requires { (at < length t.now) × (space_or_tab (slice_index t.now at) ≡ false) }
-    ensures { StringAt t.now at result }
+    ensures { StringIs t.now at result }
 {
     if t[at] != b'"' {
-        return NOTHING;
+        return None;
     }
     let from = at + 1;
     let n = text_length(&t[from..]);
     let end = from + n;
     if end == t.len() {
-        return NOTHING;
+        return None;
     }
     if !is_blank_or_end(t, end + 1) {
-        return NOTHING;
+        return None;
     }
-    Found {
-        fine: true,
-        length: n,
-    }
+    Some(n)
 }
 
 // As many strings as axes, parted by spaces and tabs: their places in a file in which the descriptor starts at `base`.
@@ -103,23 +85,19 @@ pub fn strings_in(t: &[u8], axes: usize, base: u32) -> Option<[Span; format::AXE
     let mut at: usize = 0;
     let mut n: usize = 0;
     let mut v = [NOWHERE; format::AXES];
+    // a `while`, since it goes on by a blank or by a string
     while at < t.len() {
         let b = t[at];
         if (b == b' ') | (b == b'\t') {
             at += 1;
         } else {
-            let x = string_at(t, at);
-            let fine = x.fine;
-            if !fine {
-                return None;
-            }
+            let long = string_at(t, at)?;
             if n == axes {
                 return None;
             }
             let from = at + 1;
             let place = from as u32;
             let start = base + place;
-            let long = x.length;
             let length = long as u32;
             v[n] = Span { start, length };
             n += 1;

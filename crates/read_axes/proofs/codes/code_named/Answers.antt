@@ -6,6 +6,6 @@ pub returns-then-kinds : goal.returns-then-kinds
 unfolding code_named
 returns-then-kinds c = rw c.if-kinds.true c.kind_named.ensures
 
-pub returns : goal.returns
+pub returns-else-kinds : goal.returns-else-kinds
 unfolding code_named
-returns c = rw c.if-kinds.false c.centring_named.ensures
+returns-else-kinds c = rw c.if-kinds.false c.centring_named.ensures

@@ -22,54 +22,49 @@ loop-at-preserved-then-b c =
           ∙ ap (strings_left a.base a.axes l.n l.v) (strings_blank a.t.now l.at c.loop-at-test.true c.if-b.true),
     )
 
-pub string_at-x-requires : goal.string_at-x-requires
-string_at-x-requires c = (c.loop-at-test.true, c.if-b.false)
+pub string_at-requires : goal.string_at-requires
+string_at-requires c = (c.loop-at-test.true, c.if-b.false)
 
-pub returns-then-not-fine : goal.returns-then-not-fine
-returns-then-not-fine c =
-    let s = c.string_at-x in
+pub returns-in_err-long : goal.returns-in_err-long
+returns-in_err-long c =
     let l = c.loop-at in
     let a = c.args in
-    sym (l.invariant.3
-    ∙ ap (strings_left a.base a.axes l.n l.v) (s.ensures.wrong c.if-not-fine.true)
-    ∙ left_wrong a.base a.axes l.n l.v)
+    c.from_residual.ensures
+    ∙ sym (l.invariant.3 ∙ ap (strings_left a.base a.axes l.n l.v) c.in_err-long.ensures ∙ left_wrong a.base a.axes l.n l.v)
 
 pub returns-then-n-axes : goal.returns-then-n-axes
 returns-then-n-axes c =
-    let s = c.string_at-x in
     let l = c.loop-at in
     let a = c.args in
-    let r = s.ensures.right c.if-not-fine.false in
-    let first = l.invariant.3 ∙ ap (strings_left a.base a.axes l.n l.v) r.2 in
+    let r = c.in_ok-long.ensures in
+    let first = l.invariant.3 ∙ ap (strings_left a.base a.axes l.n l.v) r.strings in
     sym (first ∙ left_full _ _ _ _ _ _ c.if-n-axes.true)
 
 pub overflow_cast-place : goal.overflow_cast-place
-overflow_cast-place c = let s = c.string_at-x in let ends = s.ensures.within c.if-not-fine.false in omega (arith, ends)
+overflow_cast-place c = omega (arith, c.in_ok-long.ensures.within)
 
 pub overflow_add-start : goal.overflow_add-start
-overflow_add-start c = let s = c.string_at-x in let ends = s.ensures.within c.if-not-fine.false in omega (arith, ends)
+overflow_add-start c = omega (arith, c.in_ok-long.ensures.within)
 
 pub overflow_cast-length : goal.overflow_cast-length
-overflow_cast-length c = let s = c.string_at-x in let ends = s.ensures.within c.if-not-fine.false in omega (arith, ends)
+overflow_cast-length c = omega (arith, c.in_ok-long.ensures.within)
 
 pub overflow_add-at-else-b : goal.overflow_add-at-else-b
-overflow_add-at-else-b c = let s = c.string_at-x in let ends = s.ensures.within c.if-not-fine.false in omega (arith, ends)
+overflow_add-at-else-b c = omega (arith, c.in_ok-long.ensures.within)
 
 pub overflow_add-at-else-b-2 : goal.overflow_add-at-else-b-2
-overflow_add-at-else-b-2 c = let s = c.string_at-x in let ends = s.ensures.within c.if-not-fine.false in omega (arith, ends)
+overflow_add-at-else-b-2 c = omega (arith, c.in_ok-long.ensures.within)
 
 pub loop-at-smaller : goal.loop-at-smaller
-loop-at-smaller c = let s = c.string_at-x in let ends = s.ensures.within c.if-not-fine.false in omega (arith, ends)
+loop-at-smaller c = omega (arith, c.in_ok-long.ensures.within)
 
 pub loop-at-preserved : goal.loop-at-preserved
 loop-at-preserved c =
-    let s = c.string_at-x in
     let l = c.loop-at in
     let a = c.args in
-    let r = s.ensures.right c.if-not-fine.false in
-    let first = l.invariant.3 ∙ ap (strings_left a.base a.axes l.n l.v) r.2 in
-    let k = c.string_at-x.result.length in
-    (s.ensures.within c.if-not-fine.false, search rules, search rules, first ∙ left_next a.base a.axes l.n l.v (l.at + 1) k r.0 _ r.1)
+    let r = c.in_ok-long.ensures in
+    let first = l.invariant.3 ∙ ap (strings_left a.base a.axes l.n l.v) r.strings in
+    (r.within, search rules, search rules, first ∙ left_next a.base a.axes l.n l.v (l.at + 1) _ r.text _ r.size)
 
 pub returns-then-n-axes-2 : goal.returns-then-n-axes-2
 returns-then-n-axes-2 c =

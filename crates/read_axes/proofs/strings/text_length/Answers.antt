@@ -13,11 +13,9 @@ returns-then-b-escaped c =
 pub loop-i-preserved : goal.loop-i-preserved
 loop-i-preserved c =
     let l = c.loop-i in
-    let s = c.args.s.now in
-    (search rules, omega (arith, text_more l.escaped s l.i c.loop-i-test.true c.if-b-escaped.false))
+    omega (arith, text_more l.escaped c.args.s.now l.i c.loop-i-test.true c.if-b-escaped.false)
 
 pub returns : goal.returns
 returns c =
     let l = c.loop-i in
-    let s = c.args.s.now in
-    (omega (arith, text_end l.escaped s l.i c.loop-i-test.false), search rules)
+    (omega (arith, text_end l.escaped c.args.s.now l.i c.loop-i-test.false), search rules)

@@ -8,7 +8,4 @@ use Rattle.read_axes.proofs.strings.text_length.Given as goal
 
 abbrev pub invariant-loop-i : goal.invariant-loop-i
 invariant-loop-i l =
-    (l.i ≤ length l.s) × (length (text_from false l.s) ≡ l.i + length (text_from l.escaped (drop l.i l.s)))
-
-abbrev pub decreases-loop-i : goal.decreases-loop-i
-decreases-loop-i l = length l.s - l.i
+    length (text_from false l.s) ≡ l.i + length (text_from l.escaped (drop l.i l.s))
