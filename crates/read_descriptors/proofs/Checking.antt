@@ -2,8 +2,10 @@
 -- Assumes nothing.
 use Rattle.std.specs.Prelude.{if◌then◌else◌, Some, None}
 use Rattle.std.specs.Prelude.{Option as Answer}
+use Rattle.std.specs.Prelude.{is_some as is_there}
+use Rattle.std.proofs.lemmas.Option.{none-some}
 use Prim.Native.Nat.{ℕ, ◌-◌}
-use mathlib.Core.Path.{◌≡◌, refl, ap, ◌∙◌}
+use mathlib.Core.Path.{◌≡◌, refl, sym, ap, ◌∙◌}
 use mathlib.Core.Bool.{Bool, true, false, ◌&&◌, ◌||◌, false≢true}
 use mathlib.Core.List.{List, [], ◌∷◌, ◌++◌, map}
 use mathlib.Core.Option.{Option, none, some}
@@ -18,19 +20,18 @@ use Rattle.format.specs.Words.{trim_end, value_of_number, words, numbers_in}
 use Rattle.format.specs.Descriptors.{from_descriptor, descriptor, may_describe, number_said, sizes_fine, sizes_said}
 use Rattle.format.specs.Kinds.{centrings_said, kinds_said}
 use Rattle.format.specs.Strings.{Quoted, strings_said}
-use Rattle.format.specs.DataFiles.{DataFile, data_file_said, cover_said, last_numbered}
+use Rattle.format.specs.DataFiles.{data_file_said}
 use Rattle.format.specs.Calls.{padded}
 use Rattle.format.proofs.Bytes.{and_left, and_right}
 use Rattle.format.proofs.Descriptors.{drop_to_descriptor, take_trimmed}
-use Rattle.read_files.specs.Said.{is_listed, cover_code, files_answer}
-use Rattle.read_files.specs.declared.FilesSaid.{FilesSaid}
-use Rattle.read_text.specs.Numbers.{no_sizes, sizes_answer}
-use Rattle.read_text.specs.declared.numbers.Sizes.{Sizes}
+use Rattle.read_files.specs.declared.Files.{Files}
+use Rattle.read_files.specs.Files.{files_told, files_last}
+use Rattle.read_files.proofs.FileLaws.{told_none, told_some, told_last}
+use Rattle.read_text.specs.Numbers.{sizes_in}
 use Rattle.read_text.proofs.Places.{eqb_comm}
-use Rattle.read_axes.specs.declared.codes.Codes.{Codes}
-use Rattle.read_axes.specs.declared.strings.Strings.{Strings}
-use Rattle.read_axes.specs.Codes.{codes_answer}
-use Rattle.read_axes.specs.Strings.{strings_answer}
+use Rattle.read_axes.specs.declared.strings.Span.{Span}
+use Rattle.read_axes.specs.Codes.{codes_padded}
+use Rattle.read_axes.specs.Strings.{spans_from}
 use Rattle.read_descriptors.specs.declared.check.Said.{Said}
 use Rattle.read_descriptors.specs.Checked.{spoken, found, said, answered, checked, asked, oriented, NoneOf}
 
@@ -64,20 +65,27 @@ stay b y ns {x} e = rw e (go b)
 pub fine_length : (n : ℕ) (ws : List (List ℕ)) → sizes_fine n ws ≡ true → length ws ≡ n
 fine_length n ws e = eqb-true (length ws) n (and_left (eqb (length ws) n) (numbers_in 1 max_size ws) e)
 
--- by what is read
-pub sizes_read : (n m : ℕ) (t ns : List ℕ) (r : Sizes) → r ≡ sizes_answer n (words t)
-    → ◌≡◌ {A = Answer Said × List ℕ} (found r.fine 0 false, if r.fine then r.sizes else ns) (checked n m sizes t ns)
-unfolding sizes_answer may_describe
-sizes_read n m t ns r e = go (leb n max_axes && sizes_fine n (words t)) refl e
+-- none are kept, or those that are read
+pub sizes_none : (n m : ℕ) (t ns : List ℕ) → None ≡ sizes_in n (words t) → ◌≡◌ {A = Answer Said × List ℕ} (None, ns) (checked n m sizes t ns)
+unfolding sizes_in may_describe
+sizes_none n m t ns e = go (leb n max_axes && sizes_fine n (words t)) e
   where
-    go : (x : Bool) → (leb n max_axes && sizes_fine n (words t)) ≡ x
-        → r ≡ (if x then record { fine = true; sizes = map value_of_number (words t) ++ replicate (max_axes - n) 0 } else no_sizes)
-        → ◌≡◌ {A = Answer Said × List ℕ} (found r.fine 0 false, if r.fine then r.sizes else ns)
-        (found x 0 false, if x then padded (sizes_said t) else ns)
+    go : (x : Bool) → None ≡ (if x then Some (map value_of_number (words t) ++ replicate (max_axes - n) 0) else None)
+        → ◌≡◌ {A = Answer Said × List ℕ} (None, ns) (found x 0 false, if x then padded (sizes_said t) else ns)
+    go true q = absurd (none-some _ q)
+    go false q = refl
+
+pub sizes_read : (n m : ℕ) (t ns : List ℕ) (read : List ℕ) → Some read ≡ sizes_in n (words t) → ◌≡◌ {A = Answer Said × List ℕ} (Some (spoken 0 false), read) (checked n m sizes t ns)
+unfolding sizes_in may_describe
+sizes_read n m t ns read e = go (leb n max_axes && sizes_fine n (words t)) refl e
+  where
+    go : (x : Bool) → (leb n max_axes && sizes_fine n (words t)) ≡ x → Some read ≡ (if x then Some (map value_of_number (words t) ++ replicate (max_axes - n) 0) else None)
+        → ◌≡◌ {A = Answer Said × List ℕ} (Some (spoken 0 false), read) (found x 0 false, if x then padded (sizes_said t) else ns)
     go true s q =
         let k = fine_length n (words t) (and_right (leb n max_axes) (sizes_fine n (words t)) s) in
-        rw (q, length-map (words t) value_of_number, k)
-    go false s q = rw q
+        let r : read ≡ map value_of_number (words t) ++ replicate (max_axes - n) 0 = cc in
+        rw (r, length-map (words t) value_of_number, k)
+    go false s q = absurd (none-some _ (sym q))
 
 -- ---- fields that may have any descriptor: those that `check` has no arm for
 
@@ -129,26 +137,25 @@ module _ (n m f : ℕ) (t : List ℕ) (h : NoneOf f asked) (k : NoneOf f oriente
   unfolding is_in
   any_taken q = rw (axis_taken, no_number, none_is f axial q centers refl, none_is f axial q kinds refl, none_is f axial q labels refl, none_is f axial q units refl)
 
--- ---- words and strings for each axis: what is read is fine where the descriptor says it
+-- ---- words and strings for each axis: they are read where the descriptor says them
 
-pub codes_fine : (o : Option (List ℕ)) (r : Codes) → r ≡ codes_answer o → r.fine ≡ is_some o
-codes_fine none r e = rw e
-codes_fine (some ns) r e = rw e
+pub codes_there : (o : Option (List ℕ)) (r : Answer (List ℕ)) → r ≡ codes_padded o → is_there r ≡ is_some o
+codes_there none r e = rw e
+codes_there (some ns) r e = rw e
 
-pub strings_fine : (base : ℕ) (o : Option (List Quoted)) (r : Strings) → r ≡ strings_answer base o → r.fine ≡ is_some o
-unfolding strings_answer
-strings_fine base none r e = rw e
-strings_fine base (some qs) r e = rw e
+pub strings_there : (base : ℕ) (o : Option (List Quoted)) (r : Answer (List Span)) → r ≡ spans_from base o → is_there r ≡ is_some o
+unfolding spans_from
+strings_there base none r e = rw e
+strings_there base (some qs) r e = rw e
 
 -- ---- data files
 
 -- what is said of data files is the answer for that field
-pub files_said : (n m : ℕ) (t : List ℕ) (r : FilesSaid) → r ≡ files_answer (data_file_said t)
-    → (if r.fine then Some (record { number = r.last; from_end = false; list = r.list; cover = r.cover }) else None) ≡ answered n m data_file t
+pub files_none : (n m : ℕ) (t : List ℕ) → None ≡ files_told (data_file_said t) → None ≡ answered n m data_file t
 unfolding may_describe
-files_said n m t r e = rw e (go (data_file_said t) refl)
-  where
-    go : (o : Option DataFile) → data_file_said t ≡ o
-        → (if is_some o then Some (record { number = last_numbered o; from_end = false; list = is_listed o; cover = cover_code (cover_said o) }) else None) ≡ answered n m data_file t
-    go none q = rw q
-    go (some d) q = rw q
+files_none n m t e = rw (told_none (data_file_said t) e)
+
+pub files_said : (n m : ℕ) (t : List ℕ) (f : Files) → Some f ≡ files_told (data_file_said t)
+    → Some (record { number = files_last f; from_end = false; files = Some f }) ≡ answered n m data_file t
+unfolding may_describe
+files_said n m t f e = rw (told_some (data_file_said t) e, ← e, told_last (data_file_said t) e)

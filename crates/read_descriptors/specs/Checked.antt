@@ -3,14 +3,15 @@ use Rattle.std.specs.Prelude.{ℕ, ◌≡◌, Bool, false, not, ◌&&◌, ◌||�
 use Rattle.format.specs.Limits.{max_axes}
 use Rattle.format.specs.Fields.{dimension, type, encoding, endian, sizes, line_skip, byte_skip, data_file, space, space_dimension, space_origin, space_directions, measurement_frame}
 use Rattle.format.specs.Descriptors.{is_from_end, byte_skip_said, may_describe, number_said, sizes_said}
-use Rattle.format.specs.DataFiles.{data_file_said, cover_said}
+use Rattle.format.specs.DataFiles.{data_file_said}
 use Rattle.format.specs.Calls.{padded}
-use Rattle.read_files.specs.Said.{is_listed, cover_code}
+use Rattle.read_files.specs.declared.Files.{Files}
+use Rattle.read_files.specs.Files.{files_told}
 use Rattle.read_descriptors.specs.declared.check.Said.{Said}
 
 -- what a field other than data file says: a number, and whether the data is found from the end
 abbrev pub spoken : ℕ → Bool → Said
-spoken n end = record { number = n; from_end = end; list = false; cover = 0 }
+spoken n end = record { number = n; from_end = end; files = None }
 
 -- the answer for such a field
 abbrev pub found : Bool → ℕ → Bool → Option Said
@@ -24,17 +25,13 @@ takes n m f t = (not (sizes == f) || nat_le n max_axes) && may_describe n m f t
 abbrev pub says_end : ℕ → List ℕ → Bool
 says_end f t = byte_skip == f && is_from_end (byte_skip_said t)
 
--- whether the field f says with t that names follow on lines of their own: a data file of the form LIST
-abbrev pub says_list : ℕ → List ℕ → Bool
-says_list f t = data_file == f && is_listed (data_file_said t)
-
--- how many axes one data file covers, as `read_files::said` tells it; 0 for other fields
-abbrev pub says_cover : ℕ → List ℕ → ℕ
-says_cover f t = if data_file == f then cover_code (cover_said (data_file_said t)) else 0
+-- the form of data files that the field f says with t, if it is data file
+abbrev pub says_files : ℕ → List ℕ → Option Files
+says_files f t = if data_file == f then files_told (data_file_said t) else None
 
 -- what the field f says with t
 abbrev pub said : ℕ → List ℕ → Said
-said f t = record { number = number_said f t; from_end = says_end f t; list = says_list f t; cover = says_cover f t }
+said f t = record { number = number_said f t; from_end = says_end f t; files = says_files f t }
 
 -- the answer for the descriptor t of the field f
 abbrev pub answered : ℕ → ℕ → ℕ → List ℕ → Option Said

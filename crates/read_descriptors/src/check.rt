@@ -16,15 +16,14 @@ ghost use Rattle.read_descriptors.specs.declared.check.Said.{Said};
 ghost use Rattle.read_descriptors.specs.Checked.{spoken, found, answered, checked, asked, oriented, NoneOf};
 
 use format::field;
+use read_files::Files;
 
-// What a descriptor says: the number, 0 where it says none; whether the data is found from the end; whether it is LIST, after which names stand on lines of their own;
-// and how many axes one data file covers, as `read_files::said` tells it.
+// What a descriptor says: a number, 0 where it says none and of data files the number of the last one; whether the data is found from the end; and of data files the form.
 #[derive(Clone, Copy)]
 pub struct Said {
     pub number: u32,
     pub from_end: bool,
-    pub list: bool,
-    pub cover: u32,
+    pub files: Option<Files>,
 }
 
 // A number, and nothing else.
@@ -34,8 +33,7 @@ fn only(number: u32) -> Said
     Said {
         number,
         from_end: false,
-        list: false,
-        cover: 0,
+        files: None,
     }
 }
 
@@ -84,12 +82,8 @@ fn check_row(row: Option<u32>) -> Option<Said>
 fn check_sizes(t: &[u8], dimension: u32, kept: &mut [u64; format::AXES]) -> Option<Said>
     ensures { (m : ℕ) → ◌≡◌ {A = Answer Said × List ℕ} (result, kept.new) (checked dimension m sizes t.now kept.old) }
 {
-    let x = read_text::numbers::read_sizes(t, dimension as usize);
-    if !x.fine {
-        return None;
-    }
-    let said = x.sizes;
-    *kept = said;
+    let sizes = read_text::numbers::sizes_in(t, dimension as usize)?;
+    *kept = sizes;
     Some(only(0))
 }
 
@@ -97,15 +91,11 @@ fn check_sizes(t: &[u8], dimension: u32, kept: &mut [u64; format::AXES]) -> Opti
 fn check_files(t: &[u8]) -> Option<Said>
     ensures { (n m : ℕ) → result ≡ answered n m data_file t.now }
 {
-    let x = read_files::said(t);
-    if !x.fine {
-        return None;
-    }
+    let files = read_files::files_in(t)?;
     Some(Said {
-        number: x.last,
+        number: files.last(),
         from_end: false,
-        list: x.list,
-        cover: x.cover,
+        files: Some(files),
     })
 }
 
@@ -114,11 +104,8 @@ fn check_vectors(t: &[u8], count: u32, space: u32) -> Option<Said>
     ensures { space ≤ max_space → length t.now ≤ max_header → result ≡ found (is_some (vectors_said count space t.now)) 0 false }
 {
     let n = space as usize;
-    if format::SPACE < n {
-        return says_none(false);
-    }
-    if format::MAX_HEADER < t.len() {
-        return says_none(false);
+    if format::SPACE < n || format::MAX_HEADER < t.len() {
+        return None;
     }
     says_none(read_vectors::list::are_vectors(t, count as usize, n))
 }
@@ -128,11 +115,8 @@ fn check_directions(t: &[u8], count: u32, space: u32) -> Option<Said>
     ensures { space ≤ max_space → length t.now ≤ max_header → result ≡ found (is_some (directions_said count space t.now)) 0 false }
 {
     let n = space as usize;
-    if format::SPACE < n {
-        return says_none(false);
-    }
-    if format::MAX_HEADER < t.len() {
-        return says_none(false);
+    if format::SPACE < n || format::MAX_HEADER < t.len() {
+        return None;
     }
     says_none(read_vectors::list::are_directions(t, count as usize, n))
 }
@@ -143,10 +127,9 @@ fn check_codes(t: &[u8], dimension: u32, kinds: bool) -> Option<Said>
 {
     let n = dimension as usize;
     if format::AXES < n {
-        return says_none(false);
+        return None;
     }
-    let x = read_axes::codes::read_codes(t, n, kinds);
-    says_none(x.fine)
+    says_none(read_axes::codes::codes_in(t, n, kinds).is_some())
 }
 
 // A string in quotes for each axis. No header has more than 16 axes, and none is longer than the limit: both are tested here.
@@ -154,14 +137,10 @@ fn check_strings(t: &[u8], dimension: u32) -> Option<Said>
     ensures { dimension ≤ max_axes → length t.now ≤ max_header → result ≡ found (is_some (strings_said dimension t.now)) 0 false }
 {
     let n = dimension as usize;
-    if format::AXES < n {
-        return says_none(false);
+    if format::AXES < n || format::MAX_HEADER < t.len() {
+        return None;
     }
-    if format::MAX_HEADER < t.len() {
-        return says_none(false);
-    }
-    let x = read_axes::strings::read_strings(t, n, 0);
-    says_none(x.fine)
+    says_none(read_axes::strings::strings_in(t, n, 0).is_some())
 }
 
 // The descriptor t of the field f that is centers, labels, units or kinds, or a carried one, in a header of this dimension.

@@ -21,7 +21,9 @@ use Rattle.format.specs.Laws.{Each}
 use Rattle.format.proofs.Rules.{files_covered}
 use Rattle.format.proofs.Named.{Counts, said_counts, one_file_lem, product_drop, product_positive, files_divide, sample_some}
 use Rattle.read_text.proofs.Places.{eqb_comm}
-use Rattle.read_files.specs.Said.{cover_code}
+use Rattle.std.specs.Prelude.{Option as Answer}
+use Rattle.read_files.specs.declared.cover.Cover.{Cover}
+use Rattle.read_files.specs.Files.{cover_answer}
 use Rattle.read_fields.specs.States.{Kept}
 use Rattle.read_fields.specs.Shares.{slices_fit, slabs_fit, fits, fits_by}
 
@@ -96,14 +98,11 @@ module _ (n : ℕ) (ns : List ℕ) (k : ℕ) (many : length ns ≡ n) (wholes : 
           none_left true b = refl
           none_left false b = refl
 
-  pub fits_by_lem : n ≤ max_axes → (o : Option (Option ℕ)) → fits_by n ns k (cover_code o) ≡ files_fit n ns k o
+  pub fits_by_lem : n ≤ max_axes → (o : Option (Option ℕ)) → fits_by n ns k (cover_answer o) ≡ files_fit n ns k o
   unfolding fits_by
   fits_by_lem few none = refl
   fits_by_lem few (some none) = fits_is (n - 1)
-  fits_by_lem few (some (some c)) =
-      let m = min c (max_axes + 1) in
-      let a : m + 2 - 2 ≡ m = omega arith in
-      rw (ne_eqb (m + 2) 0 (λ e. omega (arith, e)), ne_eqb (m + 2) 1 (λ e. omega (arith, e)), a) (cut_fits few c)
+  fits_by_lem few (some (some c)) = cut_fits few c
 
 -- ---- how many files the fields given say
 
@@ -143,7 +142,7 @@ module _ (gs : List Given) (k : Kept gs) (given : is_given sizes gs ≡ true) (s
   samples_few = omega (arith, mul-le-mul_left (product (sizes_of gs)) (sample_some (type_of gs)))
 
   -- what the code asks of the files is what the definitions ask
-  pub files_asked : {n cover : ℕ} {ns : List ℕ} (files : ℕ) → n ≡ dimension_of gs → ns ≡ sizes_of gs → cover ≡ cover_code (cover_of gs) → files ≡ file_count_of gs → fits_by n ns files cover ≡ files_fine gs
+  pub files_asked : {n : ℕ} {cover : Answer Cover} {ns : List ℕ} (files : ℕ) → n ≡ dimension_of gs → ns ≡ sizes_of gs → cover ≡ cover_answer (cover_of gs) → files ≡ file_count_of gs → fits_by n ns files cover ≡ files_fine gs
   unfolding files_fine
   files_asked files p q c f =
       rw (p, q, c, f) (fits_by_lem (dimension_of gs) (sizes_of gs) (file_count_of gs) (k.sized given) k.wholes samples_few k.axes (cover_of gs))
@@ -160,6 +159,6 @@ module _ (gs : List Given) (k : Kept gs) (given : is_given sizes gs ≡ true) (s
           omega (arith, b, samples_few)
 
 -- the same by the sizes themselves
-pub files_are : (gs : List Given) → Kept gs → is_given sizes gs ≡ true → extent_of gs ≤ max_extent → {ns : List ℕ} {cover files : ℕ} → ns ≡ sizes_of gs → cover ≡ cover_code (cover_of gs) → files ≡ file_count_of gs
+pub files_are : (gs : List Given) → Kept gs → is_given sizes gs ≡ true → extent_of gs ≤ max_extent → {ns : List ℕ} {cover : Answer Cover} {files : ℕ} → ns ≡ sizes_of gs → cover ≡ cover_answer (cover_of gs) → files ≡ file_count_of gs
     → fits_by (length ns) ns files cover ≡ files_fine gs
 files_are gs k g small {ns} {cover} {files} p q f = files_asked gs k g small files (rw p (k.sized g)) p q f

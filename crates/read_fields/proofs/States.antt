@@ -25,7 +25,7 @@ use Rattle.format.specs.Words.{number, number_in, numbers_in, value_of_number, w
 use Rattle.format.specs.Descriptors.{forward, byte_skip_said, bytes_forward, is_from_end, byte_skip_of, raw, end_is_raw, meaning, is_detached, may_describe, number_said, number_of, dimension_of, no_space, space_size_of, sizes_said, sizes_of, endian_needed, has_needed, capped, extent_of, names_follow, file_count_of, cover_of, files_fine}
 use Rattle.format.specs.DataFiles.{is_list, DataFile, one_file, numbered_files, listed_files, data_file_said, cover_said}
 use Rattle.format.specs.Laws.{Each}
-use Rattle.read_files.specs.Said.{is_listed, cover_code}
+use Rattle.read_files.specs.Files.{cover_answer, files_told}
 use Rattle.format.specs.Header.{Item, field, given_of, closes, Entry, wrong, right, judge, refused, with_field, after_item, version_of, header_length, field_lines}
 use Rattle.format.specs.Rules.{FieldLine, Keeps}
 use Rattle.format.specs.Calls.{read_answer, padded, reading_at, reading_of}
@@ -36,7 +36,6 @@ use Rattle.format.proofs.Named.{Counts, said_counts}
 use Rattle.std.specs.Prelude.{Result, Ok, Err, IsErrAnd, Some, None}
 use Rattle.std.specs.Prelude.{Option as Answer}
 use Rattle.format.specs.declared.reason.Reason.{Reason}
-use Rattle.format.specs.declared.reason.Reason.TheVariants.{FileTooLong, NoMagic, HeaderTooLong, TooManyLines, BadByte, NoMark, UnknownField, NotInVersion, RepeatedField, OutOfOrder, BadDescriptor, BadBackslash, NoEnd, MissingField, ExtentTooLarge, SkipPastEnd, PlaceTooLarge, DataTooShort, FloatSamples, BadSample, DataEndsEarly, LentTooShort, BadCoordinates, BadKey, BadValue, WrongTable, WrongCount, NoSweep, NoSuchFile, SeveralFiles}
 use Rattle.format.specs.declared.reason.Refused.{Refused}
 use Rattle.format.specs.Reasons.{reason_number, without_line}
 use Rattle.format.specs.Answers.{reading_answered}
@@ -47,15 +46,15 @@ use Rattle.read_descriptors.proofs.Checking.{fine_length}
 use Rattle.read_fields.specs.declared.state.State.{State}
 use Rattle.read_fields.specs.declared.state.Step.{Step}
 use Rattle.read_fields.specs.declared.state.Step.TheVariants.{Closes, Passes, Gives}
-use Rattle.read_fields.specs.States.{flags, numbers_of, Kept, Holds, Known, described, step_given, step_right, numbered, with_sizes, sizes_given, step_of, stepped, kept_at, kept, kept_step, shuts, lists, no_state, cover_kept, complete_number, finished}
+use Rattle.read_fields.specs.States.{flags, numbers_of, Kept, Holds, Known, described, step_given, step_right, numbered, with_sizes, sizes_given, step_of, stepped, kept_at, kept, kept_step, shuts, lists_files, lists, no_state, cover_kept, complete_number, finished}
 
 -- ---- what a data file's descriptor says
 
 -- it is of the form LIST exactly where its meaning is a list
-listed_is : (d : List ℕ) → is_some (data_file_said d) ≡ true → is_listed (data_file_said d) ≡ is_list d
+listed_is : (d : List ℕ) → is_some (data_file_said d) ≡ true → lists_files (files_told (data_file_said d)) ≡ is_list d
 listed_is d h = go (data_file_said d) h (said_counts d)
   where
-    go : (o : Option DataFile) → is_some o ≡ true → Counts d o → is_listed o ≡ is_list d
+    go : (o : Option DataFile) → is_some o ≡ true → Counts d o → lists_files (files_told o) ≡ is_list d
     go none h c = absurd (false≢true h)
     go (some (one_file u)) h c = sym c
     go (some (numbered_files p k axes)) h c = sym c.1
@@ -134,24 +133,24 @@ module _ (f : ℕ) (d : List ℕ) (gs : List Given) where
           rw none_before (or-false (is_from_end (byte_skip_said d)))
       go false e = refl
 
-  cover_after : is_given f gs ≡ false → cover_code (cover_of (given f d ∷ gs)) ≡ cover_kept (said f d).cover (cover_code (cover_of gs))
+  cover_after : is_given f gs ≡ false → cover_answer (cover_of (given f d ∷ gs)) ≡ cover_kept (said f d).files (cover_answer (cover_of gs))
   unfolding descriptor_of
   cover_after new = go (eqb data_file f) refl
     where
-      absent : (o : Option (List ℕ)) → is_some o ≡ false → cover_code (cover_said (meaning none data_file_said o)) ≡ 0
+      absent : (o : Option (List ℕ)) → is_some o ≡ false → cover_answer (cover_said (meaning none data_file_said o)) ≡ None
       absent none e = refl
       absent (some t) e = absurd (false≢true (sym e))
 
-      keep : (x : Bool) (n : ℕ) → eqb n 0 ≡ x → n ≡ (if x then 0 else n)
-      keep true n e = eqb-true n 0 e
-      keep false n e = refl
+      told : (o : Option DataFile) → cover_answer (cover_said o) ≡ cover_kept (files_told o) None
+      told none = refl
+      told (some (one_file t)) = refl
+      told (some (numbered_files p k axes)) = refl
+      told (some (listed_files axes)) = refl
 
       go : (x : Bool) → eqb data_file f ≡ x
-          → cover_code (cover_said (meaning none data_file_said (if x then some d else descriptor_of data_file gs)))
-          ≡ cover_kept (if x then cover_code (cover_said (data_file_said d)) else 0) (cover_code (cover_of gs))
-      go true e =
-          let n = cover_code (cover_said (data_file_said d)) in
-          rw (absent (descriptor_of data_file gs) (rw (eqb-true data_file f e) new)) (keep (eqb n 0) n refl)
+          → cover_answer (cover_said (meaning none data_file_said (if x then some d else descriptor_of data_file gs)))
+          ≡ cover_kept (if x then files_told (data_file_said d) else None) (cover_answer (cover_of gs))
+      go true e = rw (absent (descriptor_of data_file gs) (rw (eqb-true data_file f e) new)) (told (data_file_said d))
       go false e = refl
 
   sizes_after : padded (sizes_of (given f d ∷ gs)) ≡ sizes_given (some (given f d)) (padded (sizes_of gs))
@@ -305,37 +304,11 @@ complete_is gs z = go (has_needed gs) refl (end_is_raw gs) (ltb max_extent (exte
     go true e true false g true k q = record { needed = e; within = ltb-false max_extent (extent_of gs) g; shared = k }
 
 -- no reason has the number 0
+some_number : (w : Reason) → reason_number w ≡ 0 → ⊥
+some_number w e = grind arith
+
 pub reason_some : (w : Reason) → eqb (reason_number w) 0 ≡ false
-reason_some FileTooLong = refl
-reason_some NoMagic = refl
-reason_some HeaderTooLong = refl
-reason_some TooManyLines = refl
-reason_some BadByte = refl
-reason_some NoMark = refl
-reason_some UnknownField = refl
-reason_some NotInVersion = refl
-reason_some RepeatedField = refl
-reason_some OutOfOrder = refl
-reason_some BadDescriptor = refl
-reason_some BadBackslash = refl
-reason_some NoEnd = refl
-reason_some MissingField = refl
-reason_some ExtentTooLarge = refl
-reason_some SkipPastEnd = refl
-reason_some PlaceTooLarge = refl
-reason_some DataTooShort = refl
-reason_some FloatSamples = refl
-reason_some BadSample = refl
-reason_some DataEndsEarly = refl
-reason_some LentTooShort = refl
-reason_some BadCoordinates = refl
-reason_some BadKey = refl
-reason_some BadValue = refl
-reason_some WrongTable = refl
-reason_some WrongCount = refl
-reason_some NoSweep = refl
-reason_some NoSuchFile = refl
-reason_some SeveralFiles = refl
+reason_some w = ne_eqb (reason_number w) 0 (some_number w)
 
 -- the answer of what is refused at the end
 pub finish_refused : (version : ℕ) (gs : List Given) (bytes count before : ℕ) (r : Result Reading Refused) (w : Reason) → IsErrAnd r (λ e. e ≡ without_line w) → reason_number w ≡ complete_number gs
@@ -555,7 +528,7 @@ unfolding names_follow descriptor_of may_describe
 list_after version gs t i j n = go (given_of i) refl
   where
     field_after : (f : ℕ) (d : List ℕ) → FieldLine version gs t f d → (x : Bool) → eqb data_file f ≡ x
-        → meaning false is_list (if x then some d else descriptor_of data_file gs) ≡ (x && is_listed (data_file_said d))
+        → meaning false is_list (if x then some d else descriptor_of data_file gs) ≡ lists_files (if x then files_told (data_file_said d) else None)
     field_after f d s true e = sym (listed_is d (subst (λ g. may_describe (dimension_of gs) (space_size_of gs) g d ≡ true) (sym (eqb-true data_file f e)) s.described))
     field_after f d s false e = n
 

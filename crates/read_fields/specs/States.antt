@@ -1,5 +1,6 @@
 -- Internal to the library. What the reader keeps of the fields given so far, and its steps.
-use Rattle.std.specs.Prelude.{ℕ, ◌+◌, ◌-◌, ◌≤◌, ◌≡◌, Bool, true, false, not, ◌||◌, List, [], nat_lt, ◌==◌, length, set, if◌then◌else◌, Result, Ok, Err}
+use Rattle.std.specs.Prelude.{ℕ, ◌+◌, ◌-◌, ◌≤◌, ◌≡◌, Bool, true, false, not, ◌||◌, List, [], nat_lt, ◌==◌, length, set, if◌then◌else◌, Result, Ok, Err, Some, None}
+use Rattle.std.specs.Prelude.{Option as Answer}
 use Rattle.std.proofs.Math.Option.{Option, none, some}
 use Rattle.format.specs.declared.ReadAnswer.{ReadAnswer}
 use Rattle.format.specs.Bytes.{is_some, each}
@@ -12,7 +13,9 @@ use Rattle.format.specs.Header.{Item, Judged, wrong, right, field, given_of, clo
 use Rattle.format.specs.Calls.{no_reading, padded, reading_at}
 use Rattle.format.specs.DataFiles.{data_file_said}
 use Rattle.format.specs.Laws.{Each}
-use Rattle.read_files.specs.Said.{cover_code}
+use Rattle.read_files.specs.declared.Files.{Files}
+use Rattle.read_files.specs.declared.cover.Cover.{Cover}
+use Rattle.read_files.specs.Files.{cover_answer, files_listed, files_cover}
 use Rattle.format.specs.declared.reason.Reason.{Reason}
 use Rattle.format.specs.Reasons.{reason_number}
 use Rattle.read_descriptors.specs.declared.check.Said.{Said}
@@ -49,7 +52,7 @@ pub record Holds (s : State) (gs : List Given) : Type 0 where
   pub numbers_are : s.numbers ≡ numbers_of gs
   pub sizes_are : s.sizes ≡ padded (sizes_of gs)
   pub end_is : s.from_end ≡ is_from_end (byte_skip_of gs)
-  pub cover_is : s.cover ≡ cover_code (cover_of gs)
+  pub cover_is : s.cover ≡ cover_answer (cover_of gs)
   pub kept : Kept gs
 
 -- what the judgement of a line has to know of the fields given: which they are, their numbers, and that no names follow them
@@ -87,10 +90,14 @@ shuts Passes = false
 shuts (Gives f x) = false
 
 -- whether a step says that names follow
+abbrev pub lists_files : Answer Files → Bool
+lists_files None = false
+lists_files (Some files) = files_listed files
+
 abbrev pub lists : Step → Bool
 lists Closes = false
 lists Passes = false
-lists (Gives f x) = x.list
+lists (Gives f x) = lists_files x.files
 
 -- the same of an answer
 abbrev pub numbered : Result Step Reason → Result Step ℕ
@@ -121,9 +128,10 @@ stepped j s = (step_of j, with_sizes s (sizes_after j s.sizes))
 abbrev pub kept_at : {A : Type 0} → ℕ → A → List A → List A
 kept_at f x l = if nat_lt f field_count then set l f x else l
 
--- how many axes a data file covers once a line is read: as it says, or as before where it says nothing of it
-abbrev pub cover_kept : ℕ → ℕ → ℕ
-cover_kept new old = if new == 0 then old else new
+-- how many axes a data file covers once a line is read: as it says, or as before where it says nothing of data files
+abbrev pub cover_kept : Answer Files → Answer Cover → Answer Cover
+cover_kept None old = old
+cover_kept (Some files) old = files_cover files
 
 -- the state once the field f is given and says x
 abbrev pub kept : ℕ → Said → State → State
@@ -134,7 +142,7 @@ kept f x s =
       numbers = kept_at f x.number s.numbers;
       sizes = s.sizes;
       from_end = x.from_end || s.from_end;
-      cover = cover_kept x.cover s.cover;
+      cover = cover_kept x.files s.cover;
     }
 
 -- once a step is kept
@@ -145,7 +153,7 @@ kept_step (Gives f x) s = kept f x s
 
 -- no field is given
 abbrev pub no_state : ℕ → State
-no_state version = record { version = version; given = flags []; numbers = numbers_of []; sizes = padded []; from_end = false; cover = 0 }
+no_state version = record { version = version; given = flags []; numbers = numbers_of []; sizes = padded []; from_end = false; cover = None }
 
 -- the number of a refusal, 0 for none
 abbrev pub wrong_of : Judged → ℕ

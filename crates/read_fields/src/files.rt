@@ -4,6 +4,7 @@ ghost use Rattle.format.specs.Limits.{max_axes};
 ghost use Rattle.read_fields.specs.Shares.{slices_fit, slabs_fit, fits, fits_by};
 
 use format_values::products;
+use read_files::cover::Cover;
 
 // Each file covers c axes, fewer than all: there is one for every place on the others.
 fn slices_fit(sizes: &[u64], last: u32, c: usize) -> bool
@@ -38,15 +39,15 @@ fn cover_fits(sizes: &[u64], last: u32, c: usize) -> bool
     }
 }
 
-// Whether the files fit: `last` is the number of the last one, counted from 0, and `cover` how many axes each covers, as `read_files::said` tells it.
+// Whether the files fit: `last` is the number of the last one, counted from 0, and `cover` how many axes each covers, where there may be several.
 #[tactic(auto, unfolding(crate::specs::Shares::fits_by))]
-pub(crate) fn fit(sizes: &[u64], cover: u32, last: u32) -> bool
+pub(crate) fn fit(sizes: &[u64], cover: Option<Cover>, last: u32) -> bool
     requires { length sizes.now ≤ max_axes }
     ensures { result ≡ fits_by (length sizes.now) sizes.now (last + 1) cover }
 {
     match cover {
-        read_files::NO_COVER => true,
-        read_files::OPEN_COVER => cover_fits(sizes, last, sizes.len().saturating_sub(1)),
-        _ => cover_fits(sizes, last, (cover - read_files::COVER_FROM) as usize),
+        None => true,
+        Some(Cover::Open) => cover_fits(sizes, last, sizes.len().saturating_sub(1)),
+        Some(Cover::Axes(c)) => cover_fits(sizes, last, c as usize),
     }
 }

@@ -11,9 +11,10 @@ use format::reason::{Reason, Refused};
 use format::{Reading, field};
 use format_values::{products, types};
 use read_descriptors::check::Said;
+use read_files::cover::Cover;
 
 // Of the lines so far: the version, which fields are given, their numbers, the sizes, whether the data is found from the end, and how many axes a data file covers,
-// as `read_files::said` tells it.
+// where there may be several.
 #[derive(Clone, Copy)]
 pub struct State {
     pub version: u32,
@@ -21,7 +22,7 @@ pub struct State {
     pub numbers: [u32; field::COUNT],
     pub sizes: [u64; format::AXES],
     pub from_end: bool,
-    pub cover: u32,
+    pub cover: Option<Cover>,
 }
 
 // What a right line comes to: it closes the header, it gives nothing, as a comment or a pair, or it gives a field, which says something.
@@ -45,7 +46,7 @@ impl Step {
         ensures { result ≡ lists self }
     {
         match self {
-            Step::Gives(_, said) => said.list,
+            Step::Gives(_, Said { files: Some(files), .. }) => files.is_listed(),
             _ => false,
         }
     }
@@ -73,7 +74,7 @@ impl State {
             numbers,
             sizes: [0u64; format::AXES],
             from_end: false,
-            cover: 0,
+            cover: None,
         }
     }
 
@@ -87,8 +88,8 @@ impl State {
                 self.numbers[f] = said.number;
             }
             self.from_end = said.from_end | self.from_end;
-            if said.cover != 0 {
-                self.cover = said.cover;
+            if let Some(files) = said.files {
+                self.cover = files.cover();
             }
         }
     }

@@ -2,4 +2,4 @@ pub mod WordLaws
 pub mod PatternLaws
 pub mod NumberLaws
 pub mod SaidLaws
-mod FileLaws
+pub mod FileLaws
