@@ -227,12 +227,12 @@ module _ (s : State) (gs : List Given) (h : Holds s gs) where
       rw (number_at dimension (omega arith), few, h.sizes_are, take_at (sizes_of gs) (replicate (max_axes - length (sizes_of gs)) 0) (dimension_of gs) (h.kept.sized e))
 
   -- the reading that they make
-  pub reading_is : (version bytes count before last : ℕ) {x size : ℕ} → last + 1 ≡ file_count_of gs → x ≡ extent_of gs → size ≡ space_size_of gs → file_count_of gs ≤ max_extent → 0 ≡ complete_number gs
+  pub reading_is : (version bytes count before last : ℕ) {there : Bool} {x size : ℕ} → there ≡ is_detached gs → last + 1 ≡ file_count_of gs → x ≡ extent_of gs → size ≡ space_size_of gs → file_count_of gs ≤ max_extent → 0 ≡ complete_number gs
       → ◌≡◌ {A = ReadAnswer} (record {
         refusal = fine;
         reading = record {
           version = version;
-          form = bool_byte (get_or s.given data_file false);
+          form = bool_byte there;
           dimension = get_or s.numbers dimension 0;
           sampletype = get_or s.numbers type 0;
           encoding = get_or s.numbers encoding 0;
@@ -254,9 +254,9 @@ module _ (s : State) (gs : List Given) (h : Holds s gs) where
         };
       }) (finished version gs bytes count before)
   unfolding finished each
-  reading_is version bytes count before last {x} {size} f e z few c =
+  reading_is version bytes count before last {there} {x} {size} d f e z few c =
       let k : min (last + 1) (2 ^ 32 - 1) ≡ file_count_of gs = omega (arith, f, few) in
-      rw (k, e, z, ← c, number_at byte_skip (omega arith), bytes_kept gs, h.marks_are, h.numbers_are, h.sizes_are, h.end_is, form_of (is_detached gs)) refl
+      rw (d, k, e, z, ← c, number_at byte_skip (omega arith), bytes_kept gs, h.marks_are, h.numbers_are, h.sizes_are, h.end_is, form_of (is_detached gs)) refl
     where
       form_of : (b : Bool) → bool_byte b ≡ (if b then 1 else 0)
       form_of true = refl
@@ -304,7 +304,7 @@ complete_is gs z = go (has_needed gs) refl (end_is_raw gs) (ltb max_extent (exte
     go true e true false g true k q = record { needed = e; within = ltb-false max_extent (extent_of gs) g; shared = k }
 
 -- no reason has the number 0
-some_number : (w : Reason) → reason_number w ≡ 0 → ⊥
+pub some_number : (w : Reason) → reason_number w ≡ 0 → ⊥
 some_number w e = grind arith
 
 pub reason_some : (w : Reason) → eqb (reason_number w) 0 ≡ false

@@ -189,7 +189,7 @@ impl State {
         let extent = self.complete(last)?;
         Ok(Reading {
             version: self.version,
-            form: self.given[field::DATA_FILE] as u32,
+            form: self.is_detached() as u32,
             dimension: self.numbers[field::DIMENSION],
             sampletype: self.numbers[field::TYPE],
             encoding: self.numbers[field::ENCODING],

@@ -19,6 +19,8 @@ use format::{ReadAnswer, Reading};
 use read_fields::judge::judge_line;
 use read_fields::state::{State, Step};
 use read_lines::LineEnds;
+use read_table::cells::Entry;
+use read_table::table;
 
 // The version of a magic.
 #[tactic(auto, unfolding(format::specs::Header::magic_version))]
@@ -148,20 +150,18 @@ pub fn read_header(file: &[u8]) -> ReadAnswer
     reading(file).into()
 }
 
-// The reading of a file's header, and where each of its lines starts, at the front of a table that is lent as a list or as bytes.
-fn read_into(file: &[u8], list: &mut [u32], bytes: &mut [u8], width: usize) -> ReadAnswer
-    ensures { ◌≡◌ {A = ReadAnswer × (List ℕ × List ℕ)} (result, (list.new, bytes.new)) (read_into width file.now list.old bytes.old) }
+// The reading of a file's header, and where each of its lines starts, at the front of a table.
+fn read_into<E: Entry>(file: &[u8], table: &mut [E]) -> Result<Reading, Refused>
+    requires { E.whole table.old }
+    ensures { ◌≡◌ {A = ReadAnswer × List E} (reading_answered result, table.new) (read_into E.entries E.holding file.now table.old) }
 {
-    let answer = read_header(file);
-    if answer.refusal.number != 0 {
-        return answer;
+    let reading = reading(file)?;
+    let count = reading.lines as usize;
+    if E::count(table) < count {
+        return Err(Reason::LentTooShort.into());
     }
-    let count = answer.reading.lines as usize;
-    if read_table::entries(list, bytes, width) < count {
-        return Err(Refused::from(Reason::LentTooShort)).into();
-    }
-    read_table::fill(file, list, bytes, width, count);
-    answer
+    table::fill(file, table, count);
+    Ok(reading)
 }
 
 // The same for a table of numbers. `MAX_LINES` entries are enough for any file.
@@ -169,8 +169,7 @@ pub fn read(file: &[u8], table: &mut [u32]) -> ReadAnswer
     ensures call { ◌≡◌ {A = ReadAnswer × List ℕ} (result, table.new) (read_call file.now table.old) }
     ensures enough { table_entries ≤ length table.old → (result ≡ read_header_call file.now) × Enough result.refusal }
 {
-    let mut none = [0u8; 1];
-    read_into(file, table, &mut none, read_table::IN_LIST)
+    read_into::<u32>(file, table).into()
 }
 
 // The same for a table in bytes, 4 an entry.
@@ -178,6 +177,5 @@ pub fn read_to_bytes(file: &[u8], table: &mut [u8]) -> ReadAnswer
     ensures call { ◌≡◌ {A = ReadAnswer × List ℕ} (result, table.new) (read_entry file.now table.old) }
     ensures enough { table_room ≤ length table.old → (result ≡ read_header_call file.now) × Enough result.refusal }
 {
-    let mut none = [0u32; 1];
-    read_into(file, &mut none, table, read_table::IN_BYTES)
+    read_into::<u8>(file, table).into()
 }

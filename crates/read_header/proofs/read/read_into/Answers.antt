@@ -1,39 +1,34 @@
 -- `read_header::read::read_into` meets its contract: the reading, then the table.
-use borrow.Author.Rules.{rules}
-use native.Mathlib.Omega.{arith}
-use mathlib.Core.Path.{◌∙◌}
-use Rattle.format.proofs.Samples.{all_bytes}
-use Rattle.read_table.specs.Tables.{lent_entries}
-use Rattle.read_table.proofs.Lent.{holds_none}
+use Rattle.std.proofs.Common.{◌∙◌, arith}
+use Rattle.std.proofs.lemmas.Result.{err_from_is_err_and}
 use Rattle.read_header.proofs.Turns.{refuses_file}
-use Rattle.read_header.proofs.Calls.{call_refused, call_short, call_lined, call_filled, call_into}
+use Rattle.read_header.proofs.Calls.{call_refused, call_short, call_lined, call_filled, into_held, into_kept}
 use Rattle.read_header.proofs.read.read_into.Goals as goal
 
-pub returns-then-answer-ne0 : goal.returns-then-answer-ne0
-returns-then-answer-ne0 c =
+pub returns-in_err-reading : goal.returns-in_err-reading
+returns-in_err-reading g c =
+    let t = g.E.Entry in
     let a = c.args in
-    let bytes = all_bytes a.bytes.now λ i. (c.type_inv.bytes i).fits in
-    call_into a.width a.file.now a.list.now a.bytes.now
-    (call_refused a.file.now (lent_entries a.width a.list.now a.bytes.now) c.read_header-answer.result c.read_header-answer.ensures c.if-answer-ne0.true)
-    (holds_none a.width a.list.now a.bytes.now bytes)
+    let e = err_from_is_err_and c.from_residual.result c.from_residual.ensures.1 in
+    let x = c.in_err-reading in
+    rw (e.1, e.2) (into_kept t.entries t.holding t.holds a.file.now a.table.now c.requires (call_refused a.file.now (t.entries a.table.now) x.field-0.0 x.ensures))
 
-pub returns-then-entries-count : goal.returns-then-entries-count
-returns-then-entries-count c =
+pub returns-then-count : goal.returns-then-count
+returns-then-count g c =
+    let t = g.E.Entry in
     let a = c.args in
-    let bytes = all_bytes a.bytes.now (λ i. search rules) in
-    let table = lent_entries a.width a.list.now a.bytes.now in
-    call_into a.width a.file.now a.list.now a.bytes.now
-    ((λ i. ((c.into.ensures ∙ refuses_file _ c.from.ensures) i, table)) ∙ call_short a.file.now table c.read_header-answer.result c.read_header-answer.ensures c.if-answer-ne0.false (omega (arith, c.entries.ensures, c.if-entries-count.true)))
-    (holds_none a.width a.list.now a.bytes.now bytes)
+    let x = c.in_ok-reading in
+    rw (refuses_file _ c.into.ensures) (into_kept t.entries t.holding t.holds a.file.now a.table.now c.requires (call_short a.file.now (t.entries a.table.now) x.reading x.ensures (omega (arith, c.count.ensures, c.if-count.true))))
 
 pub fill-requires : goal.fill-requires
-fill-requires c =
+fill-requires g c =
     let a = c.args in
-    (call_lined a.file.now (lent_entries a.width a.list.now a.bytes.now) c.read_header-answer.result c.read_header-answer.ensures c.if-answer-ne0.false, omega (arith, c.entries.ensures, c.if-entries-count.false))
+    let x = c.in_ok-reading in
+    record { lined = call_lined a.file.now (g.E.Entry.entries a.table.now) x.reading x.ensures; room = omega (arith, c.count.ensures, c.if-count.false); whole = c.requires }
 
 pub returns : goal.returns
-returns c =
+returns g c =
+    let t = g.E.Entry in
     let a = c.args in
-    call_into a.width a.file.now a.list.now a.bytes.now
-    (call_filled a.file.now (lent_entries a.width a.list.now a.bytes.now) c.read_header-answer.result c.read_header-answer.ensures c.if-answer-ne0.false (omega (arith, c.entries.ensures, c.if-entries-count.false)))
-    c.fill.ensures
+    let x = c.in_ok-reading in
+    into_held t.entries t.holding t.holds a.file.now a.table.now _ c.fill.ensures (call_filled a.file.now (t.entries a.table.now) x.reading x.ensures (omega (arith, c.count.ensures, c.if-count.false)))

@@ -13,5 +13,5 @@ returns c gs h f =
     let a = c.args in
     let z = c.in_ok-extent.ensures.refused gs h f in
     let k = complete_is gs z in
-    rw c.saturating_add.ensures (reading_is a.self.now gs h a.self.now.version a.bytes a.lines a.fieldlines a.last f (c.in_ok-extent.ensures.extent gs h f) (c.space_size.ensures gs h.marks_are h.numbers_are)
+    rw c.saturating_add.ensures (reading_is a.self.now gs h a.self.now.version a.bytes a.lines a.fieldlines a.last (c.is_detached.ensures gs h) f (c.in_ok-extent.ensures.extent gs h f) (c.space_size.ensures gs h.marks_are h.numbers_are)
     (files_at_most gs h.kept (needs_sizes gs k.needed) k.within k.shared) z)
