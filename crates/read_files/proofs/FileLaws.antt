@@ -25,7 +25,7 @@ use Rattle.read_text.proofs.NumberLaws.{number_is, number_wrong, size_out}
 use Rattle.read_decimals.specs.Parts.{number_from, digits_answer}
 use Rattle.read_decimals.specs.declared.parts.Digits.{Digits}
 use Rattle.read_decimals.proofs.DigitLaws.{suffix, after_digits_lem, number_missing, number_partly, number_whole}
-use Rattle.read_files.specs.declared.words.Place.{Place}
+use Rattle.read_text.specs.declared.numbers.Place.{Place}
 use Rattle.read_files.specs.declared.cover.Cover.{Cover}
 use Rattle.read_files.specs.declared.cover.Cover.TheVariants.{Open, Axes}
 use Rattle.read_files.specs.declared.names.Width.{Width}

@@ -24,7 +24,7 @@ use Rattle.read_text.proofs.NumberLaws.{number_is, number_wrong, size_in, size_o
 use Rattle.read_decimals.specs.Parts.{number_from, digits_answer}
 use Rattle.read_decimals.specs.declared.parts.Digits.{Digits}
 use Rattle.read_decimals.proofs.DigitLaws.{suffix, number_missing, number_partly, number_whole}
-use Rattle.read_files.specs.declared.words.Place.{Place}
+use Rattle.read_text.specs.declared.numbers.Place.{Place}
 use Rattle.read_files.specs.declared.numbering.NumberAt.{NumberAt}
 use Rattle.read_files.specs.declared.numbering.Step.{Step}
 use Rattle.read_files.specs.Parts.{begins, part, first_of, rest_of, Next, NumberRead, step_of, StepRead, numbering_of, Reach, NumberingRead}

@@ -14,7 +14,7 @@ use borrow.Author.Tests.{ne_eqb}
 use Rattle.format.specs.Bytes.{is_some, is_empty}
 use Rattle.format.specs.Words.{words}
 use Rattle.format.specs.DataFiles.{is_list, has_percent, Pattern, pattern, pattern_of, Numbering, one_file, numbered_files, axes_said, listed, numbered, pattern_said, data_file_said}
-use Rattle.read_files.specs.declared.words.Place.{Place}
+use Rattle.read_text.specs.declared.numbers.Place.{Place}
 use Rattle.read_files.specs.declared.pattern.Pattern.{Pattern as PatternAt}
 use Rattle.read_files.specs.declared.numbering.Numbers.{Numbers}
 use Rattle.read_files.specs.declared.FilesSaid.{FilesSaid}

@@ -5,7 +5,7 @@ use Rattle.format.specs.Limits.{max_file_number, max_width}
 use Rattle.format.specs.Words.{number_in, value_of_number, words}
 use Rattle.format.specs.Decimals.{digits_of}
 use Rattle.format.specs.DataFiles.{has_percent, pattern, pattern_of, width_fine, after_percent, Numbering, numbering, step_said, numbering_said}
-use Rattle.read_files.specs.declared.words.Place.{Place}
+use Rattle.read_text.specs.declared.numbers.Place.{Place}
 use Rattle.read_files.specs.declared.pattern.Width.{Width}
 use Rattle.read_files.specs.declared.pattern.Conversion.{Conversion}
 use Rattle.read_files.specs.declared.pattern.Pattern.{Pattern as PatternAt}

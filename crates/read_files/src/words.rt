@@ -2,12 +2,7 @@
 ghost use Rattle.std.specs.Prelude.{◌≤◌, length};
 ghost use Rattle.read_files.specs.Parts.{Next};
 
-// Where a word stands: from a byte to before another. Both are the same where there is no word.
-#[derive(Clone, Copy)]
-pub struct Place {
-    pub from: usize,
-    pub to: usize,
-}
+use read_text::numbers::Place;
 
 // The first word from `at` on.
 pub fn next_word(t: &[u8], at: usize) -> Place

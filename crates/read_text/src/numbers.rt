@@ -30,6 +30,13 @@ pub fn read_number(s: &[u8]) -> Option<u64>
     if v < PAST_SIZE { Some(v) } else { None }
 }
 
+// Where a word stands: from a byte to before another. Both are the same where there is no word.
+#[derive(Clone, Copy)]
+pub struct Place {
+    pub from: usize,
+    pub to: usize,
+}
+
 // How long the word at the front is: up to the next space or tab, or to the end.
 pub fn word_length(s: &[u8]) -> usize
     ensures { (result ≡ length (first_word s.now)) × (result ≤ length s.now) }

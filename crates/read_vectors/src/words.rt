@@ -4,12 +4,7 @@ ghost use Rattle.format.specs.Bytes.{space_or_tab};
 ghost use Rattle.format.specs.Vectors.{inside_after};
 ghost use Rattle.read_vectors.specs.Outside.{first_outside, Next, WordAt};
 
-// Where a word stands: from a byte to before another. Both are the same where there is no word.
-#[derive(Clone, Copy)]
-pub struct Place {
-    pub from: usize,
-    pub to: usize,
-}
+use read_text::numbers::Place;
 
 // Whether the byte b ends a word.
 fn is_end(inside: bool, b: u8) -> bool
@@ -22,13 +17,11 @@ fn is_end(inside: bool, b: u8) -> bool
 fn is_inside(inside: bool, b: u8) -> bool
     ensures { result ≡ inside_after inside b }
 {
-    if b == b'(' {
-        return true;
+    match b {
+        b'(' => true,
+        b')' => false,
+        _ => inside,
     }
-    if b == b')' {
-        return false;
-    }
-    inside
 }
 
 // How long the word at the front is: up to a space or a tab outside of brackets, or to the end.
@@ -36,16 +29,13 @@ fn word_length(s: &[u8]) -> usize
     ensures { (result ≡ length (first_outside false s.now)) × (result ≤ length s.now) }
 {
     let mut inside = false;
-    let mut i: usize = 0;
-    while i < s.len() {
-        let b = s[i];
-        if is_end(inside, b) {
+    for (i, b) in s.iter().enumerate() {
+        if is_end(inside, *b) {
             return i;
         }
-        inside = is_inside(inside, b);
-        i += 1;
+        inside = is_inside(inside, *b);
     }
-    i
+    s.len()
 }
 
 // The first word from `at` on, where no word is cut.

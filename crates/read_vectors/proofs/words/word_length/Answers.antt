@@ -17,7 +17,7 @@ loop-i-preserved c =
     let l = c.loop-i in
     let s = c.args.s.now in
     let e = sym c.is_end.ensures ∙ c.if-is_end.false in
-    (search rules, rw c.is_inside-inside.ensures (omega (arith, word_more l.inside s l.i c.loop-i-test.true e)))
+    rw c.is_inside-inside.ensures (omega (arith, word_more l.inside s l.i c.loop-i-test.true e))
 
 pub returns : goal.returns
 returns c =

@@ -1,5 +1,5 @@
 -- `words::word_length` meets its contract: nothing that ends the word was passed.
-use Prim.Native.Nat.{◌≤◌, ◌-◌, ◌+◌}
+use Prim.Native.Nat.{◌+◌}
 use mathlib.Core.Path.{◌≡◌}
 use mathlib.Core.Bool.{false}
 use lib.ListN.{length, drop}
@@ -8,7 +8,4 @@ use Rattle.read_vectors.proofs.words.word_length.Given as goal
 
 abbrev pub invariant-loop-i : goal.invariant-loop-i
 invariant-loop-i l =
-    (l.i ≤ length l.s) × (length (first_outside false l.s) ≡ l.i + length (first_outside l.inside (drop l.i l.s)))
-
-abbrev pub decreases-loop-i : goal.decreases-loop-i
-decreases-loop-i l = length l.s - l.i
+    length (first_outside false l.s) ≡ l.i + length (first_outside l.inside (drop l.i l.s))
