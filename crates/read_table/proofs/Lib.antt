@@ -1,5 +1,4 @@
 -- Laws on plain lists and on the definitions, for the proofs of this crate.
-pub mod Lent
 pub mod Packed
 pub mod Storing
 pub mod Lining
