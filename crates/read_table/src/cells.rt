@@ -15,6 +15,10 @@ pub trait Entry: Sized {
 
     ghost holds: { HoldsEntries entries holding whole };
 
+    // Does nothing: by its clause generic code knows what the type says of the cells.
+    fn know(cells: &[Self])
+        ensures { whole cells.now };
+
     // How many entries there are.
     fn count(cells: &[Self]) -> usize
         ensures { result ≡ length (entries cells.now) };
@@ -39,6 +43,8 @@ impl Entry for u32 {
 
     ghost holds = { list_holds };
 
+    fn know(_cells: &[u32]) {}
+
     fn count(cells: &[u32]) -> usize {
         cells.len()
     }
@@ -60,6 +66,8 @@ impl Entry for u8 {
     ghost whole = { λ d. (i : ℕ) → slice_index d i < 256 };
 
     ghost holds = { bytes_hold };
+
+    fn know(_bytes: &[u8]) {}
 
     fn count(bytes: &[u8]) -> usize {
         bytes.len() / 4

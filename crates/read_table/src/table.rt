@@ -13,9 +13,9 @@ use read_lines::LineEnds;
 pub fn fill<E: Entry>(file: &[u8], table: &mut [E], count: usize)
     requires lined { Lined file.now 0 count }
     requires room { count ≤ length (E.entries table.old) }
-    requires whole { E.whole table.old }
     ensures { table.new ≡ E.holding (over (starts_of file.now count) (E.entries table.old)) table.old }
 {
+    E::know(table);
     let mut at = 0;
     for k in 0..count {
         E::put(table, k, at as u32);
@@ -81,10 +81,10 @@ impl Edit {
 
 // Moves the first `count` entries with their lines, those after a new line by one place more.
 pub fn shift<E: Entry>(table: &mut [E], count: usize, edit: Edit)
-    requires shiftable { Shiftable (E.entries table.old) count edit.more edit.from edit.to edit.front }
-    requires whole { E.whole table.old }
+    requires { Shiftable (E.entries table.old) count edit.more edit.from edit.to edit.front }
     ensures { table.new ≡ E.holding (over (moved_entries edit (take count (E.entries table.old))) (E.entries table.old)) table.old }
 {
+    E::know(table);
     for k in (0..count).rev() {
         let x = E::get(table, k);
         E::put(table, edit.more + k, edit.moved(x));

@@ -30,9 +30,9 @@ fn set_into<E: Entry>(
     count: usize,
     pair: &Pair,
 ) -> SetAnswer
-    requires { E.whole table.old }
     ensures { ◌≡◌ {A = SetAnswer × (List ℕ × List E)} (result, (buf.new, table.new)) (set_into E.entries E.holding buf.old used table.old count pair.now.key.now pair.now.value.now) }
 {
+    E::know(table);
     let room = buf.len();
     if room < used {
         return answer(refusals::LENT_TOO_SHORT, used, count);

@@ -12,7 +12,7 @@ moved-requires g c =
     let l = c.loop-k in
     let a = c.args in
     let e = entry_here (moved_by a.edit.to a.edit.front) (g.E.Entry.entries a.table.now) (g.E.Entry.entries l.table) a.edit.more a.count l.k l.invariant.2 c.loop-k-test.true in
-    rw (c.get-x.ensures, e) (c.requires.shiftable.small (l.k - 1) (omega (arith, l.invariant.1, c.loop-k-test.true)))
+    rw (c.get-x.ensures, e) (c.requires.small (l.k - 1) (omega (arith, l.invariant.1, c.loop-k-test.true)))
 
 pub loop-k-preserved : goal.loop-k-preserved
 loop-k-preserved g c =
@@ -23,7 +23,7 @@ loop-k-preserved g c =
       storing_put g.E.Entry.holds l.invariant.0 (a.edit.more + (l.k - 1)) c.moved.result c.put.ensures.entries c.put.ensures.cells,
       omega (arith, l.invariant.1),
       c.put.ensures.entries
-          ∙ entry_turn f (g.E.Entry.entries a.table.now) (g.E.Entry.entries l.table) a.edit.more a.count l.k l.invariant.2 c.loop-k-test.true l.invariant.1 (omega (arith, c.requires.shiftable.room)) _ q,
+          ∙ entry_turn f (g.E.Entry.entries a.table.now) (g.E.Entry.entries l.table) a.edit.more a.count l.k l.invariant.2 c.loop-k-test.true l.invariant.1 (omega (arith, c.requires.room)) _ q,
     )
 
 pub returns-then-edit-ne0 : goal.returns-then-edit-ne0
@@ -33,12 +33,12 @@ returns-then-edit-ne0 g c =
     let s = c.put-then-edit-ne0.ensures in
     let f = moved_by a.edit.to a.edit.front in
     let old = g.E.Entry.entries a.table.now in
-    let m : a.edit.more ≡ 1 = omega (arith, c.requires.shiftable.few, c.if-edit-ne0.true) in
+    let m : a.edit.more ≡ 1 = omega (arith, c.requires.few, c.if-edit-ne0.true) in
     let e = entries_done f old (g.E.Entry.entries l.table) a.edit.more a.count l.k l.invariant.2 c.loop-k-test.false in
     storing_done g.E.Entry.holds (storing_put g.E.Entry.holds l.invariant.0 1 a.edit.from s.entries s.cells)
     (s.entries
     ∙ ap (λ r. set r 1 a.edit.from) (e ∙ ap (λ j. sets old j (map f (take a.count old))) m)
-    ∙ shifted_more a.edit.from a.edit.to a.edit.front old a.count c.requires.shiftable.some (omega (arith, c.requires.shiftable.room))
+    ∙ shifted_more a.edit.from a.edit.to a.edit.front old a.count c.requires.some (omega (arith, c.requires.room))
     ∙ ap (λ j. over (shifted a.edit.from a.edit.to a.edit.front j (take a.count old)) old) (sym m))
 
 pub returns-else-edit-ne0 : goal.returns-else-edit-ne0
@@ -51,5 +51,5 @@ returns-else-edit-ne0 g c =
     let e = entries_done f old (g.E.Entry.entries l.table) a.edit.more a.count l.k l.invariant.2 c.loop-k-test.false in
     storing_done g.E.Entry.holds l.invariant.0
     (e ∙ ap (λ j. sets old j (map f (take a.count old))) m
-    ∙ shifted_same a.edit.from a.edit.to a.edit.front old a.count (omega (arith, c.requires.shiftable.room))
+    ∙ shifted_same a.edit.from a.edit.to a.edit.front old a.count (omega (arith, c.requires.room))
     ∙ ap (λ j. over (shifted a.edit.from a.edit.to a.edit.front j (take a.count old)) old) (sym m))

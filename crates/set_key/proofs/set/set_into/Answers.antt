@@ -9,7 +9,7 @@ returns-then-room-used g c =
     let e = g.E.Entry in
     call_into e.entries e.holding a.buf.now a.used a.table.now a.count a.pair.now.key.now a.pair.now.value.now
     (call_short a.buf.now a.used (e.entries a.table.now) a.count a.pair.now.key.now a.pair.now.value.now c.if-room-used.true)
-    c.answer.ensures refl (sym (e.holds.own a.table.now c.requires))
+    c.answer.ensures refl (sym (e.holds.own a.table.now c.know.ensures))
 
 pub returns-in-Err : goal.returns-in-Err
 returns-in-Err g c =
@@ -17,7 +17,7 @@ returns-in-Err g c =
     let e = g.E.Entry in
     call_into e.entries e.holding a.buf.now a.used a.table.now a.count a.pair.now.key.now a.pair.now.value.now
     (call_kept a.buf.now a.used (e.entries a.table.now) a.count a.pair.now.key.now a.pair.now.value.now c.if-room-used.false c.in-Err.refused c.in-Err.ensures)
-    (c.answer-in-Err.ensures ∙ ap (λ r. record { refusal = r; length = a.used; count = a.count }) c.into.ensures) refl (sym (e.holds.own a.table.now c.requires))
+    (c.answer-in-Err.ensures ∙ ap (λ r. record { refusal = r; length = a.used; count = a.count }) c.into.ensures) refl (sym (e.holds.own a.table.now c.know.ensures))
 
 pub returns-in-Ok : goal.returns-in-Ok
 returns-in-Ok g c =
