@@ -46,7 +46,13 @@ impl Step {
         ensures { result ≡ lists self }
     {
         match self {
-            Step::Gives(_, Said { files: Some(files), .. }) => files.is_listed(),
+            Step::Gives(
+                _,
+                Said {
+                    files: Some(files),
+                    ..
+                },
+            ) => files.is_listed(),
             _ => false,
         }
     }

@@ -152,9 +152,9 @@ pub fn read_header(file: &[u8]) -> ReadAnswer
 
 // The reading of a file's header, and where each of its lines starts, at the front of a table.
 fn read_into<E: Entry>(file: &[u8], table: &mut [E]) -> Result<Reading, Refused>
-    requires { E.whole table.old }
     ensures { ◌≡◌ {A = ReadAnswer × List E} (reading_answered result, table.new) (read_into E.entries E.holding file.now table.old) }
 {
+    E::know(table);
     let reading = reading(file)?;
     let count = reading.lines as usize;
     if E::count(table) < count {

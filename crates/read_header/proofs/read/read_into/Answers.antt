@@ -11,20 +11,20 @@ returns-in_err-reading g c =
     let a = c.args in
     let e = err_from_is_err_and c.from_residual.result c.from_residual.ensures.1 in
     let x = c.in_err-reading in
-    rw (e.1, e.2) (into_kept t.entries t.holding t.holds a.file.now a.table.now c.requires (call_refused a.file.now (t.entries a.table.now) x.field-0.0 x.ensures))
+    rw (e.1, e.2) (into_kept t.entries t.holding t.holds a.file.now a.table.now c.know.ensures (call_refused a.file.now (t.entries a.table.now) x.field-0.0 x.ensures))
 
 pub returns-then-count : goal.returns-then-count
 returns-then-count g c =
     let t = g.E.Entry in
     let a = c.args in
     let x = c.in_ok-reading in
-    rw (refuses_file _ c.into.ensures) (into_kept t.entries t.holding t.holds a.file.now a.table.now c.requires (call_short a.file.now (t.entries a.table.now) x.reading x.ensures (omega (arith, c.count.ensures, c.if-count.true))))
+    rw (refuses_file _ c.into.ensures) (into_kept t.entries t.holding t.holds a.file.now a.table.now c.know.ensures (call_short a.file.now (t.entries a.table.now) x.reading x.ensures (omega (arith, c.count.ensures, c.if-count.true))))
 
 pub fill-requires : goal.fill-requires
 fill-requires g c =
     let a = c.args in
     let x = c.in_ok-reading in
-    record { lined = call_lined a.file.now (g.E.Entry.entries a.table.now) x.reading x.ensures; room = omega (arith, c.count.ensures, c.if-count.false); whole = c.requires }
+    record { lined = call_lined a.file.now (g.E.Entry.entries a.table.now) x.reading x.ensures; room = omega (arith, c.count.ensures, c.if-count.false) }
 
 pub returns : goal.returns
 returns g c =
