@@ -3,4 +3,3 @@ pub mod Entries
 pub mod Signs
 pub mod Joining
 pub mod Counting
-pub mod SpaceNames

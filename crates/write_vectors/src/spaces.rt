@@ -4,11 +4,27 @@ ghost use Rattle.std.proofs.lemmas.List.Edits.{sets};
 ghost use Rattle.format.specs.HeaderWriter.{space_text};
 ghost use Rattle.write_vectors.specs.Stored.{space_room};
 
-// The full names, 28 bytes each, and how many of these a name has.
-const NAMES: [u8; 336] =
-    *b"right-anterior-superior     left-anterior-superior      left-posterior-superior     right-anterior-superior-timeleft-anterior-superior-time left-posterior-superior-timescanner-xyz                 scanner-xyz-time            3D-right-handed             3D-left-handed              3D-right-handed-time        3D-left-handed-time         ";
-
-const LENGTHS: [usize; 12] = [23, 22, 23, 28, 27, 28, 11, 16, 15, 14, 20, 19];
+// The full name of a space.
+fn name(space: usize) -> &'static [u8]
+    requires { space < 12 }
+    ensures is { result.now ≡ space_text space }
+    ensures short { length result.now ≤ space_room }
+{
+    match space {
+        0 => b"right-anterior-superior",
+        1 => b"left-anterior-superior",
+        2 => b"left-posterior-superior",
+        3 => b"right-anterior-superior-time",
+        4 => b"left-anterior-superior-time",
+        5 => b"left-posterior-superior-time",
+        6 => b"scanner-xyz",
+        7 => b"scanner-xyz-time",
+        8 => b"3D-right-handed",
+        9 => b"3D-left-handed",
+        10 => b"3D-right-handed-time",
+        _ => b"3D-left-handed-time",
+    }
+}
 
 // A space by its full name.
 pub fn put_space(out: &mut [u8], at: usize, space: usize) -> usize
@@ -17,7 +33,5 @@ pub fn put_space(out: &mut [u8], at: usize, space: usize) -> usize
     ensures stored { out.new ≡ sets out.old at (space_text space) }
     ensures long { result ≤ at + space_room }
 {
-    let a = 28 * space;
-    let e = a + LENGTHS[space];
-    write_parts::bytes::put_bytes(out, at, &NAMES[a..e])
+    write_parts::bytes::put_bytes(out, at, name(space))
 }

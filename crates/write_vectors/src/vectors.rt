@@ -15,16 +15,13 @@ fn count_components(v: [Decimal; 8], n: usize) -> usize
     ensures counted { vector_of n v ≡ take result v }
     ensures few { result ≤ n }
 {
-    let mut i: usize = 0;
-    while i < n {
-        let d = v[i];
-        let kind = d.kind;
+    for i in 0..n {
+        let kind = v[i].kind;
         if kind == components::NO_DIRECTION {
             return i;
         }
-        i += 1;
     }
-    i
+    n
 }
 
 // The byte b, but not before entry 0.
@@ -35,10 +32,11 @@ fn put_gap(out: &mut [u8], at: usize, i: usize, b: u8) -> usize
     ensures long { result ≡ at + min i 1 }
 {
     if i == 0 {
-        return at;
+        at
+    } else {
+        out[at] = b;
+        at + 1
     }
-    out[at] = b;
-    at + 1
 }
 
 // The components of a vector.
@@ -49,12 +47,9 @@ fn put_components(out: &mut [u8], at: usize, v: [Decimal; 8], n: usize) -> usize
     ensures long { result ≤ at + components_room }
 {
     let mut o = at;
-    let mut i: usize = 0;
-    while i < n {
-        let d = v[i];
+    for i in 0..n {
         let from = put_gap(out, o, i, b',');
-        o = components::put_component(out, from, d);
-        i += 1;
+        o = components::put_component(out, from, v[i]);
     }
     o
 }
@@ -79,12 +74,12 @@ pub fn put_direction(out: &mut [u8], at: usize, v: [Decimal; 8], n: usize) -> us
     ensures stored { out.new ≡ sets out.old at (direction_text (direction_of n v)) }
     ensures long { result ≤ at + vector_room }
 {
-    let d = v[0];
-    let kind = d.kind;
+    let kind = v[0].kind;
     if kind == components::NO_DIRECTION {
-        return write_parts::bytes::put_bytes(out, at, b"none");
+        write_parts::bytes::put_bytes(out, at, b"none")
+    } else {
+        put_vector(out, at, v, n)
     }
-    put_vector(out, at, v, n)
 }
 
 // The directions of the first `count` axes.
@@ -101,12 +96,9 @@ pub fn put_directions(
     ensures long { result ≤ at + directions_room }
 {
     let mut o = at;
-    let mut i: usize = 0;
-    while i < count {
-        let row = m[i];
+    for i in 0..count {
         let from = put_gap(out, o, i, b' ');
-        o = put_direction(out, from, row, n);
-        i += 1;
+        o = put_direction(out, from, m[i], n);
     }
     o
 }
@@ -119,12 +111,10 @@ pub fn put_frame(out: &mut [u8], at: usize, m: [[Decimal; 8]; 8], count: usize, 
     ensures long { result ≤ at + frame_room }
 {
     let mut o = at;
-    let mut i: usize = 0;
-    while i < count {
+    for i in 0..count {
         let column = m[i];
         let from = put_gap(out, o, i, b' ');
         o = put_vector(out, from, column, n);
-        i += 1;
     }
     o
 }

@@ -18,5 +18,5 @@ returns-then-minus c =
     let p = c.put_decimal in
     rw c.if-minus.true (record { place = omega (arith, p.ensures.place.0); stored = p.ensures.stored ∙ set_then a.out.now (decimal a.size) a.at 45; long = omega (arith, p.ensures.place.0) })
 
-pub returns : goal.returns
-returns c = let p = c.put_decimal-2 in rw c.if-minus.false (record { place = p.ensures.place.0; stored = p.ensures.stored; long = omega (arith, p.ensures.place.0) })
+pub returns-else-minus : goal.returns-else-minus
+returns-else-minus c = let p = c.put_decimal-else-minus in rw c.if-minus.false (record { place = p.ensures.place.0; stored = p.ensures.stored; long = omega (arith, p.ensures.place.0) })

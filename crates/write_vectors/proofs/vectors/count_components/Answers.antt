@@ -1,7 +1,7 @@
 -- `write_vectors::vectors::count_components` meets its contract: `Passed` of Counting.antt. Assumes nothing.
 use Rattle.std.proofs.Common.{rules}
-use lib.ListN.{length}
-use mathlib.Core.Path.{◌≡◌}
+use lib.ListN.{length, take}
+use mathlib.Core.Path.{◌≡◌, ap, ◌∙◌}
 use native.Mathlib.Omega.{arith}
 use Rattle.write_vectors.proofs.Counting.{passed_none, passed_more, passed_all, passed_over}
 use Rattle.write_vectors.proofs.vectors.count_components.Goals as goal
@@ -18,4 +18,7 @@ pub loop-i-preserved : goal.loop-i-preserved
 loop-i-preserved c = let l = c.loop-i in (passed_more l.invariant.0 _ c.loop-i-test.true c.if-kind-eq-NO_DIRECTION.false, l.invariant.1)
 
 pub returns : goal.returns
-returns c = let l = c.loop-i in (record { counted = passed_over l.invariant.0 c.loop-i-test.false; few = omega arith })
+returns c =
+    let l = c.loop-i in
+    let e : l.i ≡ c.args.n = omega (arith, l.invariant.0.few, c.loop-i-test.false) in
+    record { counted = passed_over l.invariant.0 c.loop-i-test.false ∙ ap (λ k. take k c.args.v) e; few = omega arith }

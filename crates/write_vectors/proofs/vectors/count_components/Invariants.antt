@@ -1,5 +1,4 @@
 -- `write_vectors::vectors::count_components` meets its contract: `Passed` of Counting.antt. Assumes nothing.
-use Prim.Native.Nat.{◌-◌}
 use mathlib.Core.Path.{◌≡◌}
 use lib.ListN.{length}
 use Rattle.write_vectors.proofs.Counting.{Passed}
@@ -7,6 +6,3 @@ use Rattle.write_vectors.proofs.vectors.count_components.Given as goal
 
 abbrev pub invariant-loop-i : goal.invariant-loop-i
 invariant-loop-i l = Passed l.v l.n l.i × (length l.v ≡ 8)
-
-abbrev pub decreases-loop-i : goal.decreases-loop-i
-decreases-loop-i l = l.n - l.i

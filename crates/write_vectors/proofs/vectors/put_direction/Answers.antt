@@ -15,8 +15,8 @@ returns-then-kind-eq-NO_DIRECTION c =
     let put = put_is a.out.now a.at (none_is a.v a.n _ (omega (arith, long)) c.if-kind-eq-NO_DIRECTION.true) p.place p.stored in
     record { place = put.0; stored = put.1; long = omega (arith, p.place) }
 
-pub returns : goal.returns
-returns c =
+pub returns-else-kind-eq-NO_DIRECTION : goal.returns-else-kind-eq-NO_DIRECTION
+returns-else-kind-eq-NO_DIRECTION c =
     let a = c.args in
     let long : length a.v ≡ 8 = search rules in
     let p = c.put_vector.ensures in
