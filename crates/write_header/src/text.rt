@@ -58,8 +58,7 @@ fn put_origin_line(text: &mut [u8], at: usize, header: &Header) -> usize
         let e = write_vectors::vectors::put_vector(
             text,
             a,
-            given.origin,
-            shape.components as usize,
+            &given.origin[..shape.components as usize],
         );
         text[e] = b'\n';
         e + 1
@@ -82,8 +81,7 @@ fn put_directions_line(text: &mut [u8], at: usize, header: &Header) -> usize
         let e = write_vectors::vectors::put_directions(
             text,
             a,
-            given.directions,
-            shape.axes as usize,
+            &given.directions[..shape.axes as usize],
             shape.components as usize,
         );
         text[e] = b'\n';
@@ -107,8 +105,7 @@ fn put_frame_line(text: &mut [u8], at: usize, header: &Header) -> usize
         let e = write_vectors::vectors::put_frame(
             text,
             a,
-            given.frame,
-            shape.columns as usize,
+            &given.frame[..shape.columns as usize],
             shape.components as usize,
         );
         text[e] = b'\n';

@@ -2,7 +2,7 @@
 use mathlib.Core.Path.{◌≡◌, sym, ap}
 use mathlib.Core.List.{List, [], ◌∷◌, ◌++◌, map}
 use native.Mathlib.Omega.{arith}
-use lib.ListN.{take, length-set}
+use lib.ListN.{take, length-set, length-take}
 use Rattle.format.specs.declared.Decimal.{Decimal}
 use Rattle.format.specs.Bytes.{OPEN, CLOSE, COMMA}
 use Rattle.format.specs.HeaderWriter.{component_text, joined, vector_text}
@@ -14,7 +14,7 @@ unfolding vector_text
 vector_is u v e = ap vector_text (sym e)
 
 pub put_components-end-requires : goal.put_components-end-requires
-put_components-end-requires c = (omega (arith, c.requires, c.count_components.ensures.few), simp length-set (omega (arith, c.requires)))
+put_components-end-requires c = (omega (arith, c.requires, length-take c.count_components-n.result c.args.v.now), simp length-set (omega (arith, c.requires)))
 
 pub bounds-out-end : goal.bounds-out-end
 bounds-out-end c =
@@ -27,8 +27,8 @@ shape_of-out c = simp length-set (simp length-set at c.put_components-end.auto.o
 pub returns : goal.returns
 returns c =
     let a = c.args in
-    let k = c.count_components in
+    let k = c.count_components-n in
     let p = c.put_components-end in
-    let e = enclosed_put a.out.now a.at (joined COMMA (map component_text (take k.result a.v))) p.ensures.place p.ensures.stored in
+    let e = enclosed_put a.out.now a.at (joined COMMA (map component_text (take k.result a.v.now))) p.ensures.place p.ensures.stored in
     let put = put_is a.out.now a.at (vector_is _ _ k.ensures.counted) e.0 e.1 in
     record { place = put.0; stored = put.1; long = omega (arith, p.ensures.long) }
