@@ -11,18 +11,14 @@ use crate::decimals;
 fn sign_length(x: u64) -> usize
     ensures { result ≡ sign_length x }
 {
-    if x < 9223372036854775808 { 0 } else { 1 }
+    (x.cast_signed() < 0) as usize
 }
 
 // A sample without its sign.
 fn absolute(x: u64) -> u64
     ensures { result ≡ absolute x }
 {
-    if x < 9223372036854775808 {
-        x
-    } else {
-        18446744073709551615 - x + 1
-    }
+    x.cast_signed().unsigned_abs()
 }
 
 // How many bytes a sample takes as text.

@@ -20,6 +20,6 @@ returns c =
     let value = a.value.now in (record {
       place = omega (arith, p.ensures.place, q.ensures.place, value_length name value);
       stored = ap (λ (d : List ℕ). set d q.result 10) (q.ensures.stored ∙ ap (λ (d : List ℕ). sets d p.result value) p.ensures.stored)
-            ∙ value_stored a.out.now name value a.at p.result q.result p.ensures.place q.ensures.place;
+          ∙ value_stored a.out.now name value a.at p.result q.result p.ensures.place q.ensures.place;
       long = omega (arith, p.ensures.place, q.ensures.place);
     })

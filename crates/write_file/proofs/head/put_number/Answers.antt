@@ -25,6 +25,6 @@ returns c =
     let value = decimal a.n in (record {
       place = omega (arith, p.ensures.place, q.ensures.place.0, value_length name value);
       stored = ap (λ (d : List ℕ). set d q.result 10) (q.ensures.stored ∙ ap (λ (d : List ℕ). sets d p.result value) p.ensures.stored)
-            ∙ value_stored a.out.now name value a.at p.result q.result p.ensures.place q.ensures.place.0;
+          ∙ value_stored a.out.now name value a.at p.result q.result p.ensures.place q.ensures.place.0;
       long = omega (arith, p.ensures.place, q.ensures.place.1);
     })
