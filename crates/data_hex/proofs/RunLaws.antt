@@ -1,15 +1,14 @@
--- Laws of a run of digits with no blank between them, stored 8 at a time.
+-- Laws of a run of digits with no blank between them, stored as they are.
 -- Assumes nothing.
-use Prim.Native.Nat.{ℕ, zero, suc, ◌+◌, ◌*◌, ◌≤◌, ◌<◌}
+use Prim.Native.Nat.{ℕ, zero, suc, ◌+◌, ◌-◌, ◌≤◌, ◌<◌}
 use native.Mathlib.Numerals.{add-one}
 use native.Mathlib.Omega.{arith}
-use mathlib.Core.Path.{◌≡◌, ap, ◌∙◌}
-use mathlib.Core.List.{List, ◌∷◌}
+use mathlib.Core.Path.{◌≡◌, sym, ap, ◌∙◌}
+use mathlib.Core.List.{List, ◌∷◌, ◌++◌}
+use borrow.Rule.Slice.PartMut.{put_mid}
+use Rattle.std.proofs.lemmas.Slice.{put_mid-paste}
 use lib.ListN.{length, take, drop, get_or, set, length-set, length-drop}
-use lib.Seq.{sets, drop-cons, length-take-le}
-use Rattle.format.specs.Samples.{from_bytes, to_bytes}
-use Rattle.format.proofs.Samples.{all_bytes, to_from_bytes}
-use Rattle.format.proofs.Boundary.{bytes_take, bytes_drop}
+use lib.Seq.{sets, sets-eq, drop-cons, length-take-le, take_all}
 use Rattle.data_hex.specs.Forms.{Run, Moved}
 use Rattle.data_hex.proofs.DigitLaws.{high_solid}
 use Rattle.data_hex.proofs.BlockLaws.{kept}
@@ -31,19 +30,15 @@ module _ (s : List ℕ) where
       let here : take (suc n) (drop i s) ≡ b ∷ take n (drop (suc i) s) = ap (take (suc n)) (drop-cons s i 0 (omega arith)) in
       rw (y, z, here) (run_moved n (suc i) (omega arith) next (set d o b) (suc o) (omega (arith, length-set d o b)) ∙ first)
 
-  module _ (bytes : (i : ℕ) → get_or s i 0 < 256) where
-    -- the bytes of the number that is loaded
-    loaded : (i w : ℕ) → i + w ≤ length s → to_bytes w (from_bytes (take w (drop i s))) ≡ take w (drop i s)
-    loaded i w h =
-        let t = take w (drop i s) in
-        let n : length t ≡ w = length-take-le w (drop i s) (omega (arith, length-drop i s)) in
-        rw n at (to_from_bytes t (bytes_take w (drop i s) (bytes_drop i s (all_bytes s bytes))))
-
-    -- 8 digits more
-    pub copy_more : (at : ℕ) → at + 32 ≤ length s → Run s at 32 → (c : List ℕ) (o : ℕ) (d : List ℕ) (j : ℕ) → Moved s at (at + 8 * j) c o d (o + 8 * j) → j < 4 → o + 32 ≤ length d → (x : ℕ)
-        → x ≡ from_bytes (take 8 (drop (at + 8 * j) s)) → (d' : List ℕ) → d' ≡ sets d (o + 8 * j) (to_bytes 8 x) → Moved s at (at + 8 * (j + 1)) c o d' (o + 8 * (j + 1))
-    copy_more at h r c o d j p few l x e d' q =
-        let y : at + 8 * (j + 1) ≡ at + 8 * j + 8 = omega arith in
-        let z : o + 8 * (j + 1) ≡ o + 8 * j + 8 = omega arith in
-        let part : Run s (at + 8 * j) 8 = λ k b. let u : at + (8 * j + k) ≡ at + 8 * j + k = omega arith in rw u at (r (8 * j + k) (omega arith)) in
-        rw (y, z, q, e, loaded (at + 8 * j) 8 (omega arith)) (run_moved 8 (at + 8 * j) (omega arith) part d (o + 8 * j) (omega arith) ∙ p)
+  -- n of them, in one copy
+  pub run_copied : (at n : ℕ) → at + n ≤ length s → Run s at n → (d xs : List ℕ) (o : ℕ) → o + n ≤ length d → xs ≡ take (at + n - at) (drop at s)
+      → Moved s at (at + n) d o (put_mid o (o + n - o) d xs) (o + n)
+  run_copied at n h r d xs o l e =
+      let u = take n (drop at s) in
+      let m : at + n - at ≡ n = omega arith in
+      let k : length u ≡ n = length-take-le n (drop at s) (omega (arith, length-drop at s)) in
+      let same : put_mid o (o + n - o) d xs ≡ sets d o u =
+      put_mid-paste o (o + n - o) d xs u n (e ∙ ap (λ i. take i (drop at s)) m) (omega arith) (sym k)
+      ∙ ap (λ i. take o d ++ take n u ++ drop (o + i) d) (sym k) ∙ ap (λ x. take o d ++ x ++ drop (o + length u) d) (take_all n u (omega (arith, k)))
+      ∙ sym (sets-eq u d o (omega (arith, k))) in
+      rw same (run_moved n at h r d o l)

@@ -12,10 +12,8 @@ fn no_blanks(s: &[u8], at: usize) -> bool
     ensures { result ≡ true → Run s.now at 32 }
 {
     let mut fine = true;
-    let mut j: usize = 0;
-    while j < 32 {
+    for j in 0..32 {
         fine = fine & (32 < s[at + j]);
-        j += 1;
     }
     fine
 }
@@ -25,24 +23,17 @@ fn is_run(s: &[u8], at: usize, room: usize) -> bool
     requires { at ≤ length s.now }
     ensures { result ≡ true → (at + 32 ≤ length s.now) × ((32 ≤ room) × Run s.now at 32) }
 {
-    if (32 <= s.len() - at) & (32 <= room) {
-        return no_blanks(s, at);
-    }
-    false
+    32 <= s.len() - at && 32 <= room && no_blanks(s, at)
 }
 
-// 32 digits with no blank between them, 8 at a time, of which the compiler makes moves of 16 bytes.
+// 32 digits with no blank between them.
 fn copy(s: &[u8], at: usize, d: &mut [u8], o: usize)
     requires bytes_there { at + 32 ≤ length s.now }
     requires room { o + 32 ≤ length d.old }
     requires run { Run s.now at 32 }
     ensures { Moved s.now at (at + 32) d.old o d.new (o + 32) }
 {
-    let mut j: usize = 0;
-    while j < 4 {
-        lent_numbers::store::<8>(d, o + 8 * j, lent_numbers::load::<8>(s, at + 8 * j));
-        j += 1;
-    }
+    d[o..o + 32].copy_from_slice(&s[at..at + 32]);
 }
 
 // Whether the 48 bytes from a place on are two above 32 and one of at most 32, 16 times.
@@ -52,10 +43,8 @@ fn blanks_third(s: &[u8], at: usize) -> bool
     ensures { result ≡ true → Spaced s.now at 48 }
 {
     let mut fine = true;
-    let mut j: usize = 0;
-    while j < 48 {
+    for j in 0..48 {
         fine = fine & ((s[at + j] <= 32) == (j % 3 == 2));
-        j += 1;
     }
     fine
 }
@@ -66,13 +55,8 @@ fn is_spaced(s: &[u8], at: usize, room: usize) -> bool
     requires { at ≤ length s.now }
     ensures { result ≡ true → (at + 48 ≤ length s.now) × ((32 ≤ room) × (Spaced s.now at 48 × (blank (slice_index s.now (at + 47)) ≡ true))) }
 {
-    if (48 <= s.len() - at) & (32 <= room) {
-        // other shapes of data mostly end here
-        if blanks::is_blank(s[at + 47]) {
-            return blanks_third(s, at);
-        }
-    }
-    false
+    // other shapes of data mostly end at the test of the last byte
+    48 <= s.len() - at && 32 <= room && blanks::is_blank(s[at + 47]) && blanks_third(s, at)
 }
 
 // Two digits that one number holds. The compiler makes one store of it.
@@ -92,11 +76,9 @@ fn copy_pairs(s: &[u8], at: usize, d: &mut [u8], o: usize)
     requires ends_blank { blank (slice_index s.now (at + 47)) ≡ true }
     ensures { digits_refusal 32 (digits_at s.now at) ≡ 0 → Moved s.now at (at + 48) d.old o d.new (o + 32) }
 {
-    let mut j: usize = 0;
-    while j < 16 {
+    for j in 0..16 {
         let x = load_pair(s, at + 3 * j);
         store_pair(d, o + 2 * j, x);
-        j += 1;
     }
 }
 
@@ -108,12 +90,10 @@ fn squeeze(s: &[u8], at: usize, c: usize, d: &mut [u8], o: usize) -> usize
     ensures moved { digits_refusal c (digits_at s.now at) ≡ 0 → Moved s.now at (at + c) d.old o d.new result }
 {
     let mut e = o;
-    let mut j: usize = 0;
-    while j < c {
+    for j in 0..c {
         let b = s[at + j];
         d[e] = b;
         e += blanks::one_if(32 < b) as usize;
-        j += 1;
     }
     e
 }
