@@ -207,7 +207,7 @@ module _ (n at w k m o : ℕ) (h : at + suc w ≤ n) (p : 32 ≤ m - o) where
   more_end = (omega arith, (h, (omega arith, omega arith)))
 
 -- at most 25 bytes of those that are left, and of those that may be stored
-module _ (n at k m o l c : ℕ) (h : at < n) (p : o < m) (q : m ≤ k) (e : l ≡ min (n - at) (m - o)) (g : c ≡ min 25 l) where
+module _ (n at k m o l c : ℕ) (h : at < n) (p : o < m) (q : m ≤ k) (e : l ≡ min (n - at) (m - o)) (g : c ≡ min l 25) where
   pub few_fit : (at + c ≤ n) × (o + c ≤ k)
   few_fit = (omega arith, omega arith)
 

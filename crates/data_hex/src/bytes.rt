@@ -98,13 +98,6 @@ fn squeeze(s: &[u8], at: usize, c: usize, d: &mut [u8], o: usize) -> usize
     e
 }
 
-// The lesser of two numbers.
-pub(crate) fn least(a: usize, b: usize) -> usize
-    ensures { result ≡ min a b }
-{
-    if a < b { a } else { b }
-}
-
 // A place in the data, and the end of what is stored.
 #[derive(Clone, Copy)]
 struct Place {
@@ -138,7 +131,7 @@ fn put_some(s: &[u8], at: usize, m: usize, d: &mut [u8], o: usize) -> Place
     if s[at] <= 32 {
         return Place { at: at + 1, end: o };
     }
-    let c = least(25, least(s.len() - at, m - o));
+    let c = (s.len() - at).min(m - o).min(25);
     let end = squeeze(s, at, c, d, o);
     Place { at: at + c, end }
 }
@@ -169,10 +162,8 @@ fn make_values(d: &mut [u8], k: usize)
     requires k_up_to_8 { k ≤ 8 }
     ensures { d.new ≡ take (32 * k) (map digit_value d.old) ++ drop (32 * k) d.old }
 {
-    let mut j: usize = 0;
-    while j != 32 * k {
+    for j in 0..32 * k {
         d[j] = data_hex_digits::value(d[j]);
-        j += 1;
     }
 }
 
@@ -207,10 +198,8 @@ fn make_bytes(d: &[u8], bytes: &mut [u8], k: usize)
     requires k_up_to_8 { k ≤ 8 }
     ensures { bytes.new ≡ take (16 * k) (pairs_of d.now) ++ drop (16 * k) bytes.old }
 {
-    let mut j: usize = 0;
-    while j != 16 * k {
+    for j in 0..16 * k {
         bytes[j] = byte_of(load_pair(d, 2 * j));
-        j += 1;
     }
 }
 

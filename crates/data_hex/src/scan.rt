@@ -13,13 +13,11 @@ fn block_digits(s: &[u8], at: usize) -> u8
 {
     let mut digits: u8 = 0;
     let mut fine = true;
-    let mut j: usize = 0;
-    while j < 64 {
+    for j in 0..64 {
         let b = s[at + j];
         let d = data_hex_digits::is_digit(b);
         digits += blanks::one_if(d);
         fine = fine & (d | blanks::is_blank(b));
-        j += 1;
     }
     if fine { digits } else { 255 }
 }

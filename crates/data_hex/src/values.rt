@@ -23,10 +23,8 @@ fn has_high(bytes: &[u8], m: usize, top: usize) -> bool
     ensures { result ≡ has_high m top bytes.now }
 {
     let mut high = false;
-    let mut i: usize = 0;
-    while i < m {
+    for i in 0..m {
         high = high | (128 <= bytes[8 * i + top]);
-        i += 1;
     }
     high
 }
@@ -74,7 +72,7 @@ pub(crate) fn check_values(s: &[u8], n: usize, big: bool) -> Result<(), Reason>
     let mut k: usize = 0;
     // a step of up to 16 samples
     while k < n {
-        let m = bytes::least(16, n - k);
+        let m = (n - k).min(16);
         at = check_block(s, at, m, big, &mut d, &mut bytes)?;
         k += m;
     }

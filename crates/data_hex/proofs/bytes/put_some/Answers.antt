@@ -74,7 +74,7 @@ overflow_sub-m-3 c = le_of_lt c.requires.o_below_m
 pub squeeze-end-requires : goal.squeeze-end-requires
 squeeze-end-requires c =
     let a = c.args in
-    let f = few_fit (length a.s.now) a.at (length a.d.now) a.m a.o _ _ c.requires.at_inside c.requires.o_below_m c.requires.room c.least.ensures c.least-c.ensures in
+    let f = few_fit (length a.s.now) a.at (length a.d.now) a.m a.o _ _ c.requires.at_inside c.requires.o_below_m c.requires.room c.min.ensures c.min-c.ensures in
     record { bytes_there = f.0; room = f.1 }
 
 pub overflow_add-result-2 : goal.overflow_add-result-2
@@ -85,6 +85,6 @@ returns c =
     let a = c.args in
     let n = length a.s.now in
     let k = length a.d.now in
-    let l = c.least.ensures in
-    let e = c.least-c.ensures in
+    let l = c.min.ensures in
+    let e = c.min-c.ensures in
     let r = c.squeeze-end.ensures in record { ahead = few_end n a.at k a.m a.o _ _ c.requires.at_inside c.requires.o_below_m c.requires.room l e _ r.between; moved = λ f. r.moved (refusal_first (digits_at a.s.now a.at) (few_wanted n a.at k a.m a.o _ _ c.requires.at_inside c.requires.o_below_m c.requires.room l e) f) }

@@ -6,18 +6,18 @@ use borrow.Author.Rules.{rules}
 use Rattle.data_hex.proofs.scan.block_digits.Goals as goal
 
 pub loop-j-init : goal.loop-j-init
-loop-j-init c = (search rules, counting_none c.args.s.now c.args.at)
+loop-j-init c = counting_none c.args.s.now c.args.at
 
 pub loop-j-preserved : goal.loop-j-preserved
 loop-j-preserved c =
     let a = c.args in
-    (search rules, counting_more a.s.now a.at c.loop-j.invariant.1 (omega arith) _ _ c.is_digit-d.ensures.ranges c.is_blank.ensures _ c.one_if-digits.ensures)
+    counting_more a.s.now a.at c.loop-j.invariant (omega arith) _ _ c.is_digit-d.ensures.ranges c.is_blank.ensures _ c.one_if-digits.ensures
 
 pub returns-then-fine : goal.returns-then-fine
 returns-then-fine c =
     let i = c.loop-j in
     let j : i.j ≡ 64 = omega arith in
-    λ n. (omega (arith, i.invariant.1.few), rw j at (i.invariant.1.good c.if-fine.true))
+    λ n. (omega (arith, i.invariant.few), rw j at (i.invariant.good c.if-fine.true))
 
 pub returns-else-fine : goal.returns-else-fine
 returns-else-fine c = λ n. absurd (n refl)

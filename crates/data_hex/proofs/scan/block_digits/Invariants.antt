@@ -1,10 +1,6 @@
 -- `block_digits` meets its contract. The invariant: what is counted are the digits of the bytes passed, where there was nothing else than digits and blanks.
-use Prim.Native.Nat.{◌-◌, ◌≤◌}
 use Rattle.data_hex.proofs.DigitLaws.{Counting}
 use Rattle.data_hex.proofs.scan.block_digits.Given as goal
 
 abbrev pub invariant-loop-j : goal.invariant-loop-j
-invariant-loop-j l = (l.j ≤ 64) × Counting l.s l.at l.digits l.fine l.j
-
-abbrev pub decreases-loop-j : goal.decreases-loop-j
-decreases-loop-j l = 64 - l.j
+invariant-loop-j l = Counting l.s l.at l.digits l.fine l.j

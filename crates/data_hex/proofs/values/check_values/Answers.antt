@@ -16,10 +16,10 @@ returns-in_err-at c = λ f.
     let a = c.args in
     let h = err_from_is_err_and c.from_residual.result c.from_residual.ensures.1 in
     ap refusal_number h.1 ∙ ap reason_number h.2
-    ∙ checking_bad unsigned 8 (endian_by a.big) a.n a.s.now c.loop-k.invariant.0 c.least-m.result (omega (arith, c.least-m.ensures)) _ c.in_err-at.ensures.checked (some_number c.in_err-at.field-0.0) f
+    ∙ checking_bad unsigned 8 (endian_by a.big) a.n a.s.now c.loop-k.invariant.0 c.min-m.result (omega (arith, c.min-m.ensures)) _ c.in_err-at.ensures.checked (some_number c.in_err-at.field-0.0) f
 
 pub loop-k-preserved : goal.loop-k-preserved
 loop-k-preserved c =
     let a = c.args in
     let e = c.in_ok-at.ensures in
-    (checking_more unsigned 8 (endian_by a.big) a.n a.s.now c.loop-k.invariant.0 c.least-m.result (omega (arith, c.least-m.ensures)) c.in_ok-at.at e.passed.0 (λ f. (e.passed.1 f, sym (e.checked f))), (search rules, search rules))
+    (checking_more unsigned 8 (endian_by a.big) a.n a.s.now c.loop-k.invariant.0 c.min-m.result (omega (arith, c.min-m.ensures)) c.in_ok-at.at e.passed.0 (λ f. (e.passed.1 f, sym (e.checked f))), (search rules, search rules))
