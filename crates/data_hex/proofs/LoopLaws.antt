@@ -6,18 +6,14 @@ use native.Mathlib.Omega.{arith}
 use mathlib.Core.Path.{◌≡◌, refl, sym, ap, ◌∙◌}
 use mathlib.Core.List.{List, ◌++◌, append-nil, append_assoc}
 use lib.IntN.{ℤ}
-use lib.ListN.{length, take, drop, get_or, length-append, length-drop, drop_of_length-le}
+use lib.ListN.{length, take, drop, length-append, length-drop, drop_of_length-le}
 use lib.Seq.{drop-drop, take_all, take_at, drop_at}
 use Rattle.format.specs.Bytes.{over}
-use Rattle.format.specs.Boundary.{words_of_samples}
 use Rattle.format.specs.Descriptors.{NumberKind}
 use Rattle.format.specs.declared.reason.Reason.{Reason}
 use Rattle.format.specs.Reasons.{reason_number}
 use Rattle.format.specs.Samples.{Decoded, hex_samples, raw_samples, without_blanks}
-use Rattle.format.proofs.Samples.{all_bytes}
-use Rattle.lent_numbers.specs.Packed.{samples_over}
 use Rattle.lent_numbers.specs.Widths.{Width}
-use Rattle.format.proofs.Boundary.{samples_over_lem}
 use Rattle.lent_numbers.proofs.WidthLaws.{width_le, width_pos}
 pub use Rattle.data_raw.proofs.BlockLaws.{Storing, storing, place_more}
 use Rattle.data_hex.specs.Forms.{digits_at, digits_refusal, bytes_of, Enough, Past, Taken, samples_at}
@@ -182,16 +178,3 @@ module _ {A : Type 0} (f : Storing ℤ A) (k : NumberKind) (w e n : ℕ) (s : Li
     filling_done h z =
         let q : j ≡ n = omega (arith, c.few) in
         rw (all_raw z) (rw q at (c.goes z).1)
-
--- ---- lent bytes
-
-module _ (k : NumberKind) (w e n : ℕ) (s d : List ℕ) (h : n ≤ length d / 8) (b : (i : ℕ) → get_or d i 0 < 256) where
-  -- samples at the front of lent bytes, by the bytes that hold them
-  over_words : (x : List ℕ) → (raw_samples k w e n x).number ≡ 0 → samples_over (raw_samples k w e n x).seen d ≡ over (words_of_samples (raw_samples k w e n x).seen) d
-  over_words x z = samples_over_lem d (all_bytes d b) (raw_samples k w e n x).seen (omega (arith, raw_all k w e n x z))
-
-  pub hex_words : (y : List ℕ) → (hex_samples k w e n (without_blanks s)).number ≡ 0 → y ≡ over (words_of_samples (hex_samples k w e n (without_blanks s)).seen) d
-      → y ≡ samples_over (hex_samples k w e n (without_blanks s)).seen d
-  hex_words y z p =
-      let t : hex_samples k w e n (without_blanks s) ≡ samples_at k w e n s 0 = hex_raw k w e n (without_blanks s) (hex_fine k w e n (without_blanks s) z) in
-      p ∙ sym (rw t (over_words (bytes_of (without_blanks s)) (sym (ap (λ (a : Decoded). a.number) t) ∙ z)))

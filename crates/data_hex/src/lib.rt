@@ -13,8 +13,6 @@ use lent_numbers::cell::Cell;
 mod blanks;
 mod blocks;
 mod bytes;
-pub mod list;
-pub mod packed;
 mod scan;
 mod values;
 

@@ -13,9 +13,7 @@ use format::reason::Reason;
 use lent_numbers::cell::Cell;
 
 mod cells;
-pub mod list;
 mod number;
-pub mod packed;
 
 // 1 for a number above the largest sample, or 0.
 fn is_above(x: u64) -> u64

@@ -1,5 +1,4 @@
 -- `copy` meets its contract: digits with no blank between them are stored as they are.
-use Rattle.std.proofs.Common.{arith}
 use Rattle.data_hex.proofs.RunLaws.{run_copied}
 use Rattle.data_hex.proofs.bytes.copy.Goals as goal
 

@@ -2,7 +2,6 @@
 use native.Mathlib.Omega.{arith}
 use mathlib.Core.Path.{◌≡◌, refl}
 use Rattle.data_hex.proofs.DigitLaws.{counting_none, counting_more}
-use borrow.Author.Rules.{rules}
 use Rattle.data_hex.proofs.scan.block_digits.Goals as goal
 
 pub loop-j-init : goal.loop-j-init
