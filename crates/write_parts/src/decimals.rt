@@ -4,6 +4,8 @@ ghost use Rattle.std.proofs.lemmas.List.Edits.{sets};
 ghost use Rattle.format.specs.Writer.{decimal};
 ghost use Rattle.write_parts.specs.Stored.{digits};
 
+// The functions below come in sizes, each made of the next smaller one: a const argument that is half of another is not to be had.
+
 // The digits of a number below 100, with a zero in front where it has only one.
 fn put_two(out: &mut [u8], at: usize, n: u64) -> usize
     requires { (n < 100) × (at + 2 ≤ length out.old) }

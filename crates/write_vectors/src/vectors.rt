@@ -23,6 +23,8 @@ fn count_components(v: &[Decimal]) -> usize
     v.len()
 }
 
+// Components, directions and columns have a loop each: what is stored of an entry has its own type and its own bound in the contract.
+
 // The byte b, but not before entry 0.
 fn put_gap(out: &mut [u8], at: usize, i: usize, b: u8) -> usize
     requires { at + min i 1 ≤ length out.old }
