@@ -19,7 +19,7 @@ use format::field;
 use format::reason::Reason;
 use read_text::lines::Kind;
 
-// A pair: is it right?
+// Whether a pair is right.
 #[tactic(auto, using(crate::proofs::Judging::pair_tests))]
 fn on_pair(version: u32, key: &[u8], value: &[u8]) -> Result<(), Reason>
     ensures { refusal_number result ≡ wrong_of (on_pair version key.now value.now) }
@@ -40,6 +40,7 @@ fn on_pair(version: u32, key: &[u8], value: &[u8]) -> Result<(), Reason>
 }
 
 // Whether dimension is given where the field comes after it.
+#[tactic(auto, using(crate::proofs::Judging::axes_by_flags))]
 fn is_after_dimension(f: usize, given: &[bool; field::COUNT]) -> bool
     ensures { (gs : List Given) → given.now ≡ flags gs → result ≡ (not (needs_dimension f) || is_given dimension gs) }
 {
@@ -51,12 +52,12 @@ fn is_in_order(f: usize, given: &[bool; field::COUNT]) -> bool
     ensures { (gs : List Given) → given.now ≡ flags gs → result ≡ in_order f gs }
 {
     if f < field::SPACE {
-        return is_after_dimension(f, given);
+        is_after_dimension(f, given)
+    } else if format_values::fields::needs_space(f) {
+        is_after_dimension(f, given) & (given[field::SPACE] | given[field::SPACE_DIMENSION])
+    } else {
+        is_after_dimension(f, given)
     }
-    if format_values::fields::needs_space(f) {
-        return is_after_dimension(f, given) & (given[field::SPACE] | given[field::SPACE_DIMENSION]);
-    }
-    is_after_dimension(f, given)
 }
 
 // Whether the field is given already, or one that says the same: space and space dimension do.
@@ -66,22 +67,24 @@ fn is_repeated(f: usize, given: &[bool; field::COUNT]) -> bool
     ensures { (gs : List Given) → given.now ≡ flags gs → result ≡ is_repeated f gs }
 {
     if f < field::SPACE {
-        return given[f];
+        given[f]
+    } else if f <= field::SPACE_DIMENSION {
+        given[field::SPACE] | given[field::SPACE_DIMENSION]
+    } else {
+        given[f]
     }
-    if f <= field::SPACE_DIMENSION {
-        return given[field::SPACE] | given[field::SPACE_DIMENSION];
-    }
-    given[f]
 }
 
 // The dimension of the space for the field: 0 for a field before space, whose descriptor does not depend on it.
+#[tactic(auto, unfolding(crate::specs::States::space_for))]
 fn space_for(f: usize, state: &State) -> u32
     ensures { (gs : List Given) → Known state.now gs → result ≡ space_for f (space_size_of gs) }
 {
     if f < field::SPACE {
-        return 0;
+        0
+    } else {
+        state.space_size()
     }
-    state.space_size()
 }
 
 // The field f with the descriptor t: bad descriptor 11. Right sizes change the sizes.

@@ -12,6 +12,6 @@ pub returns-then-needs_space : goal.returns-then-needs_space
 returns-then-needs_space c gs e =
     order_in_space c.args.f gs (c.is_after_dimension-then-needs_space.ensures gs e) (sym c.needs_space.ensures ∙ c.if-needs_space.true) e
 
-pub returns : goal.returns
-returns c gs e =
-    order_apart c.args.f gs (c.is_after_dimension-2.ensures gs e) (sym c.needs_space.ensures ∙ c.if-needs_space.false)
+pub returns-else-needs_space : goal.returns-else-needs_space
+returns-else-needs_space c gs e =
+    order_apart c.args.f gs (c.is_after_dimension-else-needs_space.ensures gs e) (sym c.needs_space.ensures ∙ c.if-needs_space.false)

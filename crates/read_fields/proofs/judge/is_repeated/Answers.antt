@@ -10,6 +10,6 @@ returns-then-f-lt-SPACE c gs e =
 pub returns-then-f-le-SPACE_DIMENSION : goal.returns-then-f-le-SPACE_DIMENSION
 returns-then-f-le-SPACE_DIMENSION c gs e = repeated_either c.args.f gs (omega arith) (omega arith) e
 
-pub returns : goal.returns
-returns c gs e =
+pub returns-else-f-le-SPACE_DIMENSION : goal.returns-else-f-le-SPACE_DIMENSION
+returns-else-f-le-SPACE_DIMENSION c gs e =
     repeated_alone c.args.f gs c.requires (λ q. omega arith) (λ q. omega arith) e
