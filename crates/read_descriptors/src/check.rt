@@ -110,7 +110,7 @@ fn check_vectors(t: &[u8], count: u32, space: u32) -> Option<Said>
     says_none(read_vectors::list::are_vectors(t, count as usize, n))
 }
 
-// The same with a direction for each of so many axes.
+// The same with a direction for each of so many axes. Each has the one call and definition of its own: a common function that takes the call would be no shorter.
 fn check_directions(t: &[u8], count: u32, space: u32) -> Option<Said>
     ensures { space ≤ max_space → length t.now ≤ max_header → result ≡ found (is_some (directions_said count space t.now)) 0 false }
 {

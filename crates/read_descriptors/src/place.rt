@@ -17,7 +17,8 @@ pub fn text_start(f: usize, rest: &[u8]) -> usize
     ensures { (result ≡ length rest.now - length (from_descriptor f rest.now)) × (result ≤ length rest.now) }
 {
     if format_values::fields::is_understood(f) {
-        return read_text::lines::leading(rest);
+        read_text::lines::leading(rest)
+    } else {
+        0
     }
-    0
 }

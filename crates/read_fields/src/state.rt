@@ -14,7 +14,7 @@ use read_descriptors::check::Said;
 use read_files::cover::Cover;
 
 // Of the lines so far: the version, which fields are given, their numbers, the sizes, whether the data is found from the end, and how many axes a data file covers,
-// where there may be several.
+// where there may be several. The numbers are numbers, and no enums, since the field is their index: of which list one is goes by the field.
 #[derive(Clone, Copy)]
 pub struct State {
     pub version: u32,

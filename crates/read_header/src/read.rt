@@ -65,6 +65,7 @@ fn read_names(file: &[u8], from: usize, state: &State, list: u32) -> Result<Read
 {
     let mut at = from;
     let mut n: u32 = list + 1;
+    // each step is as long as the line that was read
     while at < file.len() {
         let Some(LineEnds { text_end, next }) = read_lines::line_at(file, at) else {
             return Err(Reason::HeaderTooLong.at_line(n));
@@ -92,6 +93,7 @@ fn read_lines(file: &[u8], from: usize, version: u32) -> Result<Reading, Refused
     let mut state = State::new(version);
     let mut at = from;
     let mut n: u32 = 2;
+    // each step is as long as the line that was read
     while at < file.len() {
         let Some(LineEnds { text_end, next }) = read_lines::line_at(file, at) else {
             return Err(Reason::HeaderTooLong.at_line(n));

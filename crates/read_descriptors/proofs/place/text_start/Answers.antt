@@ -6,5 +6,5 @@ use Rattle.read_descriptors.proofs.place.text_start.Goals as goal
 pub returns-then-is_understood : goal.returns-then-is_understood
 returns-then-is_understood c = simp (sym c.is_understood.ensures ∙ c.if-is_understood.true) c.leading.ensures
 
-pub returns : goal.returns
-returns c = simp (sym c.is_understood.ensures ∙ c.if-is_understood.false) (omega arith)
+pub returns-else-is_understood : goal.returns-else-is_understood
+returns-else-is_understood c = simp (sym c.is_understood.ensures ∙ c.if-is_understood.false) (omega arith)
