@@ -7,14 +7,9 @@ use lib.Signed.{mag}
 use Rattle.format.specs.Samples.{from_bytes, to_signed, from_signed, sample_value}
 use Rattle.format.specs.Boundary.{samples_lent}
 use Rattle.format.proofs.Boundary.{lent_room, length_samples, sample_at}
-use Rattle.roof_steps.specs.Steps.{counter_values, stamp_of, step_of, is_right, stamps, wrong_from, first_wrong, wrong_left, chosen}
+use Rattle.roof_steps.specs.Steps.{counter_values, stamp_of, step_of, is_right, stamps, wrong_from, first_wrong, wrong_left}
 
 -- ---- samples that are read
-
--- the stamp of a sample that is read from a list: to the prover the sample is `to_z w64 (of_z w64 z)`
-pub stamp_read : (z : ℤ) → mag z < 9223372036854775808 → from_signed 8 (to_z w64 (of_z w64 z)) % counter_values ≡ stamp_of z
-unfolding stamp_of
-stamp_read z h = ap stamp_of (to_z-of_z {w = w64} {z = z} (record { sfits = h }))
 
 -- the stamp of the sample whose bits are x
 pub stamp_bits : (x : ℕ) → x < 18446744073709551616 → x % counter_values ≡ stamp_of (to_signed 8 x)
@@ -26,21 +21,6 @@ stamp_bits x h = go (ltb x 9223372036854775808)
     go false =
         let e : x ≡ 18446744073709551615 - (18446744073709551615 - x) = omega arith in
         ap (λ (n : ℕ). n % counter_values) e
-
--- the stamp of sample k of lent bytes, from its bits
-pub stamp_lent : (s : List ℕ) (k x : ℕ) → k < length s / 8 → x < 18446744073709551616 → x ≡ from_bytes (take 8 (drop (8 * k) s)) → x % counter_values ≡ stamp_of (get_or (samples_lent s) k (pos 0))
-unfolding sample_value
-stamp_lent s k x h f e =
-    let l : length (take 8 (drop (8 * k) s)) ≡ 8 = length-take-le 8 (drop (8 * k) s) (omega (arith, length-drop (8 * k) s, lent_room from_bytes 8 s k h)) in
-    stamp_bits x f
-    ∙ ap (λ (n : ℕ). stamp_of (to_signed 8 n)) e
-    ∙ sym (ap stamp_of (sample_at s k (pos 0) h ∙ ap (λ (w : ℕ). to_signed w (from_bytes (take 8 (drop (8 * k) s)))) l))
-
--- what counts of a list and lent bytes is no longer than both may be
-pub chosen_within : (packed : Bool) (samples : List ℤ) (lent : List ℕ) (most : ℕ) → length samples < most → length lent < most → length (chosen packed samples lent) < most
-unfolding chosen
-chosen_within true samples lent most p q = omega (arith, length_samples lent)
-chosen_within false samples lent most p q = p
 
 -- ---- rows
 

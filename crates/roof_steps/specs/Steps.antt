@@ -1,10 +1,10 @@
 -- Stamps of a counter, the steps between them, and the first row with a wrong step (W4).
 use Rattle.std.specs.Prelude.{ℕ, zero, suc, ◌+◌, ◌-◌, ◌*◌, ◌%◌, Bool, true, false, List, [], ◌∷◌, drop, ℤ, pos, slice_index_or, if◌then◌else◌}
 use Rattle.std.proofs.Math.Option.{Option, none, some}
-use Rattle.roof_steps.specs.declared.WrongRow.{WrongRow}
+use Rattle.std.specs.Prelude.{Option as Maybe}
+use Rattle.std.specs.Prelude.{Some, None}
 use Rattle.format.specs.Bytes.{between}
 use Rattle.format.specs.Samples.{from_signed}
-use Rattle.format.specs.Boundary.{samples_lent}
 
 -- how many values the counter has: it runs through 4,294,967,295 back to 0
 abbrev pub counter_values : ℕ
@@ -39,15 +39,11 @@ first_wrong largest (t ∷ ts) = wrong_from largest 1 t ts
 
 -- ---- as the code answers it
 
--- where no row is wrong, `row` is 0
-abbrev pub told : Option ℕ → WrongRow
-told none = record { wrong = false; row = 0 }
-told (some row) = record { wrong = true; row = row }
+-- a number, if there is one
+abbrev pub number_found : Option ℕ → Maybe ℕ
+number_found none = None
+number_found (some n) = Some n
 
 -- what the search finds in these rows of m samples from `row` on, after a row with the stamp `before`
 abbrev pub wrong_left : ℕ → ℕ → ℕ → List ℤ → ℕ → ℕ → Option ℕ
 wrong_left largest rows m zs row before = wrong_from largest row before (stamps (rows - row) m (drop (row * m) zs))
-
--- the samples of a call: those that lent bytes hold, or the numbers themselves
-unfoldable pub chosen : Bool → List ℤ → List ℕ → List ℤ
-chosen packed samples lent = if packed then samples_lent lent else samples

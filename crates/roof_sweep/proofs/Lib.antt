@@ -2,6 +2,5 @@
 pub mod Examples
 mod OffsetLaws
 mod RowLaws
-mod LentStamps
 mod Ways
 mod SweepsHold

@@ -15,14 +15,16 @@ use Rattle.format.specs.declared.Reading.{Reading}
 use Rattle.format.specs.declared.CountAnswer.{CountAnswer}
 use Rattle.format.specs.Bytes.{is_some, or_default, between}
 use Rattle.format.specs.Limits.{max_size}
-use Rattle.format.specs.Refusals.{lent_too_short, refusal}
+use Rattle.format.specs.Refusals.{lent_too_short, refusal, fine}
+use Rattle.format.specs.Samples.{Decoded}
+use Rattle.data_samples.proofs.SamplesSeen.{samples_seen}
 use Rattle.format.specs.Words.{number, within, number_in, numbers_in, words, value_of_number}
 use Rattle.format.specs.Lines.{Line}
 use Rattle.format.specs.Fields.{Given, descriptor_of, sizes}
-use Rattle.format.specs.Descriptors.{meaning, may_describe, sizes_said, dimension_of, sizes_of, product}
+use Rattle.format.specs.Descriptors.{meaning, may_describe, sizes_said, dimension_of, sizes_of, product, number_kind, type_of, sample_bytes, endian_of, encoding_of}
 use Rattle.format.specs.Header.{Entry, Outcome, refused, accepted, header, header_length}
 use Rattle.format.specs.Data.{Place, nowhere, part, place_of, part_of}
-use Rattle.format.specs.Calls.{padded, no_reading, reading_of, read_answer, read_header_call, no_samples, count_of, decoded, answer_decoded, check_at, check_in, check_samples_call}
+use Rattle.format.specs.Calls.{padded, no_reading, reading_of, read_answer, read_header_call, no_samples, count_of, decoded, answer_decoded, check_at, check_in, check_samples_call, seen_in}
 use Rattle.format.proofs.Bytes.{and_left, and_right}
 use Rattle.format.proofs.Rules.{accepted_keeps}
 use Rattle.format.proofs.Oriented.{header_described}
@@ -84,6 +86,30 @@ room_checked gs (part s start n) room file second h z = go (ltb room (count_of g
     go : (b : Bool) → ltb room (count_of gs) ≡ b → (if b then no_samples (refusal lent_too_short) else rest).refusal.number ≡ 0 → count_of gs ≤ room
     go true e z = absurd (let g : ⊥ = omega arith in g)
     go false e z = ltb-false room (count_of gs) e
+
+-- nothing is refused, so the samples are seen
+module _ (file : List ℕ) (room : ℕ) (gs : List Given) where
+  pub none_refused : (p : Place) → NumberedPlace p → (check_at gs p room file []).refusal.number ≡ 0 → (decoded gs (part_of p file [])).number ≡ 0
+  none_refused (nowhere n) l e = absurd (omega arith)
+  none_refused (part s start n) l e = go (ltb room (count_of gs)) (decoded gs (part_of (part s start n) file [])) e
+    where
+      by : (d : Decoded) (x : Bool) → eqb d.number 0 ≡ x → (if x then record { refusal = fine; count = count_of gs } else no_samples (refusal d.number)).refusal.number ≡ 0 → d.number ≡ 0
+      by d true q e = eqb-true d.number 0 q
+      by d false q e = e
+
+      go : (x : Bool) (d : Decoded) → (if x then no_samples (refusal lent_too_short) else answer_decoded (count_of gs) d).refusal.number ≡ 0 → d.number ≡ 0
+      go true d e = absurd (omega arith)
+      go false d e = by d (eqb d.number 0) refl e
+
+-- the samples are no more than the list has room for
+pub seen_few : (file : List ℕ) (room : ℕ) (o : Outcome) → (check_in room file [] o).refusal.number ≡ 0 → length (seen_in file [] o) ≤ room
+seen_few file room (refused r) z = omega arith
+seen_few file room (accepted es gs ls) z =
+    let p = place_of true gs (header_length es) file [] in
+    let k = place_numbered gs true (header_length es) file [] in
+    let n : length (decoded gs (part_of p file [])).seen ≡ count_of gs =
+    (samples_seen (number_kind (type_of gs)) (sample_bytes (type_of gs)) (endian_of gs) (encoding_of gs) (count_of gs) (part_of p file [])).1 (none_refused file room gs p k z) in
+    omega (arith, n, room_checked gs p room file [] k z)
 
 -- ---- a sweep
 

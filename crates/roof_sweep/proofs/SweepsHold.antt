@@ -34,13 +34,13 @@ use Rattle.format.proofs.Boundary.{lent_of_samples}
 use Rattle.format.proofs.Found.{Finds, escaped, FindsKey, key_found}
 use Rattle.format.proofs.Places.{NumberedPlace, place_numbered}
 use Rattle.theorem_room.proofs.Enough.{room_enough}
-use Rattle.roof_steps.specs.Steps.{counter_values, stamp_of, first_wrong, told}
+use Rattle.roof_steps.specs.Steps.{counter_values, stamp_of, first_wrong}
 use Rattle.roof_steps.specs.StepLaws.{Says}
 use Rattle.roof_steps.proofs.LawsHold.{steps_hold}
 use Rattle.roof_steps.proofs.Stamps.{in_list}
-use Rattle.roof_sweep.specs.Sweeps.{utc_offset, offset_said, offset_at, offset_of, attached, uint32, is_sweep, offset_for, row_length, row_count, stamps_in, refused_sweep, sweep_found, sweep_call, sweep_entry}
+use Rattle.roof_sweep.specs.Sweeps.{utc_offset, offset_said, offset_at, offset_of, attached, uint32, is_sweep, offset_for, row_length, row_count, stamps_in, refused_sweep, sweep_answer, sweep_found, sweep_call, sweep_entry}
 use Rattle.roof_sweep.specs.SweepLaws.{NotRefused, Refused, offset_in, SweepLaws}
-use Rattle.roof_sweep.proofs.RowLaws.{two_axes, offset_sweep}
+use Rattle.roof_sweep.proofs.RowLaws.{two_axes, offset_sweep, none_refused}
 use Rattle.data_samples.proofs.SamplesSeen.{in_type_at, samples_seen}
 
 -- ---- how the call ends
@@ -123,20 +123,6 @@ own_stamp (negsuc n) e = absurd (omega (arith, ltb-true n 0 e))
 
 -- ---- the samples of a sweep
 
--- nothing is refused, so the samples are seen
-module _ (file : List ℕ) (room : ℕ) (gs : List Given) where
-  none_refused : (p : Place) → NumberedPlace p → (check_at gs p room file []).refusal.number ≡ 0 → (decoded gs (part_of p file [])).number ≡ 0
-  none_refused (nowhere n) l e = absurd (omega arith)
-  none_refused (part s start n) l e = go (ltb room (count_of gs)) (decoded gs (part_of (part s start n) file [])) e
-    where
-      by : (d : Decoded) (x : Bool) → eqb d.number 0 ≡ x → (if x then record { refusal = fine; count = count_of gs } else no_samples (refusal d.number)).refusal.number ≡ 0 → d.number ≡ 0
-      by d true q e = eqb-true d.number 0 q
-      by d false q e = e
-
-      go : (x : Bool) (d : Decoded) → (if x then no_samples (refusal lent_too_short) else answer_decoded (count_of gs) d).refusal.number ≡ 0 → d.number ≡ 0
-      go true d e = absurd (omega arith)
-      go false d e = by d (eqb d.number 0) refl e
-
 module _ (file : List ℕ) (list : List ℤ) where
   -- the first sample of each row is one of them, and of the type
   first_in_type : (o : Outcome) → header file ≡ o → is_sweep (read_answer o).reading ≡ true → (check_in (length list) file [] o).refusal.number ≡ 0
@@ -181,16 +167,16 @@ module _ (file : List ℕ) (list : List ℤ) where
 -- ---- the first wrong row
 
 -- an answer told and taken back
-taken_back : (o : Option ℕ) → (if (told o).wrong then some (told o).row else none) ≡ o
-taken_back none = refl
-taken_back (some row) = refl
+taken_back : (offset : ℕ) (o : Option ℕ) → (let a = sweep_answer offset o in if a.wrong then some a.row else none) ≡ o
+taken_back offset none = refl
+taken_back offset (some row) = refl
 
 row_is : (file : List ℕ) (list : List ℤ) (largest : ℕ) → NotRefused (sweep_call file list largest).0.refusal
     → let a = sweep_call file list largest in Says largest (stamps_in (read_header_call file).reading a.1) (if a.0.wrong then some a.0.row else none)
 row_is file list largest =
     by_ends file list largest (λ a. NotRefused a.0.refusal → Says largest (stamps_in r a.1) (if a.0.wrong then some a.0.row else none))
     (λ e h. absurd (false≢true (sym e ∙ ap (λ (n : ℕ). eqb n 0) h))) (λ h. absurd (omega arith))
-    (λ offset c q h. let ts = stamps_in r (samples_call file [] list).1 in subst (Says largest ts) (sym (taken_back (first_wrong largest ts))) (steps_hold.says largest ts))
+    (λ offset c q h. let ts = stamps_in r (samples_call file [] list).1 in subst (Says largest ts) (sym (taken_back offset (first_wrong largest ts))) (steps_hold.says largest ts))
   where
     r : Reading
     r = (read_header_call file).reading

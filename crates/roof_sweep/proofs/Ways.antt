@@ -5,11 +5,11 @@ use Prim.Native.Nat.{ℕ, ◌-◌, ◌*◌, ◌/◌, ◌≤◌, ◌<◌}
 use native.Mathlib.Omega.{arith}
 use mathlib.Core.Path.{◌≡◌, refl, sym, ap, ◌∙◌}
 use mathlib.Core.Bool.{Bool, true, false, not}
-use mathlib.Core.List.{List, []}
+use mathlib.Core.List.{List, [], map}
 use mathlib.Core.Option.{Option, none, some}
 use lib.Dec.{eqb}
 use lib.IntN.{ℤ}
-use lib.ListN.{length, get_or, take, drop, length-append, length-drop}
+use lib.ListN.{length, get_or, take, drop, length-map}
 use lib.Seq.{take_all}
 use borrow.Author.Tests.{eq-eqb, ne_eqb}
 use Rattle.roof_sweep.specs.declared.SweepAnswer.{SweepAnswer}
@@ -23,16 +23,17 @@ use Rattle.format.specs.Boundary.{words_of_samples, samples_lent, lent_samples}
 use Rattle.format.specs.Calls.{read_header_call, check_samples_call, seen_in, samples_call}
 use Rattle.format.specs.EntryPoints.{samples_entry}
 use Rattle.format.proofs.Samples.{all_bytes}
-use Rattle.format.proofs.Boundary.{length_words, length_samples, lent_of_samples}
-use Rattle.roof_steps.specs.Steps.{first_wrong, told, chosen}
+use Rattle.format.proofs.Boundary.{length_over}
+use Rattle.roof_steps.specs.Steps.{stamp_of, first_wrong}
 use Rattle.roof_sweep.specs.Sweeps.{row_length, row_count, offset_for, refused_sweep, sweep_answer, stamps_in, sweep_found, sweep_call, sweep_entry}
+use Rattle.lent_lists.specs.Views.{Views}
 use Rattle.roof_sweep.specs.Rows.{Rows}
-use Rattle.roof_sweep.proofs.RowLaws.{sweep_rows, offset_sweep}
-use Rattle.roof_sweep.proofs.LentStamps.{stamps_lent}
+use Rattle.roof_sweep.proofs.RowLaws.{sweep_rows, offset_sweep, seen_few}
+use Rattle.roof_sweep.specs.LentStamps.{same_stamps}
 
 -- the answer with this offset, by the stamps of the rows
-abbrev tells : ℕ → ℕ → List ℕ → SweepAnswer
-tells n largest ts = sweep_answer n (told (first_wrong largest ts))
+abbrev pub tells : ℕ → ℕ → List ℕ → SweepAnswer
+tells n largest ts = sweep_answer n (first_wrong largest ts)
 
 -- ---- a list of numbers
 
@@ -85,89 +86,56 @@ module _ (file : List ℕ) (list : List ℤ) (largest : ℕ) where
               → (if not b then (refused_sweep (check_samples_call file [] (length list)).refusal, list) else sweep_found x file list largest) ≡ sweep_found (some n) file list largest
           go b x p q = rw (p, q)
 
-      -- the same of the whole list as a part of itself, by the reading that the code has
-      module _ (r : Reading) (q : r ≡ (read_header_call file).reading) (l : length after ≡ length list) where
-        whole : chosen false (take (length list - 0) after) [] ≡ after
-        unfolding chosen
-        whole = take_all (length list - 0) after (omega arith)
+      -- as many as there were
+      samples_long : length after ≡ length list
+      samples_long =
+          let seen = seen_in file [] (header file) in
+          ap length left
+          ∙ ap (λ (n : ℕ). length (if eqb n 0 then over seen list else list)) answers_0
+          ∙ length_over seen list (seen_few file (length list) (header file) answers_0)
 
-        pub list_rows : Rows r (length (chosen false (take (length list - 0) after) []))
-        list_rows = rw (whole, l, q) rows_there
+-- ---- lent cells
 
-        pub list_found : {x : SweepAnswer} → x ≡ tells n largest (stamps_in r (chosen false (take (length list - 0) after) []))
-            → ◌≡◌ {A = SweepAnswer × List ℤ} (x, after) (sweep_call file list largest)
-        list_found p =
-            let s : stamps_in r (chosen false (take (length list - 0) after) []) ≡ stamps_in (read_header_call file).reading after = rw (whole, q) in
-            (λ i. (p i, after)) ∙ (λ i. (tells n largest (s i), after)) ∙ sweep_found_lem
+module _ {A : Type 0} {store : List ℤ → List A} {place room : ℕ → ℕ} {Sound : List A → Type 0} {samples : List A → List ℤ} {lent : List ℤ → List A → List A}
+    (v : Views store place room Sound samples lent) (keeps : (zs : List ℤ) (d : List A) → length zs ≡ length (samples d) → map stamp_of (samples (lent zs d)) ≡ map stamp_of zs)
+    (file : List ℕ) (list : List A) (largest : ℕ) where
+  -- the answer, and the cells once they hold the samples
+  abbrev held : SweepAnswer × List ℤ → SweepAnswer × List A
+  held p = (p.0, lent p.1 list)
 
--- ---- lent bytes
+  pub lent_none : Sound list → offset_for file largest ≡ none → (a : CountAnswer) → a ≡ check_samples_call file [] (length (samples list))
+      → ◌≡◌ {A = SweepAnswer × List A} (refused_sweep (if eqb a.refusal.number 0 then refusal no_sweep else a.refusal), list) (held (sweep_call file (samples list) largest))
+  lent_none s o a e =
+      let x : SweepAnswer = refused_sweep (if eqb a.refusal.number 0 then refusal no_sweep else a.refusal) in
+      (λ i. (x, sym (v.kept list s) i)) ∙ ap held (sweep_none file (samples list) largest o a e)
 
-module _ (file list : List ℕ) (largest : ℕ) where
-  -- the answer, and the bytes once they hold the samples
-  abbrev held : SweepAnswer × List ℤ → SweepAnswer × List ℕ
-  held p = (p.0, lent_samples p.1 list)
-
-  module _ (f : (i : ℕ) → get_or list i 0 < 256) where
-    same_bytes : list ≡ lent_samples (samples_lent list) list
-    same_bytes = sym (lent_of_samples list (all_bytes list f))
-
-    pub bytes_none : offset_for file largest ≡ none → (a : CountAnswer) → a ≡ check_samples_call file [] (length list / 8)
-        → ◌≡◌ {A = SweepAnswer × List ℕ} (refused_sweep (if eqb a.refusal.number 0 then refusal no_sweep else a.refusal), list) (sweep_entry file list largest)
-    bytes_none o a e =
-        let x : SweepAnswer = refused_sweep (if eqb a.refusal.number 0 then refusal no_sweep else a.refusal) in
-        (λ i. (x, same_bytes i)) ∙ ap held (sweep_none file (samples_lent list) largest o a (e ∙ ap (check_samples_call file []) (sym (length_samples list))))
-
-  module _ (a : CountAnswer) (after : List ℕ) (e : ◌≡◌ {A = CountAnswer × List ℕ} (a, after) (samples_entry file [] list)) where
-    -- the samples that the bytes hold
+  module _ (a : CountAnswer) (after : List A) (e : ◌≡◌ {A = CountAnswer × List A} (a, after) (let b = samples_call file [] (samples list) in (b.0, lent b.1 list))) where
+    -- the samples that the cells hold
     abbrev zs : List ℤ
-    zs = (samples_call file [] (samples_lent list)).1
+    zs = (samples_call file [] (samples list)).1
 
-    listed : ◌≡◌ {A = CountAnswer × List ℤ} (a, zs) (samples_call file [] (samples_lent list))
-    listed i = (ap (λ (p : CountAnswer × List ℕ). p.0) e i, zs)
+    listed : ◌≡◌ {A = CountAnswer × List ℤ} (a, zs) (samples_call file [] (samples list))
+    listed i = (ap (λ (p : CountAnswer × List A). p.0) e i, zs)
 
-    bytes_left : after ≡ lent_samples zs list
-    bytes_left = ap (λ (p : CountAnswer × List ℕ). p.1) e
+    lent_left : after ≡ lent zs list
+    lent_left = ap (λ (p : CountAnswer × List A). p.1) e
 
-    pub bytes_refused : (a.refusal.number ≡ 0 → ⊥) → ◌≡◌ {A = SweepAnswer × List ℕ} (refused_sweep a.refusal, after) (sweep_entry file list largest)
-    bytes_refused n = (λ i. (refused_sweep a.refusal, bytes_left i)) ∙ ap held (sweep_refused file (samples_lent list) largest a zs listed n)
+    pub lent_refused : (a.refusal.number ≡ 0 → ⊥) → ◌≡◌ {A = SweepAnswer × List A} (refused_sweep a.refusal, after) (held (sweep_call file (samples list) largest))
+    lent_refused n = (λ i. (refused_sweep a.refusal, lent_left i)) ∙ ap held (sweep_refused file (samples list) largest a zs listed n)
 
-    -- they are as many as before, since the bytes are
-    as_many : length after ≡ length list → length zs ≡ length list / 8
-    as_many l = go (eqb (check_samples_call file [] (length (samples_lent list))).refusal.number 0) short
-      where
-        seen : List ℤ
-        seen = seen_in file [] (header file)
+    module _ (z : a.refusal.number ≡ 0) {n : ℕ} (o : offset_for file largest ≡ some n) where
+      stamps_kept : map stamp_of (samples after) ≡ map stamp_of zs
+      stamps_kept = ap (λ d. map stamp_of (samples d)) lent_left ∙ keeps zs list (samples_long file (samples list) largest a zs listed z o)
 
-        short : 8 * length zs ≤ length list
-        short = by (words_of_samples zs) (length_words zs) (sym (ap length bytes_left) ∙ l)
-          where
-            by : (u : List ℕ) → length u ≡ 8 * length zs → length (over u list) ≡ length list → 8 * length zs ≤ length list
-            by u p q = omega (arith, length-append u (drop (length u) list))
-
-        go : (b : Bool) → 8 * length (if b then over seen (samples_lent list) else samples_lent list) ≤ length list → length (if b then over seen (samples_lent list) else samples_lent list) ≡ length list / 8
-        go true h = omega (arith, h, length-append seen (drop (length seen) (samples_lent list)), length-drop (length seen) (samples_lent list), length_samples list)
-        go false h = length_samples list
-
-    module _ (z : a.refusal.number ≡ 0) {n : ℕ} (o : offset_for file largest ≡ some n) (l : length after ≡ length list) where
-      pub bytes_rows : Rows (read_header_call file).reading (length (samples_lent after))
-      bytes_rows = rw (length_samples after, l, ← length_samples list) (rows_there file (samples_lent list) largest a zs listed z o)
-
-      pub bytes_found : ◌≡◌ {A = SweepAnswer × List ℕ} (tells n largest (stamps_in (read_header_call file).reading (samples_lent after)), after) (sweep_entry file list largest)
-      bytes_found =
-          let r = (read_header_call file).reading in
-          let s : stamps_in r (samples_lent after) ≡ stamps_in r zs = ap (λ (b : List ℕ). stamps_in r (samples_lent b)) bytes_left ∙ stamps_lent (row_count r) (row_length r) zs list (as_many l) in
-          (λ i. (tells n largest (s i), bytes_left i)) ∙ ap held (sweep_found_lem file (samples_lent list) largest a zs listed z o)
+      as_long : length (samples after) ≡ length (samples list)
+      as_long = sym (length-map (samples after) stamp_of) ∙ ap length stamps_kept ∙ length-map zs stamp_of ∙ samples_long file (samples list) largest a zs listed z o
 
       module _ (r : Reading) (q : r ≡ (read_header_call file).reading) where
-        whole_bytes : chosen true [] (take (length list - 0) after) ≡ samples_lent after
-        unfolding chosen
-        whole_bytes = ap samples_lent (take_all (length list - 0) after (omega arith))
+        pub lent_rows : Rows r (length (samples after))
+        lent_rows = rw (as_long, q) (rows_there file (samples list) largest a zs listed z o)
 
-        pub lent_rows : Rows r (length (chosen true [] (take (length list - 0) after)))
-        lent_rows = rw (whole_bytes, q) bytes_rows
-
-        pub lent_found : {x : SweepAnswer} → x ≡ tells n largest (stamps_in r (chosen true [] (take (length list - 0) after)))
-            → ◌≡◌ {A = SweepAnswer × List ℕ} (x, after) (sweep_entry file list largest)
+        pub lent_found : {x : SweepAnswer} → x ≡ tells n largest (stamps_in r (samples after)) → ◌≡◌ {A = SweepAnswer × List A} (x, after) (held (sweep_call file (samples list) largest))
         lent_found p =
-            let s : stamps_in r (chosen true [] (take (length list - 0) after)) ≡ stamps_in (read_header_call file).reading (samples_lent after) = rw (whole_bytes, q) in
-            (λ i. (p i, after)) ∙ (λ i. (tells n largest (s i), after)) ∙ bytes_found
+            let y = (read_header_call file).reading in
+            let s : stamps_in r (samples after) ≡ stamps_in y zs = ap (λ w. stamps_in w (samples after)) q ∙ same_stamps (row_count y) (row_length y) (samples after) zs stamps_kept in
+            (λ i. (p i, after)) ∙ (λ i. (tells n largest (s i), lent_left i)) ∙ ap held (sweep_found_lem file (samples list) largest a zs listed z o)

@@ -3,3 +3,4 @@ pub mod Sweeps
 pub mod Rows
 pub mod SweepTrials
 pub mod SweepLaws
+pub mod LentStamps

@@ -4,12 +4,11 @@
 use Rattle.std.specs.Prelude.{ℕ, Bool, not, false, ◌&&◌, List, [], ◌==◌, ℤ, length, slice_index, take, drop, if◌then◌else◌}
 use Rattle.std.proofs.Math.Option.{Option, none, some}
 use Rattle.roof_sweep.specs.declared.SweepAnswer.{SweepAnswer}
-use Rattle.roof_steps.specs.declared.WrongRow.{WrongRow}
-use Rattle.roof_steps.specs.Steps.{stamps, first_wrong, told}
+use Rattle.roof_steps.specs.Steps.{stamps, first_wrong}
 use Rattle.format.specs.declared.Refusal.{Refusal}
 use Rattle.format.specs.declared.Reading.{Reading}
 use Rattle.format.specs.declared.FindAnswer.{FindAnswer}
-use Rattle.format.specs.Bytes.{bytes, between}
+use Rattle.format.specs.Bytes.{bytes, between, is_some, or_default}
 use Rattle.format.specs.Refusals.{no_sweep, refusal, fine}
 use Rattle.format.specs.Words.{number, number_in}
 use Rattle.format.specs.Boundary.{samples_lent, lent_samples}
@@ -51,10 +50,6 @@ offset_at file f = if f.found then offset_said (take f.length (drop f.start file
 abbrev pub offset_of : List ℕ → Option ℕ
 offset_of file = offset_at file (find_key_call file utc_offset)
 
--- inside the code this stands for no offset; no caller gets it
-abbrev pub no_offset : ℕ
-no_offset = 256
-
 -- ---- the largest step that the caller may name
 
 abbrev pub max_step : ℕ
@@ -69,8 +64,9 @@ offset_for file largest = if is_sweep (read_header_call file).reading && between
 abbrev pub refused_sweep : Refusal → SweepAnswer
 refused_sweep r = record { refusal = r; offset = 0; wrong = false; row = 0 }
 
-abbrev pub sweep_answer : ℕ → WrongRow → SweepAnswer
-sweep_answer offset w = record { refusal = fine; offset = offset; wrong = w.wrong; row = w.row }
+-- where no row is wrong, `row` is 0
+abbrev pub sweep_answer : ℕ → Option ℕ → SweepAnswer
+sweep_answer offset row = record { refusal = fine; offset = offset; wrong = is_some row; row = or_default 0 row }
 
 -- the stamps of a reading's rows, of the samples at the front of a list
 abbrev pub stamps_in : Reading → List ℤ → List ℕ
@@ -81,7 +77,7 @@ abbrev pub sweep_found : Option ℕ → List ℕ → List ℤ → ℕ → SweepA
 sweep_found none file list largest = (refused_sweep (refusal no_sweep), list)
 sweep_found (some offset) file list largest =
     let zs = (samples_call file [] list).1 in
-    (sweep_answer offset (told (first_wrong largest (stamps_in (read_header_call file).reading zs))), zs)
+    (sweep_answer offset (first_wrong largest (stamps_in (read_header_call file).reading zs)), zs)
 
 -- all refusals of the sample call come first; the second file is empty
 unfoldable pub sweep_call : List ℕ → List ℤ → ℕ → SweepAnswer × List ℤ

@@ -2,26 +2,26 @@
 #![tactic(auto)]
 
 mod offset;
+pub mod stamped;
 
-ghost use Rattle.std.specs.Prelude.{◌≡◌, List, ℕ, ◌≤◌, ◌==◌, ℤ, length, if◌then◌else◌};
-ghost use Rattle.format.specs.Bytes.{or_default};
+ghost use Rattle.std.specs.Prelude.{◌≡◌, List, ℕ, ◌==◌, length, if◌then◌else◌};
 ghost use Rattle.format.specs.Refusals.{no_sweep, refusal};
 ghost use Rattle.format.specs.Calls.{read_header_call};
-ghost use Rattle.roof_steps.specs.Steps.{first_wrong, told, chosen};
+ghost use Rattle.roof_steps.specs.Steps.{first_wrong, number_found};
 ghost use Rattle.roof_sweep.specs.declared.SweepAnswer.{SweepAnswer};
-ghost use Rattle.roof_sweep.specs.Sweeps.{is_sweep, no_offset, max_step, offset_for, refused_sweep, sweep_answer, stamps_in, sweep_call, sweep_entry};
+ghost use Rattle.roof_sweep.specs.Sweeps.{is_sweep, offset_for, refused_sweep, sweep_answer, stamps_in, sweep_call, sweep_entry};
 ghost use Rattle.roof_sweep.specs.Rows.{Rows};
 ghost use Rattle.roof_sweep.specs.SweepTrials.{SweepTrials};
 ghost use Rattle.roof_sweep.specs.SweepLaws.{SweepLaws};
 
+use crate::stamped::Stamped;
+use format::codes::SampleType;
 use format::{Reading, Refusal};
 use format_values::refusals;
+use lent_lists::Lent;
 
 // An attached header among the forms.
 const ATTACHED: u32 = 0;
-
-// The number of uint32 among the types.
-const UINT32: u32 = 5;
 
 // The largest step that a caller may name.
 const MAX_STEP: u64 = 2147483647;
@@ -37,34 +37,30 @@ pub struct SweepAnswer {
 }
 
 // Whether a file with this reading is a sweep: attached, uint32, of two axes.
-fn is_sweep(reading: Reading) -> bool
-    ensures { result ≡ is_sweep reading }
+fn is_sweep(reading: &Reading) -> bool
+    ensures { result ≡ is_sweep reading.now }
 {
-    (reading.form == ATTACHED) & ((reading.sampletype == UINT32) & (reading.dimension == 2))
+    reading.form == ATTACHED
+        && (reading.sampletype == SampleType::Uint32.code() && reading.dimension == 2)
 }
 
-// The offset, or `NO_OFFSET` where the file is no sweep, its key says no offset, or the largest step is outside its range.
-fn offset_for(file: &[u8], reading: Reading, largest: u64) -> u32
-    requires { reading ≡ (read_header_call file.now).reading }
-    ensures { result ≡ or_default no_offset (offset_for file.now largest) }
+// The offset, if the file is a sweep, its key says one, and the largest step is in its range.
+fn offset_for(file: &[u8], reading: &Reading, largest: u64) -> Option<u32>
+    requires { reading.now ≡ (read_header_call file.now).reading }
+    ensures { result ≡ number_found (offset_for file.now largest) }
 {
-    if !is_sweep(reading) {
-        return offset::NO_OFFSET;
+    if is_sweep(reading) && 1 <= largest && largest <= MAX_STEP {
+        offset::find_offset(file)
+    } else {
+        None
     }
-    if largest < 1 {
-        return offset::NO_OFFSET;
-    }
-    if MAX_STEP < largest {
-        return offset::NO_OFFSET;
-    }
-    offset::find_offset(file)
 }
 
 fn refuse(refusal: Refusal) -> SweepAnswer
     ensures { result ≡ refused_sweep refusal }
 {
     SweepAnswer {
-        refusal: refusal,
+        refusal,
         offset: 0,
         wrong: false,
         row: 0,
@@ -76,73 +72,53 @@ fn refuse_sweep(samples: Refusal) -> SweepAnswer
     ensures { result ≡ refused_sweep (if samples.number == 0 then refusal no_sweep else samples) }
 {
     if samples.number == 0 {
-        return refuse(refusals::refusal(format::NO_SWEEP));
+        refuse(refusals::refusal(format::NO_SWEEP))
+    } else {
+        refuse(samples)
     }
-    refuse(samples)
 }
 
-// What the stamps of a sweep's rows tell. `packed` says which of the two holds its samples: the numbers, or lent bytes, 8 a sample.
-fn found(
-    reading: Reading,
-    offset: u32,
-    samples: &[i64],
-    lent: &[u8],
-    packed: bool,
-    largest: u64,
-) -> SweepAnswer
-    requires rows { Rows reading (length (chosen packed samples.now lent.now)) }
-    requires largest_allowed { largest ≤ max_step }
-    ensures { result ≡ sweep_answer offset (told (first_wrong largest (stamps_in reading (chosen packed samples.now lent.now)))) }
+// What the stamps of a sweep's rows tell.
+fn found<C: Lent>(reading: &Reading, offset: u32, list: &[C], largest: u32) -> SweepAnswer
+    requires { Rows reading.now (length (C.samples list.now)) }
+    ensures { result ≡ sweep_answer offset (first_wrong largest (stamps_in reading.now (C.samples list.now))) }
 {
-    let sizes = reading.sizes;
-    let m = sizes[0] as usize;
-    let rows = sizes[1] as usize;
-    let w = roof_steps::wrong_row(samples, lent, packed, rows, m, largest as u32);
+    let m = reading.sizes[0] as usize;
+    let rows = reading.sizes[1] as usize;
+    let wrong = roof_steps::wrong_row(list, rows, m, largest);
     SweepAnswer {
         refusal: refusals::FINE,
-        offset: offset,
-        wrong: w.wrong,
-        row: w.row,
+        offset,
+        wrong: wrong.is_some(),
+        row: wrong.unwrap_or(0) as u64,
     }
 }
 
-// The samples of a sweep to the front of the list, its offset, and the first row with a wrong step. The list is untouched where the call is refused.
-pub fn sweep(file: &[u8], list: &mut [i64], largest: u64) -> SweepAnswer
-    ensures { ◌≡◌ {A = SweepAnswer × List ℤ} (result, list.new) (sweep_call file.now list.old largest) }
+// The samples of a sweep to the front of the list, of numbers or of bytes, 8 for each sample; its offset, and the first row with a wrong step. The list is
+// untouched where the call is refused; a rest of bytes too short for a sample stays.
+pub fn sweep<C: Stamped>(file: &[u8], list: &mut [C], largest: u64) -> SweepAnswer
+    ensures { ◌≡◌ {A = SweepAnswer × List C} (result, list.new) (let a = sweep_call file.now (C.samples list.old) largest in (a.0, C.lent a.1 list.old)) }
 {
-    let read = read_header::read::read_header(file);
-    let reading = read.reading;
-    let offset = offset_for(file, reading, largest);
-    let room = list.len();
-    // no condition of 28 looks at a sample: where one holds, samples are checked and not stored
-    if offset == offset::NO_OFFSET {
-        let checked = data_samples::check_samples(file, b"", room);
-        return refuse_sweep(checked.refusal);
+    let reading = read_header::read::read_header(file).reading;
+    let room = C::entries(list);
+    match offset_for(file, &reading, largest) {
+        // no condition of 28 looks at a sample: where one holds, samples are checked and not stored
+        None => refuse_sweep(data_samples::check_samples(file, b"", room).refusal),
+        Some(offset) => {
+            let filled = data_samples::samples(file, b"", list);
+            if filled.refusal.number != 0 {
+                return refuse(filled.refusal);
+            }
+            found(&reading, offset, list, largest as u32)
+        }
     }
-    let filled = data_samples::samples(file, b"", list);
-    if filled.refusal.number != 0 {
-        return refuse(filled.refusal);
-    }
-    found(reading, offset, &list[0..room], b"", false, largest)
 }
 
-// The same for a caller that lends the list as bytes, 8 for each sample; a rest too short for one stays.
+// The same for a list of bytes.
 pub fn sweep_to_bytes(file: &[u8], list: &mut [u8], largest: u64) -> SweepAnswer
     ensures { ◌≡◌ {A = SweepAnswer × List ℕ} (result, list.new) (sweep_entry file.now list.old largest) }
 {
-    let read = read_header::read::read_header(file);
-    let reading = read.reading;
-    let offset = offset_for(file, reading, largest);
-    let room = list.len();
-    if offset == offset::NO_OFFSET {
-        let checked = data_samples::check_samples(file, b"", room / 8);
-        return refuse_sweep(checked.refusal);
-    }
-    let filled = data_samples::samples_to_bytes(file, b"", list);
-    if filled.refusal.number != 0 {
-        return refuse(filled.refusal);
-    }
-    found(reading, offset, &[], &list[0..room], true, largest)
+    sweep(file, list, largest)
 }
 
 // Trials of the call hold of the definitions.

@@ -1,10 +1,7 @@
--- `roof_sweep::found` meets its contract: a row is as long as the first size, and there are as many as the second.
-use mathlib.Core.Path.{ap}
-use Rattle.roof_steps.specs.declared.WrongRow.{WrongRow}
-use Rattle.roof_sweep.specs.Sweeps.{sweep_answer}
+-- `found` meets its contract: a row is as long as the first size, and there are as many as the second.
+use Rattle.std.proofs.Common.{◌∙◌}
+use Rattle.roof_sweep.proofs.OffsetLaws.{row_told}
 use Rattle.roof_sweep.proofs.found.Goals as goal
 
 pub returns : goal.returns
-returns c =
-    let a = c.args in
-    ap (λ (w : WrongRow). sweep_answer a.offset w) c.wrong_row-w.ensures
+returns g c = rw (c.is_some.ensures, c.unwrap_or.ensures, c.wrong_row-wrong.ensures) (row_told c.args.offset _)

@@ -1,43 +1,42 @@
--- `roof_sweep::sweep` meets its contract: nothing is stored where there is no offset, and the rows are looked at once the samples are stored.
-use mathlib.Core.Path.{ap, ◌∙◌}
+-- `sweep` meets its contract: nothing is stored where there is no offset, and the rows are looked at once the samples are stored.
+use Rattle.std.proofs.Common.{ap, ◌∙◌, arith}
 use Rattle.format.specs.declared.ReadAnswer.{ReadAnswer}
-use Rattle.roof_sweep.proofs.OffsetLaws.{no_offset_lem, an_offset}
+use Rattle.roof_sweep.proofs.OffsetLaws.{none_found, some_found}
 use Rattle.roof_sweep.proofs.RowLaws.{offset_step}
-use Rattle.roof_sweep.proofs.Ways.{sweep_none, sweep_refused, list_rows, list_found}
+use Rattle.roof_sweep.proofs.Ways.{lent_none, lent_refused, lent_rows, lent_found}
 use Rattle.roof_sweep.proofs.sweep.Goals as goal
 
-pub offset_for-offset-requires : goal.offset_for-offset-requires
-offset_for-offset-requires c = ap (λ (x : ReadAnswer). x.reading) c.read_header-read.ensures
+pub offset_for-requires : goal.offset_for-requires
+offset_for-requires g c = ap (λ (x : ReadAnswer). x.reading) c.read_header.ensures
 
-pub returns-then-offset-eq-NO_OFFSET : goal.returns-then-offset-eq-NO_OFFSET
-returns-then-offset-eq-NO_OFFSET c =
-    let o = c.offset_for-offset in
+pub returns-in-None : goal.returns-in-None
+returns-in-None g c =
     let a = c.args in
-    let k = c.check_samples-checked in
-    let none = no_offset_lem a.file.now a.largest o.result o.ensures c.if-offset-eq-NO_OFFSET.true in
-    (λ i. (c.refuse_sweep.ensures i, a.list.now)) ∙ sweep_none a.file.now a.list.now a.largest none k.result k.ensures
+    let m = g.met.C in
+    let k = c.check_samples in
+    (λ i. (c.refuse_sweep.ensures i, a.list.now))
+    ∙ lent_none m.Lent.views m.Stamped.kept a.file.now a.list.now a.largest c.entries-room.ensures.sound (none_found _ c.in-None.ensures) k.result (rw c.entries-room.ensures.count at k.ensures)
 
 pub returns-then-filled-ne0 : goal.returns-then-filled-ne0
-returns-then-filled-ne0 c =
-    let k = c.samples-filled in
+returns-then-filled-ne0 g c =
     let a = c.args in
-    let after = k.new.list in
-    (λ i. (c.refuse.ensures i, after)) ∙ sweep_refused a.file.now a.list.now a.largest k.result after k.ensures.call c.if-filled-ne0.true
+    let m = g.met.C in
+    let k = c.samples-filled in
+    (λ i. (c.refuse.ensures i, k.new.list)) ∙ lent_refused m.Lent.views m.Stamped.kept a.file.now a.list.now a.largest k.result k.new.list k.ensures.call c.if-filled-ne0.true
+
+pub overflow_cast-largest : goal.overflow_cast-largest
+overflow_cast-largest g c = record { fits = omega (arith, offset_step c.args.file.now c.args.largest (some_found _ _ c.in-Some.ensures)) }
 
 pub found-requires : goal.found-requires
-found-requires c =
-    let k = c.samples-filled in
+found-requires g c =
     let a = c.args in
-    let o = c.offset_for-offset in
-    let told = an_offset a.file.now a.largest o.result o.ensures c.if-offset-eq-NO_OFFSET.false in
-    let is = ap (λ (x : ReadAnswer). x.reading) c.read_header-read.ensures in
-    record { rows = list_rows a.file.now a.list.now a.largest k.result k.new.list k.ensures.call c.if-filled-ne0.false told _ is k.auto.list; largest_allowed = offset_step a.file.now a.largest told }
+    let m = g.met.C in
+    let k = c.samples-filled in
+    lent_rows m.Lent.views m.Stamped.kept a.file.now a.list.now a.largest k.result k.new.list k.ensures.call c.if-filled-ne0.false (some_found _ _ c.in-Some.ensures) _ (ap (λ (x : ReadAnswer). x.reading) c.read_header.ensures)
 
-pub returns : goal.returns
-returns c =
-    let k = c.samples-filled in
+pub returns-else-filled-ne0 : goal.returns-else-filled-ne0
+returns-else-filled-ne0 g c =
     let a = c.args in
-    let o = c.offset_for-offset in
-    let told = an_offset a.file.now a.largest o.result o.ensures c.if-offset-eq-NO_OFFSET.false in
-    let is = ap (λ (x : ReadAnswer). x.reading) c.read_header-read.ensures in
-    list_found a.file.now a.list.now a.largest k.result k.new.list k.ensures.call c.if-filled-ne0.false told _ is k.auto.list c.found.ensures
+    let m = g.met.C in
+    let k = c.samples-filled in
+    lent_found m.Lent.views m.Stamped.kept a.file.now a.list.now a.largest k.result k.new.list k.ensures.call c.if-filled-ne0.false (some_found _ _ c.in-Some.ensures) _ (ap (λ (x : ReadAnswer). x.reading) c.read_header.ensures) c.found.ensures

@@ -13,7 +13,7 @@ use Rattle.format.specs.Descriptors.{signed, little}
 use Rattle.format.specs.Samples.{from_bytes, to_bytes, to_signed, from_signed, sample_value, value_bytes}
 use Rattle.format.specs.Boundary.{groups, words_of_samples, samples_lent, lent_samples}
 use Rattle.format.proofs.Samples.{length_to_bytes, to_bytes_bytes, from_bytes_below, length_value_bytes}
-use Rattle.format.proofs.Boundary.{length_over, length_words}
+use Rattle.format.proofs.Boundary.{length_over, length_words, length_samples}
 use Rattle.roof_steps.specs.Steps.{counter_values, stamp_of, stamps}
 use Rattle.roof_steps.proofs.Stamps.{stamp_bits}
 
@@ -57,11 +57,12 @@ words_stamps (z ∷ zs) t =
     let l : length v ≡ 8 = length_value_bytes 8 little z in
     rw (append_assoc v (words_of_samples zs) t, take_at v r 8 l, drop_at v r 8 l, stamp_back z, words_stamps zs t)
 
-lent_stamps : (zs : List ℤ) (s : List ℕ) → length zs ≡ length s / 8 → map stamp_of (samples_lent (lent_samples zs s)) ≡ map stamp_of zs
+pub lent_stamps : (zs : List ℤ) (s : List ℕ) → length zs ≡ length (samples_lent s) → map stamp_of (samples_lent (lent_samples zs s)) ≡ map stamp_of zs
 lent_stamps zs s h =
     let u : List ℕ = words_of_samples zs in
-    let k : length (over u s) ≡ length s = length_over u s (omega (arith, length_words zs)) in
-    ap (λ (n : ℕ). map stamp_of (map (sample_value signed little) (groups 8 n (over u s)))) (ap (λ (n : ℕ). n / 8) k ∙ sym h)
+    let n : length zs ≡ length s / 8 = h ∙ length_samples s in
+    let k : length (over u s) ≡ length s = length_over u s (omega (arith, n, length_words zs)) in
+    ap (λ (n : ℕ). map stamp_of (map (sample_value signed little) (groups 8 n (over u s)))) (ap (λ (n : ℕ). n / 8) k ∙ sym n)
     ∙ words_stamps zs (drop (length u) s)
 
 -- ---- rows
@@ -79,11 +80,8 @@ drop_stamps zero l = refl
 drop_stamps (suc k) [] = refl
 drop_stamps (suc k) (z ∷ l) = drop_stamps k l
 
-same_stamps : (rows m : ℕ) (a b : List ℤ) → map stamp_of a ≡ map stamp_of b → stamps rows m a ≡ stamps rows m b
+pub same_stamps : (rows m : ℕ) (a b : List ℤ) → map stamp_of a ≡ map stamp_of b → stamps rows m a ≡ stamps rows m b
 unfolding stamps
 same_stamps zero m a b e = refl
 same_stamps (suc rows) m a b e =
     rw (first_stamp a b e, same_stamps rows m (drop m a) (drop m b) (sym (drop_stamps m a) ∙ ap (drop m) e ∙ drop_stamps m b))
-
-pub stamps_lent : (rows m : ℕ) (zs : List ℤ) (s : List ℕ) → length zs ≡ length s / 8 → stamps rows m (samples_lent (lent_samples zs s)) ≡ stamps rows m zs
-stamps_lent rows m zs s h = same_stamps rows m (samples_lent (lent_samples zs s)) zs (lent_stamps zs s h)
