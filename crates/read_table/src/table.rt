@@ -26,7 +26,7 @@ pub fn fill<E: Entry>(file: &[u8], table: &mut [E], count: usize)
     }
 }
 
-// Whether the first n entries are where the first n lines start.
+// Whether the first n entries are where the first n lines start. It stands beside `fill`, since a closure that holds the table has no proof.
 fn starts_match<E: Entry>(file: &[u8], table: &[E], n: usize) -> bool
     requires lined { Lined file.now 0 n }
     requires room { n ≤ length (E.entries table.now) }

@@ -11,7 +11,7 @@ use format_values::refusals;
 use read_table::cells::Entry;
 use set_pair::Pair;
 
-// The answer of a file of so many bytes and header lines.
+// The answer of a file of so many bytes and header lines. It tells them of a refused call too, so no result has all of it.
 fn answer(refusal: Refusal, length: usize, count: usize) -> SetAnswer
     ensures { ◌≡◌ {A = SetAnswer} result (record { refusal = refusal; length = length; count = count }) }
 {

@@ -26,7 +26,7 @@ fn blocks_down<const N: usize>(d: &mut [u8], to: usize, from: usize, n: usize) -
     ensures moved { d.new ≡ sets d.old to (take result (drop from d.old)) }
 {
     let mut j = 0;
-    while N <= n - j { // by blocks
+    while N <= n - j { // the step is a block
         block::<N>(d, to + j, from + j);
         j += N;
     }
@@ -45,6 +45,7 @@ fn slide_down(d: &mut [u8], to: usize, from: usize, n: usize)
     d.copy_within(from + moved..from + n, to + moved);
 }
 
+// Up stands beside down: the last bytes go first, so loop and clause differ.
 // Moves bytes up, of n from `from` to `to`, the last ones first: by blocks of N while there are so many left. Returns how many are left.
 fn blocks_up<const N: usize>(d: &mut [u8], to: usize, from: usize, n: usize) -> usize
     requires up { from ≤ to }
@@ -54,7 +55,7 @@ fn blocks_up<const N: usize>(d: &mut [u8], to: usize, from: usize, n: usize) -> 
     ensures moved { d.new ≡ sets d.old (to + result) (take (n - result) (drop (from + result) d.old)) }
 {
     let mut k = n;
-    while N <= k { // by blocks
+    while N <= k { // the step is a block
         k -= N;
         block::<N>(d, to + k, from + k);
     }
