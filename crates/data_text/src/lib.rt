@@ -35,6 +35,7 @@ fn read<C: Lent>(
     let mut at = reader::skip(s, 0);
     let mut v: i64 = 0;
     let mut k: usize = 0;
+    // a turn is `step` samples
     while k < n {
         reader::token(&s, &mut at, step, &copied, &mut v).result()?;
         if k < room {

@@ -29,6 +29,7 @@ pub fn find_offset(file: &[u8]) -> Option<u32>
     ensures { result ≡ number_found (offset_of file.now) }
 {
     let place = read_lookup::keys::find_key(file, b"utc offset");
+    // the look-up's answer is the one that C has
     if !place.found {
         return None;
     }
