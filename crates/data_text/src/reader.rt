@@ -77,7 +77,7 @@ fn with_digit(m: u64, b: u8) -> u64
     }
 }
 
-// Where the blanks from `at` on end. By hand: where it ends is the answer, and `position` over the rest was measured to be slower for bytes of text.
+// Where the blanks from `at` on end. By hand: the answer is a place in the whole text, and a search in the rest of it would answer none at the end.
 pub(crate) fn skip(s: &[u8], at: usize) -> usize
     requires { at ≤ length s.now }
     ensures { Skipped s.now at result }
