@@ -1,17 +1,16 @@
 -- Laws of the types by their numbers, and of the widths and bounds of samples.
 -- Assumes nothing.
 use Rattle.std.specs.Prelude.{if◌then◌else◌}
-use Prim.Native.Nat.{ℕ, min, zero, ◌+◌, suc, ◌-◌, ◌^◌, ◌/◌, ◌≤◌, ◌<◌}
+use Prim.Native.Nat.{ℕ, zero, suc, ◌-◌, ◌^◌, ◌/◌, ◌≤◌, ◌<◌}
 use native.Mathlib.Omega.{arith}
 use mathlib.Core.Path.{◌≡◌, refl, sym, ap, ◌∙◌}
 use mathlib.Core.Logic.{inl, inr}
-use mathlib.Core.Bool.{Bool, true, false, false≢true}
+use mathlib.Core.Bool.{Bool, true, false, ◌&&◌, false≢true}
 use mathlib.Core.List.{[]}
-use lib.Dec.{eqb, ltb, lit≤, lit<}
+use lib.Dec.{eqb, ltb, leb, lit≤, lit<}
 use lib.ListN.{get_or-eq_default}
-use borrow.Author.Tests.{ltb-true, ltb-false}
+use borrow.Author.Tests.{ltb-true, ltb-false, le-leb}
 use Rattle.format.specs.Descriptors.{SampleType, sample_type, types, NumberKind, signed, unsigned, floating, type_at, sample_bytes, bytes_of_type, number_kind, number_kind_type, is_floating, is_signed}
-use Rattle.format.specs.Limits.{max_sample}
 use Rattle.format.specs.Samples.{lowest, highest}
 use Rattle.std.specs.Prelude.{Result, Ok, Err, MatchResult}
 use Rattle.std.specs.Result.{result_unwrap_or}
@@ -77,6 +76,16 @@ type_bytes = every_type (λ x. 1 ≤ bytes_of_type x) (lit≤ tt) (lit≤ tt) (l
 
 -- ---- kinds
 
+pub floating_is : (t : ℕ) → (leb 8 t && ltb t 10) ≡ is_floating (number_kind t)
+unfolding type_at
+floating_is t = go (ltb t 10) refl
+  where
+    go : (x : Bool) → ltb t 10 ≡ x → (leb 8 t && ltb t 10) ≡ is_floating (number_kind t)
+    go true q = below_10 (λ t. (leb 8 t && ltb t 10) ≡ is_floating (number_kind t)) refl refl refl refl refl refl refl refl refl refl t (ltb-true t 10 q)
+    go false q =
+        let h : 10 ≤ t = ltb-false t 10 q in
+        rw (type_past t h, q, le-leb 8 t (omega arith))
+
 -- the kind of an integer type by its sign
 pub kind_by_lem : (k : NumberKind) → is_floating k ≡ false → kind_by (is_signed k) ≡ k
 kind_by_lem signed e = refl
@@ -104,18 +113,12 @@ by_tests P a b c d w = go (eqb w 1) (eqb w 2) (eqb w 4)
 -- ---- bounds
 
 module _ {h : ℕ} (w : ℕ) (e : h ≡ 256 ^ width_by w / 2) where
-  pub half_small : (h ≡ 9223372036854775808 → ⊥) → h ≤ 2147483648
-  half_small n = rw e (by_tests (λ w. ((256 ^ w / 2 ≡ 9223372036854775808 → ⊥) → 256 ^ w / 2 ≤ 2147483648)) (λ _. lit≤ tt) (λ _. lit≤ tt) (λ _. lit≤ tt) (λ n. absurd (n refl)) w (λ q. n (e ∙ q)))
-
   pub half_pos : 1 ≤ h
   half_pos = rw e (by_tests (λ w. 1 ≤ 256 ^ w / 2) (lit≤ tt) (lit≤ tt) (lit≤ tt) (lit≤ tt) w)
 
-  -- the greatest value, signed and unsigned; none is above that of 8 signed bytes
+  -- the greatest value
   pub highest_signed : h - 1 ≡ highest signed (width_by w)
   highest_signed = rw e
-
-  pub highest_unsigned : min (h - 1 + h) max_sample ≡ highest unsigned (width_by w)
-  highest_unsigned = rw e (by_tests (λ w. min (256 ^ w / 2 - 1 + 256 ^ w / 2) max_sample ≡ highest unsigned w) refl refl refl refl w)
 
 -- both bounds fit the largest sample
 pub lowest_most : (b : Bool) (w : ℕ) → lowest (kind_by b) (width_by w) ≤ 2 ^ 63
