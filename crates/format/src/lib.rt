@@ -208,7 +208,7 @@ pub struct RefusalNumbers {
 
 // A refusal: its number, and the line at which the reader met it (numbers 2 to 12); 0 where no line is meant, as for the 11 of a byte skip of -1 with text or hex, and of data files that do not fit the sizes. Number 0: nothing is refused.
 #[repr(C)]
-#[derive(Clone, Copy)]
+#[derive(Clone, Copy, PartialEq, Eq)]
 pub struct Refusal {
     pub number: u32,
     pub line: u32,
@@ -216,7 +216,7 @@ pub struct Refusal {
 
 // A decimal, kept exactly: number times ten to the power. All three as callers in C have them: 16 bytes.
 #[repr(C)]
-#[derive(Clone, Copy)]
+#[derive(Clone, Copy, PartialEq, Eq)]
 pub struct Decimal {
     pub number: i64,
     pub power: i32,
@@ -241,7 +241,7 @@ pub struct Shape {
 
 // The answer of the calls for an origin and for a direction: whether it is given, how many components it has, and these, zeros after them. The direction of an axis that has none
 // is given, has no components, and a first one of the kind none. All zero where the call is refused.
-#[derive(Clone, Copy)]
+#[derive(Clone, Copy, PartialEq, Eq)]
 pub struct VectorAnswer {
     pub refusal: Refusal,
     pub given: bool,
@@ -251,7 +251,7 @@ pub struct VectorAnswer {
 
 // What a header says of an axis. All as callers in C have them: 32 bytes.
 #[repr(C)]
-#[derive(Clone, Copy)]
+#[derive(Clone, Copy, PartialEq, Eq)]
 pub struct Axis {
     pub size: u64,
     // 0 unknown, 1 cell, 2 node
@@ -267,7 +267,7 @@ pub struct Axis {
 }
 
 // The answer of the call for axis records, and the records by value: one for each axis, zeros past them and where the call is refused.
-#[derive(Clone, Copy)]
+#[derive(Clone, Copy, PartialEq, Eq)]
 pub struct Axes {
     pub answer: CountAnswer,
     pub records: [Axis; AXES],
@@ -275,7 +275,7 @@ pub struct Axes {
 
 // What a reading says in numbers. All zero where the call is refused.
 #[repr(C)]
-#[derive(Clone, Copy)]
+#[derive(Clone, Copy, PartialEq, Eq)]
 pub struct Reading {
     // 1 to `MAX_VERSION`
     pub version: u32,
@@ -316,7 +316,7 @@ pub struct Reading {
 
 // The answer of the reading calls.
 #[repr(C)]
-#[derive(Clone, Copy)]
+#[derive(Clone, Copy, PartialEq, Eq)]
 pub struct ReadAnswer {
     pub refusal: Refusal,
     pub reading: Reading,
@@ -324,7 +324,7 @@ pub struct ReadAnswer {
 
 // The answer of the look-ups: where the bytes lie in the file. All zero where they are absent.
 #[repr(C)]
-#[derive(Clone, Copy)]
+#[derive(Clone, Copy, PartialEq, Eq)]
 pub struct FindAnswer {
     pub refusal: Refusal,
     pub found: bool,
@@ -334,7 +334,7 @@ pub struct FindAnswer {
 
 // The answer of the copy of a key's value: its length with escapes resolved.
 #[repr(C)]
-#[derive(Clone, Copy)]
+#[derive(Clone, Copy, PartialEq, Eq)]
 pub struct ValueAnswer {
     pub refusal: Refusal,
     pub found: bool,
@@ -343,7 +343,7 @@ pub struct ValueAnswer {
 
 // The answer of the data call: which file holds the data, where it starts there, and its length.
 #[repr(C)]
-#[derive(Clone, Copy)]
+#[derive(Clone, Copy, PartialEq, Eq)]
 pub struct DataAnswer {
     pub refusal: Refusal,
     pub second: bool,
@@ -353,7 +353,7 @@ pub struct DataAnswer {
 
 // The answer of the sample calls, of the call for the number of files and of that for axis records: how many there are.
 #[repr(C)]
-#[derive(Clone, Copy)]
+#[derive(Clone, Copy, PartialEq, Eq)]
 pub struct CountAnswer {
     pub refusal: Refusal,
     pub count: u64,
@@ -361,7 +361,7 @@ pub struct CountAnswer {
 
 // The answer of the coordinates call: the number of the sample.
 #[repr(C)]
-#[derive(Clone, Copy)]
+#[derive(Clone, Copy, PartialEq, Eq)]
 pub struct NumberAnswer {
     pub refusal: Refusal,
     pub number: u64,
@@ -369,7 +369,7 @@ pub struct NumberAnswer {
 
 // The answer of the writers and of the call for a file's name: how many bytes they wrote.
 #[repr(C)]
-#[derive(Clone, Copy)]
+#[derive(Clone, Copy, PartialEq, Eq)]
 pub struct WriteAnswer {
     pub refusal: Refusal,
     pub length: u64,
@@ -377,7 +377,7 @@ pub struct WriteAnswer {
 
 // The answer of the call for a sample's place: the number of its file, and the raw byte of that file's share where it starts.
 #[repr(C)]
-#[derive(Clone, Copy)]
+#[derive(Clone, Copy, PartialEq, Eq)]
 pub struct ShareAnswer {
     pub refusal: Refusal,
     pub file: u64,
@@ -386,7 +386,7 @@ pub struct ShareAnswer {
 
 // The answer of a setting: the new length and the new number of lines, or those lent where it is refused.
 #[repr(C)]
-#[derive(Clone, Copy)]
+#[derive(Clone, Copy, PartialEq, Eq)]
 pub struct SetAnswer {
     pub refusal: Refusal,
     pub length: u64,

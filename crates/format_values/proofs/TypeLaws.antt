@@ -1,17 +1,22 @@
 -- Laws of the types by their numbers, and of the widths and bounds of samples.
 -- Assumes nothing.
 use Rattle.std.specs.Prelude.{if◌then◌else◌}
-use Prim.Native.Nat.{ℕ, zero, suc, ◌-◌, ◌*◌, ◌^◌, ◌/◌, ◌%◌, ◌≤◌, ◌<◌}
+use Prim.Native.Nat.{ℕ, zero, suc, ◌-◌, ◌^◌, ◌/◌, ◌≤◌, ◌<◌}
 use native.Mathlib.Omega.{arith}
 use mathlib.Core.Path.{◌≡◌, refl, sym, ap, ◌∙◌}
 use mathlib.Core.Logic.{inl, inr}
-use mathlib.Core.Bool.{Bool, true, false, ◌&&◌, ◌||◌, false≢true}
+use mathlib.Core.Bool.{Bool, true, false, ◌&&◌, false≢true}
 use mathlib.Core.List.{[]}
 use lib.Dec.{eqb, ltb, leb, lit≤, lit<}
 use lib.ListN.{get_or-eq_default}
-use borrow.Author.Tests.{ltb-true, ltb-false, le-leb, le-ltb}
-use Rattle.format.specs.Descriptors.{SampleType, sample_type, types, NumberKind, signed, unsigned, floating, type_at, sample_bytes, bytes_of_type, number_kind, is_floating, is_signed}
+use borrow.Author.Tests.{ltb-true, ltb-false, le-leb}
+use Rattle.format.specs.Descriptors.{SampleType, sample_type, types, NumberKind, signed, unsigned, floating, type_at, sample_bytes, bytes_of_type, number_kind, number_kind_type, is_floating, is_signed}
 use Rattle.format.specs.Samples.{lowest, highest}
+use Rattle.std.specs.Prelude.{Result, Ok, Err, MatchResult}
+use Rattle.std.specs.Result.{result_unwrap_or}
+use Rattle.format.specs.Codes.{type_code}
+use Rattle.format.specs.declared.codes.NotListed.{NotListed}
+use Rattle.format.specs.declared.codes.SampleType.TheVariants.{Int8}
 use Rattle.format.specs.Widths.{Width, width_by, kind_by}
 
 -- ---- a rule of every sample type, from its ten cases
@@ -33,6 +38,20 @@ below_10 P a b c d e f g h i j (suc (suc (suc (suc (suc (suc (suc (suc (suc (suc
 pub type_past : (t : ℕ) → 10 ≤ t → type_at t ≡ sample_type "int8" 1 signed []
 unfolding type_at
 type_past t h = get_or-eq_default types (sample_type "int8" 1 signed []) h
+
+-- a number stands for the type that it names, and else for the first
+module _ (t : ℕ) where
+  pub bytes_or_first : (named : Result _ NotListed) → MatchResult named (λ e. type_code e ≡ t) (λ _. 10 ≤ t)
+      → sample_bytes (type_code (result_unwrap_or named Int8)) ≡ sample_bytes t
+  unfolding type_at
+  bytes_or_first (Ok e) h = ap sample_bytes h
+  bytes_or_first (Err e) h = sym (ap bytes_of_type (type_past t h))
+
+  pub kind_or_first : (named : Result _ NotListed) → MatchResult named (λ e. type_code e ≡ t) (λ _. 10 ≤ t)
+      → number_kind (type_code (result_unwrap_or named Int8)) ≡ number_kind t
+  unfolding type_at
+  kind_or_first (Ok e) h = ap number_kind h
+  kind_or_first (Err e) h = sym (ap number_kind_type (type_past t h))
 
 pub every_type : (P : SampleType → Type 0) → P (type_at 0) → P (type_at 1) → P (type_at 2) → P (type_at 3) → P (type_at 4) → P (type_at 5) → P (type_at 6) → P (type_at 7) → P (type_at 8)
     → P (type_at 9) → P (sample_type "int8" 1 signed []) → (t : ℕ) → P (type_at t)
@@ -56,23 +75,6 @@ unfolding type_at
 type_bytes = every_type (λ x. 1 ≤ bytes_of_type x) (lit≤ tt) (lit≤ tt) (lit≤ tt) (lit≤ tt) (lit≤ tt) (lit≤ tt) (lit≤ tt) (lit≤ tt) (lit≤ tt) (lit≤ tt) (lit≤ tt)
 
 -- ---- kinds
-
--- the integer types come first, the signed ones at even numbers
-pub signed_first : (t : ℕ) → t < 8 → eqb (t % 2) 0 ≡ is_signed (number_kind t)
-unfolding type_at
-signed_first t h =
-    below_10 (λ t. (t < 8 → eqb (t % 2) 0 ≡ is_signed (number_kind t))) (λ _. refl) (λ _. refl) (λ _. refl) (λ _. refl) (λ _. refl) (λ _. refl) (λ _. refl) (λ _. refl) (λ l. absurd (omega arith))
-    (λ l. absurd (omega arith)) t (omega arith) h
-
-pub signed_past : (t : ℕ) → 8 ≤ t → leb 10 t ≡ is_signed (number_kind t)
-unfolding type_at
-signed_past t h = go (ltb t 10) refl
-  where
-    go : (x : Bool) → ltb t 10 ≡ x → leb 10 t ≡ is_signed (number_kind t)
-    go true q =
-        below_10 (λ t. (8 ≤ t → leb 10 t ≡ is_signed (number_kind t))) (λ l. absurd (omega arith)) (λ l. absurd (omega arith)) (λ l. absurd (omega arith)) (λ l. absurd (omega arith))
-        (λ l. absurd (omega arith)) (λ l. absurd (omega arith)) (λ l. absurd (omega arith)) (λ l. absurd (omega arith)) (λ _. refl) (λ _. refl) t (ltb-true t 10 q) h
-    go false q = rw (type_past t (ltb-false t 10 q)) (le-leb 10 t (ltb-false t 10 q))
 
 pub floating_is : (t : ℕ) → (leb 8 t && ltb t 10) ≡ is_floating (number_kind t)
 unfolding type_at
@@ -111,25 +113,12 @@ by_tests P a b c d w = go (eqb w 1) (eqb w 2) (eqb w 4)
 -- ---- bounds
 
 module _ {h : ℕ} (w : ℕ) (e : h ≡ 256 ^ width_by w / 2) where
-  pub half_small : (h ≡ 9223372036854775808 → ⊥) → h ≤ 2147483648
-  half_small n = rw e (by_tests (λ w. ((256 ^ w / 2 ≡ 9223372036854775808 → ⊥) → 256 ^ w / 2 ≤ 2147483648)) (λ _. lit≤ tt) (λ _. lit≤ tt) (λ _. lit≤ tt) (λ n. absurd (n refl)) w (λ q. n (e ∙ q)))
-
   pub half_pos : 1 ≤ h
   half_pos = rw e (by_tests (λ w. 1 ≤ 256 ^ w / 2) (lit≤ tt) (lit≤ tt) (lit≤ tt) (lit≤ tt) w)
 
-  -- the greatest value, signed and unsigned; none is above that of 8 signed bytes
+  -- the greatest value
   pub highest_signed : h - 1 ≡ highest signed (width_by w)
   highest_signed = rw e
-
-  pub highest_wide : h ≡ 9223372036854775808 → h - 1 ≡ highest unsigned (width_by w)
-  highest_wide q =
-      rw e
-      (by_tests (λ w. (256 ^ w / 2 ≡ 9223372036854775808 → 256 ^ w / 2 - 1 ≡ highest unsigned w)) (λ q. absurd (omega arith)) (λ q. absurd (omega arith)) (λ q. absurd (omega arith)) (λ _. refl) w (sym e ∙ q))
-
-  pub highest_narrow : (h ≡ 9223372036854775808 → ⊥) → 2 * h - 1 ≡ highest unsigned (width_by w)
-  highest_narrow n =
-      rw e
-      (by_tests (λ w. ((256 ^ w / 2 ≡ 9223372036854775808 → ⊥) → 2 * (256 ^ w / 2) - 1 ≡ highest unsigned w)) (λ _. refl) (λ _. refl) (λ _. refl) (λ n. absurd (n refl)) w (λ q. n (e ∙ q)))
 
 -- both bounds fit the largest sample
 pub lowest_most : (b : Bool) (w : ℕ) → lowest (kind_by b) (width_by w) ≤ 2 ^ 63

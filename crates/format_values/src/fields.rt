@@ -1,6 +1,6 @@
 // What the table of fields says of each field (`field_table` of the definitions), for every number of a field. A number past the table
 // stands for a field that is in version 1, comes anywhere and is carried.
-// The tables are numbers and not arrays, since an array is built on the stack at each call.
+// The tables are numbers and not arrays: a constant array is built anew on the stack at each call that looks up one of its items.
 ghost use Rattle.std.specs.Prelude.{◌≡◌, Bool, false, ◌*◌, ◌/◌, ◌%◌, ◌^◌, ◌<◌};
 ghost use Rattle.format.specs.Fields.{FieldRow, no_field, field_at, field_since, needs_dimension, needs_space, is_understood};
 ghost use Rattle.format_values.specs.Packed.{field_set};
@@ -33,12 +33,12 @@ pub fn since(f: usize) -> u32
     ensures { result ≡ field_since f }
 {
     if f < 16 {
-        return digit(SINCE, f);
+        digit(SINCE, f)
+    } else if f < field::COUNT {
+        digit(SINCE_LATER, f - 16)
+    } else {
+        1
     }
-    if f < field::COUNT {
-        return digit(SINCE_LATER, f - 16);
-    }
-    1
 }
 
 // Whether the field is in the set.
@@ -46,9 +46,10 @@ fn is_in(set: u64, f: usize) -> bool
     ensures { (p : FieldRow → Bool) → set ≡ field_set p → p no_field ≡ false → result ≡ p (field_at f) }
 {
     if f < field::COUNT {
-        return (set >> f) % 2 == 1;
+        (set >> f) % 2 == 1
+    } else {
+        false
     }
-    false
 }
 
 // Whether the field comes after dimension.

@@ -9,31 +9,23 @@ const PAST_EXTENT: u64 = format::MAX_EXTENT + 1;
 pub fn times(a: u64, b: u64) -> u64
     ensures { result ≡ capped (a * b) }
 {
-    if a == 0 {
-        return 0;
+    if a == 0 || b == 0 {
+        0
+    } else if PAST_EXTENT <= a || PAST_EXTENT <= b {
+        PAST_EXTENT
+    } else {
+        let p = a * b;
+        p.min(PAST_EXTENT)
     }
-    if b == 0 {
-        return 0;
-    }
-    if PAST_EXTENT <= a {
-        return PAST_EXTENT;
-    }
-    if PAST_EXTENT <= b {
-        return PAST_EXTENT;
-    }
-    let p = a * b;
-    if p < PAST_EXTENT { p } else { PAST_EXTENT }
 }
 
 // The product of the numbers, or `PAST_EXTENT` where it is above.
 pub fn product(ns: &[u64]) -> u64
     ensures { result ≡ capped (product ns.now) }
 {
-    let mut p: u64 = 1;
-    let mut i: usize = 0;
-    while i < ns.len() {
-        p = times(ns[i], p);
-        i += 1;
+    let mut p = 1;
+    for &n in ns {
+        p = times(n, p);
     }
     p
 }

@@ -23,8 +23,8 @@ pub fn refusal_at(number: u32, line: u32) -> Refusal
     ensures { result ≡ at_line number line }
 {
     Refusal {
-        number: number,
-        line: line,
+        number,
+        line,
         ..FINE
     }
 }

@@ -15,7 +15,8 @@ pub fn size(space: u32) -> u32
     ensures { result ≡ space_size space }
 {
     if space < COUNT {
-        return fields::digit(SIZES, space as usize);
+        fields::digit(SIZES, space as usize)
+    } else {
+        0
     }
-    0
 }

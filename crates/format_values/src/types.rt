@@ -1,54 +1,55 @@
 // The types of samples: their bytes, kinds and bounds, for every crate that asks for them.
 ghost use Rattle.std.specs.Prelude.{◌≡◌, ◌^◌, ◌/◌};
 ghost use Rattle.format.specs.Descriptors.{sample_bytes, number_kind, is_signed, is_floating};
+ghost use Rattle.format.specs.Codes.{type_code};
 ghost use Rattle.format.specs.Samples.{lowest, highest};
 ghost use Rattle.format.specs.Widths.{kind_by, width_by};
 
+use format::codes::SampleType;
+
 // Types are numbered from 0 as the rules list them: first the integer ones, signed and unsigned by turns, then float and double.
-pub const FLOAT: u64 = 8;
+pub const FLOAT: u64 = SampleType::Float as u64;
 
-pub const COUNT: u64 = 10;
+pub const COUNT: u64 = SampleType::Double as u64 + 1;
 
-// The bytes of a sample of each type.
-const BYTES: [u8; 10] = [1, 1, 2, 2, 4, 4, 8, 8, 4, 8];
+// The type with this number. A number past the list stands for the first type.
+fn type_of(t: u64) -> SampleType
+    ensures bytes { sample_bytes (type_code result) ≡ sample_bytes t }
+    ensures kind { number_kind (type_code result) ≡ number_kind t }
+{
+    SampleType::try_from(t).unwrap_or(SampleType::Int8)
+}
 
-// The bytes of a sample. A number past the list stands for the first type.
+// The bytes of a sample.
 pub fn sample_bytes(t: u64) -> u64
     ensures { result ≡ sample_bytes t }
 {
-    if t < COUNT {
-        BYTES[t as usize] as u64
-    } else {
-        1
-    }
+    type_of(t).bytes()
 }
 
 // Whether a type is signed.
 pub fn is_signed(t: u64) -> bool
     ensures { result ≡ is_signed (number_kind t) }
 {
-    if t < FLOAT { t % 2 == 0 } else { COUNT <= t }
+    type_of(t).is_signed()
 }
 
 // Whether a type is float or double.
 pub fn is_floating(t: u64) -> bool
     ensures { result ≡ is_floating (number_kind t) }
 {
-    (FLOAT <= t) & (t < COUNT)
+    type_of(t).is_floating()
 }
 
 // Half of the values that w bytes have.
 fn half(w: u64) -> u64
     ensures { result ≡ 256 ^ width_by w / 2 }
 {
-    if w == 1 {
-        128
-    } else if w == 2 {
-        32768
-    } else if w == 4 {
-        2147483648
-    } else {
-        9223372036854775808
+    match w {
+        1 => 128,
+        2 => 32768,
+        4 => 2147483648,
+        _ => 9223372036854775808,
     }
 }
 
@@ -65,10 +66,8 @@ pub fn highest(signed: bool, w: u64) -> u64
 {
     let h = half(w);
     if signed {
-        return h - 1;
+        h - 1
+    } else {
+        (h - 1 + h).min(format::MAX_SAMPLE)
     }
-    if h == 9223372036854775808 {
-        return h - 1;
-    }
-    2 * h - 1
 }

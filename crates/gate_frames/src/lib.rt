@@ -9,7 +9,8 @@
 // and the part that is wrong.
 #![tactic(auto)]
 
-pub mod input;
-pub mod parts;
-pub mod report;
+pub mod fault;
+pub mod frame;
+mod input;
+pub mod lent;
 pub mod walk;

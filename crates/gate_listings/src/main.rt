@@ -12,8 +12,9 @@
 #![tactic(auto)]
 
 use format::WriteAnswer;
-use gate_frames::parts::{number_at, part, refusal_at, rest, run_at, run_end, same_refusal};
-use gate_frames::report::MALFORMED;
+use gate_frames::fault::{Fault, check};
+use gate_frames::frame::Frame;
+use gate_frames::{lent, walk};
 use std::io;
 
 // The most bytes of a case.
@@ -25,60 +26,35 @@ const ROOM: usize = format::MAX_LISTING + 33;
 // What the bytes of the buffer are before the call.
 const UNTOUCHED: u8 = 165;
 
-// The answer where the first `room` bytes of the buffer are lent, all where it has fewer.
-fn list_to(file: &[u8], out: &mut [u8], room: usize) -> WriteAnswer {
-    if room < out.len() {
-        return listing_text::listing(file, &mut out[0..room]);
-    }
-    listing_text::listing(file, out)
+#[derive(Clone, Copy)]
+enum Part {
+    Answer = 1,
+    Buffer = 2,
 }
 
-// Whether the bytes of the buffer are the text and then as they were before the call.
-fn holds(out: &[u8; ROOM], text: &[u8]) -> bool {
-    let before = [UNTOUCHED; ROOM];
-    let n = text.len();
-    (part(out, 0, n) == text) & (rest(out, n) == rest(&before, n))
+impl From<Part> for Fault {
+    fn from(part: Part) -> Fault {
+        Fault::Part(part as u32)
+    }
 }
 
-// The part of a case that is wrong, 0 for none.
-fn case_fault(s: &[u8]) -> u32 {
-    let at = run_end(s, 16);
-    let text = run_at(s, at);
-    if run_end(s, at) != s.len() {
-        return MALFORMED;
-    }
+fn judge(case: &[u8]) -> Result<(), Fault> {
+    let mut frame = Frame::new(case);
+    let room = frame.number() as usize;
+    let refusal = frame.refusal();
+    let file = frame.run();
+    let text = frame.run();
+    frame.finish()?;
     let mut out = [UNTOUCHED; ROOM];
-    let answer = list_to(run_at(s, 16), &mut out, number_at(s, 0) as usize);
-    let told = answer.refusal;
-    if !same_refusal(told, refusal_at(s, 4)) | (answer.length != text.len() as u64) {
-        return 1;
-    }
-    if !holds(&out, text) {
-        return 2;
-    }
-    0
-}
-
-// The part that is wrong of the case in the first `n` bytes.
-fn fault_in(buffer: &[u8; CASE], n: usize) -> u32 {
-    case_fault(part(buffer, 0, n))
-}
-
-// The part that is wrong of the next case of the input.
-fn next_fault(rt: &impl Input) -> io::Result<u32> {
-    let n = gate_frames::input::next_number(rt)? as usize;
-    let mut buffer = [0u8; CASE];
-    if !gate_frames::input::fill(rt, &mut buffer, n)? {
-        return Ok(MALFORMED);
-    }
-    Ok(fault_in(&buffer, n))
+    let answer = listing_text::listing(file, lent::first(&mut out, room));
+    let expected = WriteAnswer {
+        refusal,
+        length: text.len() as u64,
+    };
+    check(answer == expected, Part::Answer)?;
+    check(lent::holds(&out, text, UNTOUCHED), Part::Buffer)
 }
 
 fn main(rt: HostRuntime) -> io::Result<()> {
-    let mut walk = gate_frames::walk::start(&rt)?;
-    while 0 < walk.left {
-        let fault = next_fault(&rt)?;
-        walk = gate_frames::walk::next(&rt, walk, fault)?;
-    }
-    Ok(())
+    walk::run(&rt, &mut [0u8; CASE], judge)
 }

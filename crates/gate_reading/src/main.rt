@@ -17,286 +17,187 @@
 // Where the input does not fit the frame the run ends with the line `malformed`.
 #![tactic(auto)]
 
-use format::{FindAnswer, ReadAnswer, Reading, Refusal, ValueAnswer};
-use format_values::refusals;
-use gate_frames::parts::{
-    number_at, part, plus, refusal_at, rest, run_at, run_end, same_refusal, text_at, text_end,
-    text_given,
-};
-use gate_frames::report::MALFORMED;
-use std::io;
+use format::reason::Reason;
+use format::{FindAnswer, ReadAnswer, Reading, Refusal, ValueAnswer, field};
+use gate_frames::fault::{Fault, Stop, check};
+use gate_frames::frame::Frame;
+use gate_frames::{lent, walk};
+use std::{array, io};
 
-// The most bytes of a case.
+// The most bytes of a case, and entries of the table.
 const CASE: usize = 131072;
+
+const TABLE: usize = 16384;
+
+// The bytes of the numbers of a reading.
+const READING: usize = 140;
 
 // The bytes of a buffer for a value: more than any value of the input has.
 const ROOM: usize = 65536;
 
-// What they are before the call.
+// What the entries of the table and the bytes of the buffer are before the call.
+const UNSET: u32 = 7;
+
 const UNTOUCHED: u8 = 165;
 
-// A place in a frame, and whether all up to there is right.
 #[derive(Clone, Copy)]
-struct Step {
-    at: usize,
-    right: bool,
+enum Part {
+    Read = 1,
+    Table = 2,
+    ReadHeader = 3,
+    Fields = 4,
+    Keys = 5,
 }
 
-// Whether the numbers before the sizes are those of the frame.
-fn kinds_right(r: Reading, s: &[u8]) -> bool {
-    let form = (r.version == number_at(s, 0)) & (r.form == number_at(s, 4));
-    let sample = (r.sampletype == number_at(s, 12))
-        & (r.encoding == number_at(s, 16))
-        & (r.endian == number_at(s, 20));
-    form & (r.dimension == number_at(s, 8)) & sample
-}
-
-// Whether the numbers after the sizes are those of the frame.
-fn lengths_right(r: Reading, s: &[u8]) -> bool {
-    let skips = (r.lineskip == number_at(s, 88) as u64)
-        & (r.byteskip == number_at(s, 92) as u64)
-        & (r.fromend == (number_at(s, 108) == 1));
-    let header = (r.length == number_at(s, 100) as u64) & (r.lines == number_at(s, 104));
-    skips & (r.extent == number_at(s, 96) as u64) & header
-}
-
-// Whether the numbers of the orientation are those of the frame.
-fn orientation_right(r: Reading, s: &[u8]) -> bool {
-    let given = (r.origin == (number_at(s, 112) == 1))
-        & (r.directions == (number_at(s, 116) == 1))
-        & (r.frame == (number_at(s, 120) == 1));
-    given & (r.space == number_at(s, 124)) & (r.spacedimension == number_at(s, 128))
-}
-
-// Whether the numbers of the data files are those of the frame.
-fn files_right(r: Reading, s: &[u8]) -> bool {
-    (r.files == number_at(s, 132)) & (r.fieldlines == number_at(s, 136))
-}
-
-// Whether the sizes are those of the frame.
-fn sizes_right(sizes: &[u64; 16], s: &[u8]) -> bool {
-    let mut right = true;
-    for i in 0..16 {
-        right = right & (sizes[i] == number_at(s, 24 + 4 * i) as u64);
-    }
-    right
-}
-
-// Whether the answer has the refusal and the 35 numbers at the front of `s`, zeros where they are missing.
-fn answer_right(a: ReadAnswer, refusal: Refusal, s: &[u8]) -> bool {
-    let told = a.refusal;
-    let r = a.reading;
-    let sizes = r.sizes;
-    same_refusal(told, refusal)
-        & kinds_right(r, s)
-        & sizes_right(&sizes, s)
-        & lengths_right(r, s)
-        & orientation_right(r, s)
-        & files_right(r, s)
-}
-
-// How many of the 140 bytes of a reading an answer with this refusal has.
-fn reading_bytes(refusal: Refusal) -> usize {
-    if refusal.number == 0 {
-        return 140;
-    }
-    0
-}
-
-// The entry that the table must have at `i`: the number in the frame, or 7.
-fn entry_at(s: &[u8], i: usize) -> u32 {
-    if i < s.len() / 4 {
-        return number_at(s, 4 * i);
-    }
-    7
-}
-
-// Whether the table has the frame's entries at its front, and 7 at every other place.
-fn table_right(table: &[u32; 16384], s: &[u8]) -> bool {
-    let mut right = true;
-    for i in 0..16384 {
-        right = right & (table[i] == entry_at(s, i));
-    }
-    right
-}
-
-// Whether a look-up answers the refusal, and the place in the file of the text at `at` or none.
-fn place_right(a: FindAnswer, refusal: Refusal, file: &[u8], s: &[u8], at: usize) -> bool {
-    let told = a.refusal;
-    let start = a.start as usize;
-    let length = a.length as usize;
-    let text = text_at(s, at);
-    let found = (a.found == text_given(s, at)) & (a.found | (start == 0));
-    let within = (plus(start, length) <= file.len()) & (length == text.len());
-    same_refusal(told, refusal) & found & within & (part(file, start, length) == text)
-}
-
-// Whether the 30 fields are those of the frame.
-fn fields_right(file: &[u8], refusal: Refusal, s: &[u8], from: usize) -> Step {
-    let mut at = from;
-    let mut right = true;
-    for field in 0..30 {
-        let a = read_lookup::descriptors::find_field(file, field);
-        right = right & place_right(a, refusal, file, s, at);
-        at = text_end(s, at);
-    }
-    Step {
-        at: at,
-        right: right,
+impl From<Part> for Fault {
+    fn from(part: Part) -> Fault {
+        Fault::Part(part as u32)
     }
 }
 
-// Whether the bytes of the buffer are the value and then as they were before the call.
-fn holds(out: &[u8; ROOM], value: &[u8]) -> bool {
-    let before = [UNTOUCHED; ROOM];
-    let n = value.len();
-    (part(out, 0, n) == value) & (rest(out, n) == rest(&before, n))
-}
-
-// The answer of `copy_value` where the first `room` bytes of the buffer are lent, all where it has fewer.
-fn copy_to(file: &[u8], key: &[u8], out: &mut [u8], room: usize) -> ValueAnswer {
-    if room < out.len() {
-        return read_lookup::keys::copy_value(file, key, &mut out[..room]);
+// The reading of 35 numbers, zeros where there are none.
+fn reading_of(numbers: &[u8]) -> Reading {
+    let mut frame = Frame::new(numbers);
+    Reading {
+        version: frame.number(),
+        form: frame.number(),
+        dimension: frame.number(),
+        sampletype: frame.number(),
+        encoding: frame.number(),
+        endian: frame.number(),
+        sizes: array::from_fn(|_| frame.number() as u64),
+        lineskip: frame.number() as u64,
+        byteskip: frame.number() as u64,
+        extent: frame.number() as u64,
+        length: frame.number() as u64,
+        lines: frame.number(),
+        fromend: frame.number() == 1,
+        origin: frame.number() == 1,
+        directions: frame.number() == 1,
+        frame: frame.number() == 1,
+        space: frame.number(),
+        spacedimension: frame.number(),
+        files: frame.number(),
+        fieldlines: frame.number(),
     }
-    read_lookup::keys::copy_value(file, key, out)
 }
 
-// Whether a copy of the key's value to `room` bytes answers the refusal and this value, and writes nothing else.
-fn copy_right(
-    file: &[u8],
-    key: &[u8],
+// A file, and the refusal of its header, which each look-up answers.
+#[derive(Clone, Copy)]
+struct Header<'a> {
+    file: &'a [u8],
     refusal: Refusal,
-    given: bool,
-    value: &[u8],
-    room: usize,
-) -> bool {
-    let mut out = [UNTOUCHED; ROOM];
-    let a = copy_to(file, key, &mut out, room);
-    let told = a.refusal;
-    let found = (a.found == given) & (a.length == value.len() as u64);
-    same_refusal(told, refusal) & found & holds(&out, value)
 }
 
-// Whether a copy to a buffer that is one byte too short is refused. No buffer is too short for an empty value.
-fn short_right(file: &[u8], key: &[u8], value: &[u8]) -> bool {
-    if value.len() == 0 {
-        return true;
-    }
-    let refusal = refusals::LENT_TOO_SHORT;
-    copy_right(file, key, refusal, false, &value[..0], value.len() - 1)
-}
-
-// Whether the key's value is copied to a long buffer and to one that it fills, and not to a shorter one.
-fn value_right(file: &[u8], key: &[u8], refusal: Refusal, given: bool, value: &[u8]) -> bool {
-    let long = copy_right(file, key, refusal, given, value, ROOM);
-    let full = copy_right(file, key, refusal, given, value, value.len());
-    long & full & short_right(file, key, value)
-}
-
-// Whether the key at `at` has its value.
-fn key_right(file: &[u8], refusal: Refusal, s: &[u8], at: usize) -> bool {
-    let key = run_at(s, at);
-    let text = run_end(s, at);
-    let value = run_at(s, text_end(s, text));
-    let a = read_lookup::keys::find_key(file, key);
-    place_right(a, refusal, file, s, text)
-        & value_right(file, key, refusal, text_given(s, text), value)
-}
-
-// Where the key at `at` ends.
-fn key_end(s: &[u8], at: usize) -> usize {
-    run_end(s, text_end(s, run_end(s, at)))
-}
-
-// Whether the keys have the values of the frame.
-fn keys_right(file: &[u8], refusal: Refusal, s: &[u8], from: usize) -> Step {
-    let mut at = plus(from, 4);
-    let mut right = true;
-    for _ in 0..number_at(s, from) {
-        if s.len() < at {
-            return Step {
-                at: at,
-                right: false,
-            };
+impl<'a> Header<'a> {
+    // Whether a look-up answers the refusal, and the place in the file of the text or none.
+    fn places(&self, answer: FindAnswer, text: Option<&[u8]>) -> bool {
+        match text {
+            Some(text) => {
+                let rest = self.file.get(answer.start as usize..);
+                let found = rest.and_then(|rest| rest.get(..answer.length as usize));
+                answer.refusal == self.refusal && answer.found && found == Some(text)
+            }
+            None => {
+                let absent = FindAnswer {
+                    refusal: self.refusal,
+                    found: false,
+                    start: 0,
+                    length: 0,
+                };
+                answer == absent
+            }
         }
-        right = right & key_right(file, refusal, s, at);
-        at = key_end(s, at);
     }
-    Step {
-        at: at,
-        right: right,
+
+    // Whether a copy of the key's value to `room` bytes gives this answer and these bytes, and writes nothing else.
+    fn copies(&self, key: &[u8], room: usize, answer: ValueAnswer, value: &[u8]) -> bool {
+        let mut out = [UNTOUCHED; ROOM];
+        let copied = read_lookup::keys::copy_value(self.file, key, lent::first(&mut out, room));
+        copied == answer && lent::holds(&out, value, UNTOUCHED)
+    }
+
+    // Whether the key's value is copied to a long buffer and to one that it fills, and not to one that is a byte shorter.
+    fn has_value(&self, key: &[u8], given: bool, value: &[u8]) -> bool {
+        let answer = ValueAnswer {
+            refusal: self.refusal,
+            found: given,
+            length: value.len() as u64,
+        };
+        let too_short = ValueAnswer {
+            refusal: Reason::LentTooShort.at_line(0).into(),
+            found: false,
+            length: 0,
+        };
+        self.copies(key, ROOM, answer, value)
+            && self.copies(key, value.len(), answer, value)
+            && (value.is_empty() || self.copies(key, value.len() - 1, too_short, &[]))
+    }
+
+    // Whether the fields have the texts.
+    fn has_fields(&self, texts: &[Option<&[u8]>; field::COUNT]) -> bool {
+        let find = |field| read_lookup::descriptors::find_field(self.file, field);
+        texts
+            .iter()
+            .zip(0..)
+            .all(|(&text, field)| self.places(find(field), text))
+    }
+
+    // Whether the next key of the frame has its value.
+    fn has_key(&self, frame: &mut Frame) -> bool {
+        let key = frame.run();
+        let text = frame.text();
+        let value = frame.run();
+        self.places(read_lookup::keys::find_key(self.file, key), text)
+            && self.has_value(key, text.is_some(), value)
     }
 }
 
-// The part of the answers about the header that is wrong, 0 for none. The table's run ends at `from`.
-fn header_fault(file: &[u8], s: &[u8], from: usize) -> u32 {
-    let refusal = refusal_at(s, 16);
-    let answer = read_header::read::read_header(file);
-    let fields = fields_right(file, refusal, s, from);
-    let keys = keys_right(file, refusal, s, fields.at);
-    if keys.at != s.len() {
-        return MALFORMED;
+fn judge(case: &[u8]) -> Result<(), Fault> {
+    let mut frame = Frame::new(case);
+    let room = frame.number() as usize;
+    if TABLE < room {
+        return Err(Stop::Malformed.into());
     }
-    if !answer_right(answer, refusal, part(s, 28, 140)) {
-        return 3;
-    }
-    if !fields.right {
-        return 4;
-    }
-    if !keys.right {
-        return 5;
-    }
-    0
-}
+    let read_refusal = frame.refusal();
+    let refusal = frame.refusal();
+    let reading = reading_of(frame.take(READING));
+    let file = frame.run();
+    let entries = frame.run();
 
-// The answer of `read` where the first `room` entries of the table are lent, all where it has fewer.
-fn read_to(file: &[u8], table: &mut [u32], room: usize) -> ReadAnswer {
-    if room < table.len() {
-        return read_header::read::read(file, &mut table[..room]);
-    }
-    read_header::read::read(file, table)
-}
+    let mut table = [UNSET; TABLE];
+    let answer = read_header::read::read(file, lent::first(&mut table, room));
+    let expected = ReadAnswer {
+        refusal: read_refusal,
+        reading: if read_refusal.number == 0 {
+            reading
+        } else {
+            reading_of(&[])
+        },
+    };
+    check(answer == expected, Part::Read)?;
+    let mut right = [UNSET; TABLE];
+    lent::store(&mut right, entries);
+    check(table == right, Part::Table)?;
 
-// The part of a case that is wrong, 0 for none.
-fn case_fault(s: &[u8]) -> u32 {
-    let room = number_at(s, 0) as usize;
-    if 16384 < room {
-        return MALFORMED;
+    let header = Header { file, refusal };
+    let texts = array::from_fn(|_| frame.text());
+    let mut keys_right = true;
+    for _ in 0..frame.number() {
+        keys_right &= header.has_key(&mut frame);
+        if frame.is_past_end() {
+            break;
+        }
     }
-    let file = run_at(s, 168);
-    let at = run_end(s, 168);
-    let refusal = refusal_at(s, 4);
-    let mut table = [7u32; 16384];
-    let answer = read_to(file, &mut table, room);
-    if !answer_right(answer, refusal, part(s, 28, reading_bytes(refusal))) {
-        return 1;
-    }
-    if !table_right(&table, run_at(s, at)) {
-        return 2;
-    }
-    header_fault(file, s, run_end(s, at))
-}
-
-// The part that is wrong of the case in the first `n` bytes.
-fn fault_in(buffer: &[u8; CASE], n: usize) -> u32 {
-    case_fault(part(buffer, 0, n))
-}
-
-// The part that is wrong of the next case of the input.
-fn next_fault(rt: &impl Input) -> io::Result<u32> {
-    let n = gate_frames::input::next_number(rt)? as usize;
-    let mut buffer = [0u8; CASE];
-    if !gate_frames::input::fill(rt, &mut buffer, n)? {
-        return Ok(MALFORMED);
-    }
-    Ok(fault_in(&buffer, n))
+    frame.finish()?;
+    check(
+        read_header::read::read_header(file) == ReadAnswer { refusal, reading },
+        Part::ReadHeader,
+    )?;
+    check(header.has_fields(&texts), Part::Fields)?;
+    check(keys_right, Part::Keys)
 }
 
 fn main(rt: HostRuntime) -> io::Result<()> {
-    let mut walk = gate_frames::walk::start(&rt)?;
-    while 0 < walk.left {
-        let fault = next_fault(&rt)?;
-        walk = gate_frames::walk::next(&rt, walk, fault)?;
-    }
-    Ok(())
+    walk::run(&rt, &mut [0u8; CASE], judge)
 }

@@ -1,5 +1,5 @@
 // Runs the settings of standard input: single ones, and lists of them, each lent what the one before it left. The frame and what is printed
-// are those of crate `gate_frames`; module `packed` has the layout of a case.
+// are those of crate `gate_frames`; module `case` has the layout of a case.
 //
 // The parts of a case: 1 the answers, 2 the buffer, 3 the table, 4 the count and the table of a fresh reading, 5 the rest of that reading,
 // 6 the values of the keys, 7 the bytes after the header. Parts 4 to 7 are looked at where the case says that the table is that of the file.
@@ -7,48 +7,71 @@
 #![tactic(auto)]
 
 mod after;
-mod list;
-mod packed;
+mod case;
+mod settings;
 mod show;
 
-use gate_frames::parts::part;
-use gate_frames::report::MALFORMED;
+use case::{CASE, TABLE, UNSET};
+use gate_frames::fault::{Fault, check};
+use gate_frames::frame::Frame;
+use gate_frames::{lent, walk};
 use std::io;
 
-// The part of a case that is wrong, 0 for none. A fresh reading is shown where the case has a name.
-fn case_fault(rt: &impl Print, s: &[u8]) -> io::Result<u32> {
-    if packed::place(s, packed::END) != s.len() {
-        return Ok(MALFORMED);
-    }
-    let mut buf = [packed::UNTOUCHED; packed::BUFFER];
-    let mut table = [packed::UNSET; packed::TABLE];
-    packed::unpack(&mut buf, packed::given(s, packed::LENT_BUFFER));
-    packed::put_entries(&mut table, packed::given(s, packed::LENT_TABLE));
-    let left = list::run(&mut buf, &mut table, s);
-    show::show(rt, &buf, left.used, s)?;
-    Ok(after::fault(&buf, &table, left, s))
+#[derive(Clone, Copy)]
+enum Part {
+    Answers = 1,
+    Buffer = 2,
+    Table = 3,
+    Lines = 4,
+    Reading = 5,
+    Keys = 6,
+    Rest = 7,
 }
 
-// The part that is wrong of the case in the first `n` bytes.
-fn fault_in(rt: &impl Print, buffer: &[u8; packed::CASE], n: usize) -> io::Result<u32> {
-    case_fault(rt, part(buffer, 0, n))
+impl From<Part> for Fault {
+    fn from(part: Part) -> Fault {
+        Fault::Part(part as u32)
+    }
 }
 
-// The part that is wrong of the next case of the input.
-fn next_fault(rt: &(impl Input + Print)) -> io::Result<u32> {
-    let n = gate_frames::input::next_number(rt)? as usize;
-    let mut buffer = [0u8; packed::CASE];
-    if !gate_frames::input::fill(rt, &mut buffer, n)? {
-        return Ok(MALFORMED);
+// The table with the entries of a run.
+fn table_of(entries: &[u8]) -> [u32; TABLE] {
+    let mut table = [UNSET; TABLE];
+    lent::store(&mut table, entries);
+    table
+}
+
+// A fresh reading is shown where the case has a name.
+fn judge(rt: &impl Print, bytes: &[u8]) -> Result<(), Fault> {
+    let case = case::parse(bytes)?;
+    let before = case::unpack(case.lent.buffer);
+    let mut buffer = before;
+    let mut table = table_of(case.lent.table);
+    let (left, right) = match (buffer.get_mut(..case.room), table.get_mut(..case.slots)) {
+        (Some(buffer), Some(table)) => settings::run(buffer, table, case.first, case.settings),
+        // more is to be lent than there is: nothing is run and nothing is right
+        _ => (case.first, false),
+    };
+    let file = Frame::new(&buffer).take(left.used);
+    if !case.name.is_empty() {
+        show::show(rt, case.name, file, case.keys)?;
     }
-    fault_in(rt, &buffer, n)
+    check(right, Part::Answers)?;
+    check(buffer == case::unpack(case.left.buffer), Part::Buffer)?;
+    check(table == table_of(case.left.table), Part::Table)?;
+    if case.is_read {
+        let first = Frame::new(&before).take(case.first.used);
+        let old = read_header::read::read_header(first).reading;
+        let new = read_header::read::read_header(file).reading;
+        let data = after::rest(first, old.length as usize);
+        check(after::lines_right(file, &table, left.count), Part::Lines)?;
+        check(after::same_reading(&old, &new), Part::Reading)?;
+        check(after::keys_right(file, case.keys), Part::Keys)?;
+        check(data == after::rest(file, new.length as usize), Part::Rest)?;
+    }
+    Ok(())
 }
 
 fn main(rt: HostRuntime) -> io::Result<()> {
-    let mut walk = gate_frames::walk::start(&rt)?;
-    while 0 < walk.left {
-        let fault = next_fault(&rt)?;
-        walk = gate_frames::walk::next(&rt, walk, fault)?;
-    }
-    Ok(())
+    walk::run(&rt, &mut [0u8; CASE], |bytes: &[u8]| judge(&rt, bytes))
 }

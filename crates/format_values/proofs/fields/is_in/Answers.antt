@@ -6,5 +6,5 @@ use Rattle.format_values.proofs.fields.is_in.Goals as goal
 pub returns-then-f-lt-COUNT : goal.returns-then-f-lt-COUNT
 returns-then-f-lt-COUNT c = λ p e n. in_set p e c.if-f-lt-COUNT.true
 
-pub returns : goal.returns
-returns c = λ p e n. sym (ap p (past_table c.args.f c.if-f-lt-COUNT.false) ∙ n)
+pub returns-else-f-lt-COUNT : goal.returns-else-f-lt-COUNT
+returns-else-f-lt-COUNT c = λ p e n. sym (ap p (past_table c.args.f c.if-f-lt-COUNT.false) ∙ n)

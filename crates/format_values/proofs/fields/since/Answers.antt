@@ -13,5 +13,5 @@ pub returns-then-f-lt-COUNT : goal.returns-then-f-lt-COUNT
 unfolding packed
 returns-then-f-lt-COUNT c = c.digit-then-f-lt-COUNT.ensures ∙ since_later c.args.f c.if-f-lt16.false c.if-f-lt-COUNT.true
 
-pub returns : goal.returns
-returns c = sym (ap since_of (past_table c.args.f c.if-f-lt-COUNT.false))
+pub returns-else-f-lt-COUNT : goal.returns-else-f-lt-COUNT
+returns-else-f-lt-COUNT c = sym (ap since_of (past_table c.args.f c.if-f-lt-COUNT.false))

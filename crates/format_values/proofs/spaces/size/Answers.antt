@@ -8,5 +8,5 @@ pub returns-then-space-lt-COUNT : goal.returns-then-space-lt-COUNT
 unfolding packed
 returns-then-space-lt-COUNT c = space_digit c.args.space c.if-space-lt-COUNT.true c.digit.ensures refl
 
-pub returns : goal.returns
-returns c = sym (space_past c.args.space c.if-space-lt-COUNT.false)
+pub returns-else-space-lt-COUNT : goal.returns-else-space-lt-COUNT
+returns-else-space-lt-COUNT c = sym (space_past c.args.space c.if-space-lt-COUNT.false)
