@@ -19,7 +19,7 @@ fn skip_lines(s: &[u8], n: u64) -> Option<usize>
     ensures { SkipIs s.now (skip_lines n s.now) result }
 {
     let mut at: usize = 0;
-    for line in 0..n {
+    for _ in 0..n {
         let rest = &s[at..];
         let k = read_text::bytes::find_byte(rest, b'\n');
         if k == rest.len() {
