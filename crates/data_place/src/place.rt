@@ -6,7 +6,7 @@ ghost use Rattle.format.specs.Fields.{Given};
 ghost use Rattle.format.specs.Descriptors.{number_kind, is_floating};
 ghost use Rattle.format.specs.Header.{Entry, header_length};
 ghost use Rattle.format.specs.Data.{skip_lines, part, place_of};
-ghost use Rattle.format.specs.Calls.{data_answer, data_place_call, data_call, data_pointer};
+ghost use Rattle.format.specs.Calls.{data_place_call, data_call, data_pointer};
 ghost use Rattle.data_place.specs.Places.{IsReading, SkipIs, place_by, skipped_by, left_by, place_left, files_wrong, place_located, located_answered};
 
 use format::answers::Place;
@@ -138,16 +138,6 @@ pub fn locate_data(
         place_in(reading, second, 0, true)
     } else {
         place_in(reading, file, area_start(reading.length, file.len()), false)
-    }
-}
-
-// The same as callers in C have it.
-pub fn locate(reading: Reading, file: &[u8], second: &[u8], wanted: bool) -> DataAnswer
-    ensures { (es : List Entry) (gs : List Given) → IsReading file.now reading es gs → result ≡ data_answer (place_of wanted gs (header_length es) file.now second.now) }
-{
-    match locate_data(&reading, file, second, wanted) {
-        Ok(located) => answer(Ok(located)),
-        Err(reason) => answer(Err(reason.into())),
     }
 }
 
