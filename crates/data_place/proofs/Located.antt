@@ -21,7 +21,7 @@ use Rattle.format.specs.Fields.{Given}
 use Rattle.format.specs.Descriptors.{ByteSkip, forward, from_end, bytes_forward, is_from_end, is_detached, encoding_of, type_of, number_kind, is_floating, extent_of, raw, line_skip_of, byte_skip_of, file_count_of}
 use Rattle.format.specs.Header.{Entry, Outcome, refused, accepted, header, header_length}
 use Rattle.format.specs.Data.{skip_lines, skip_bytes, last_bytes, past_byte_skip, after_skips, Place, nowhere, part, place_from, place_of, part_of}
-use Rattle.format.specs.Calls.{reading_of, read_answer, read_header_call, no_data, data_answer, data_place_in, data_place_call, data_call}
+use Rattle.format.specs.Calls.{reading_of, read_answer, read_header_call, data_answer, data_place_in, data_place_call, data_call}
 use Rattle.format.specs.declared.reason.Reason.{Reason}
 use Rattle.format.specs.Reasons.{reason_number}
 use Rattle.format.proofs.Header.{header_sound}
@@ -269,15 +269,7 @@ module _ (file second : List ℕ) where
           let p = place_of false gs (header_length es) file second in
           record { within = rw e (answer_within p (place_lies false gs (header_length es))); bytes = rw (e, q) (answer_bytes p) }
 
-  -- the reading is refused
-  pub call_refused : (a : ReadAnswer) → a ≡ read_header_call file → (a.refusal.number ≡ 0 → ⊥) → no_data a.refusal ≡ data_place_call file second
-  call_refused a e n = go (header file) e
-    where
-      go : (o : Outcome) → a ≡ read_answer o → no_data a.refusal ≡ data_place_in file second o
-      go (refused r) q = rw q
-      go (accepted es gs ls) q = absurd (n (ap (λ (x : ReadAnswer). x.refusal.number) q))
-
-  -- or it is accepted, and the place is that of the reading
+  -- the reading is accepted, and the place is that of the reading
   pub call_located : (a : ReadAnswer) → a ≡ read_header_call file → a.refusal.number ≡ 0 → (d : DataAnswer)
       → ((es : List Entry) (gs : List Given) → IsReading file a.reading es gs → d ≡ data_answer (place_of false gs (header_length es) file second))
       → d ≡ data_place_call file second

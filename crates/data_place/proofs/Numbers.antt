@@ -15,12 +15,12 @@ use Rattle.format.specs.Limits.{max_extent}
 use Rattle.format.specs.Descriptors.{product}
 use Rattle.format.specs.Header.{Outcome, refused, accepted, header}
 use Rattle.format.specs.Axes.{inside, sample_number}
-use Rattle.format.specs.Calls.{reading_of, read_answer, read_header_call, number_answer, sample_number_call}
+use Rattle.format.specs.Calls.{reading_of, read_answer, read_header_call, sample_number_call}
 use Rattle.format.proofs.Bytes.{and_left, and_right}
 use Rattle.format.proofs.Named.{product_few}
 use Rattle.format.proofs.Numbered.{NumberedOutcome, header_numbered}
 use Rattle.read_text.proofs.Places.{drop_next}
-use Rattle.data_place.specs.Places.{Inside, no_number, number_in}
+use Rattle.data_place.specs.Places.{Inside, number_in}
 use Rattle.data_place.proofs.Headers.{header_axes, header_sizes}
 
 -- ---- coordinates by index
@@ -125,15 +125,7 @@ pub record Axes (file coords : List ℕ) (x : Reading) : Type 0 where
   pub number : number_in (take x.dimension x.sizes) coords ≡ sample_number_call file coords
 
 module _ (file coords : List ℕ) (a : ReadAnswer) (is : a ≡ read_header_call file) where
-  -- the reading is refused
-  pub number_refused : (a.refusal.number ≡ 0 → ⊥) → no_number a.refusal ≡ sample_number_call file coords
-  number_refused n = go (header file) is
-    where
-      go : (o : Outcome) → a ≡ read_answer o → no_number a.refusal ≡ number_answer coords o
-      go (refused r) q = rw q
-      go (accepted es gs ls) q = absurd (n (ap (λ (x : ReadAnswer). x.refusal.number) q))
-
-  -- or it is accepted
+  -- the reading is accepted
   pub number_axes : a.refusal.number ≡ 0 → Axes file coords a.reading
   unfolding reading_of
   number_axes z = go (header file) refl is (header_numbered file)

@@ -13,9 +13,11 @@ use Rattle.format.specs.Descriptors.{raw, product}
 use Rattle.format.specs.Header.{Entry, accepted, header}
 use Rattle.format.specs.Data.{skip_lines, skip_bytes, Place, nowhere, part}
 use Rattle.format.specs.Axes.{inside, sample_number}
-use Rattle.format.specs.Calls.{reading_of}
+use Rattle.format.specs.Calls.{reading_of, no_data, data_answer}
 use Rattle.format.specs.declared.reason.Reason.{Reason}
-use Rattle.format.specs.Reasons.{reason_number}
+use Rattle.format.specs.declared.reason.Refused.{Refused}
+use Rattle.format.specs.declared.DataAnswer.{DataAnswer}
+use Rattle.format.specs.Reasons.{reason_number, refusal_of}
 use Rattle.data_place.specs.declared.place.Located.{Located}
 use Rattle.std.specs.Prelude.{Option as Maybe}
 use Rattle.std.specs.Prelude.{Some, None, Result, Ok, Err}
@@ -64,6 +66,11 @@ files_wrong several long = if several then several_files else if long then file_
 abbrev pub place_located : Result Located Reason → Place
 place_located (Ok l) = part l.second l.place.start l.place.length
 place_located (Err reason) = nowhere (reason_number reason)
+
+-- the same as callers in C have it, with the refusal's line
+abbrev pub located_answered : Result Located Refused → DataAnswer
+located_answered (Ok l) = data_answer (part l.second l.place.start l.place.length)
+located_answered (Err r) = no_data (refusal_of r)
 
 -- ---- the number of a sample
 

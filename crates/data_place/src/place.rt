@@ -6,12 +6,12 @@ ghost use Rattle.format.specs.Fields.{Given};
 ghost use Rattle.format.specs.Descriptors.{number_kind, is_floating};
 ghost use Rattle.format.specs.Header.{Entry, header_length};
 ghost use Rattle.format.specs.Data.{skip_lines, part, place_of};
-ghost use Rattle.format.specs.Calls.{no_data, data_answer, data_place_call, data_call, data_pointer};
-ghost use Rattle.data_place.specs.Places.{IsReading, SkipIs, place_by, skipped_by, left_by, place_left, files_wrong, place_located};
+ghost use Rattle.format.specs.Calls.{data_place_call, data_call, data_pointer};
+ghost use Rattle.data_place.specs.Places.{IsReading, SkipIs, place_by, skipped_by, left_by, place_left, files_wrong, place_located, located_answered};
 
 use format::answers::Place;
-use format::reason::Reason;
-use format::{DataAnswer, Reading, Refusal};
+use format::reason::{Reason, Refused};
+use format::{DataAnswer, Reading};
 use format_values::refusals;
 
 // Where what follows n lines that end in LF starts; none where the lines pass the end.
@@ -19,7 +19,7 @@ fn skip_lines(s: &[u8], n: u64) -> Option<usize>
     ensures { SkipIs s.now (skip_lines n s.now) result }
 {
     let mut at: usize = 0;
-    for line in 0..n {
+    for _ in 0..n {
         let rest = &s[at..];
         let k = read_text::bytes::find_byte(rest, b'\n');
         if k == rest.len() {
@@ -141,16 +141,9 @@ pub fn locate_data(
     }
 }
 
-// The same as callers in C have it.
-pub fn locate(reading: Reading, file: &[u8], second: &[u8], wanted: bool) -> DataAnswer
-    ensures { (es : List Entry) (gs : List Given) → IsReading file.now reading es gs → result ≡ data_answer (place_of wanted gs (header_length es) file.now second.now) }
-{
-    answer(locate_data(&reading, file, second, wanted))
-}
-
-// A place as callers in C have it; a refusal without a line.
-fn answer(located: Result<Located, Reason>) -> DataAnswer
-    ensures { result ≡ data_answer (place_located located) }
+// A place as callers in C have it.
+fn answer(located: Result<Located, Refused>) -> DataAnswer
+    ensures { result ≡ located_answered located }
 {
     match located {
         Ok(located) => DataAnswer {
@@ -159,31 +152,28 @@ fn answer(located: Result<Located, Reason>) -> DataAnswer
             start: located.place.start,
             length: located.place.length,
         },
-        Err(reason) => nowhere(refusals::refusal(reason.number())),
+        Err(refused) => DataAnswer {
+            refusal: refused.into(),
+            second: false,
+            start: 0,
+            length: 0,
+        },
     }
 }
 
-// There is no data.
-fn nowhere(refusal: Refusal) -> DataAnswer
-    ensures { result ≡ no_data refusal }
+// Where the data lies by the header of the file, which tells whether it is in the second one.
+fn find_data(file: &[u8], second: &[u8]) -> Result<Located, Refused>
+    ensures { located_answered result ≡ data_place_call file.now second.now }
 {
-    DataAnswer {
-        refusal,
-        second: false,
-        start: 0,
-        length: 0,
-    }
+    let reading = read_header::read::reading(file)?;
+    Ok(locate_data(&reading, file, second, false)?)
 }
 
 // The data call, by value: the refusal, or in which file, where and how long.
 pub fn data_place(file: &[u8], second: &[u8]) -> DataAnswer
     ensures { result ≡ data_place_call file.now second.now }
 {
-    let answer = read_header::read::read_header(file);
-    if answer.refusal.number != 0 {
-        return nowhere(answer.refusal);
-    }
-    locate(answer.reading, file, second, false)
+    answer(find_data(file, second))
 }
 
 // The data as a slice of its file; a refusal gives an empty slice at byte 0 of the first file.
@@ -191,12 +181,16 @@ pub fn data<'a>(file: &'a [u8], second: &'a [u8]) -> &'a [u8]
     ensures list { result.now ≡ data_call file.now second.now }
     ensures itself { result.ref_ptr ≡ data_pointer file.entry.ref_ptr second.entry.ref_ptr (data_place_call file.now second.now) }
 {
-    let d = data_place(file, second);
-    let start = d.start as usize;
-    let n = d.length as usize;
-    if d.second {
-        &second[start..start + n]
-    } else {
-        &file[start..start + n]
+    match find_data(file, second) {
+        Ok(located) => {
+            let start = located.place.start as usize;
+            let n = located.place.length as usize;
+            if located.second {
+                &second[start..start + n]
+            } else {
+                &file[start..start + n]
+            }
+        }
+        Err(_) => &file[..0],
     }
 }

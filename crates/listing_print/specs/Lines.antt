@@ -1,14 +1,10 @@
 -- Internal to the library. The lines of a reading, all but those of its keys, by its numbers.
-use Rattle.std.specs.Prelude.{ℕ, List, ◌++◌, ◌==◌, nat_lt, take, if◌then◌else◌}
+use Rattle.std.specs.Prelude.{ℕ, List, ◌++◌, ◌==◌, take, if◌then◌else◌}
 use Rattle.format.specs.declared.Reading.{Reading}
 use Rattle.format.specs.Bytes.{bytes}
 use Rattle.format.specs.Descriptors.{type_at, type_name, encodings, endians, no_endian}
 use Rattle.format.specs.Writer.{decimal, spaced, name_at}
 use Rattle.format.specs.Listing.{shown}
-
--- the row of a table for a number, and a row for the numbers that have none
-abbrev pub row_for : ℕ → ℕ → ℕ → ℕ
-row_for n rows past = if nat_lt n rows then n else past
 
 abbrev pub form_text : ℕ → List ℕ
 form_text form = if form == 1 then bytes "detached" else bytes "attached"

@@ -13,7 +13,6 @@ fn put_byte(out: &mut [u8], at: usize, b: u8) -> usize
 {
     if at < out.len() {
         out[at] = b;
-        return at + 1;
     }
     at + 1
 }
@@ -24,10 +23,8 @@ pub fn put_bytes(out: &mut [u8], at: usize, s: &[u8]) -> usize
     ensures { Printed (length s.now) out.old at s.now out.new result }
 {
     let mut o = at;
-    let mut i: usize = 0;
-    while i < s.len() {
-        o = put_byte(out, o, s[i]);
-        i += 1;
+    for &b in s {
+        o = put_byte(out, o, b);
     }
     o
 }
@@ -38,10 +35,10 @@ pub fn put_decimal(out: &mut [u8], at: usize, n: u64) -> usize
     ensures { Printed 20 out.old at (decimal n) out.new result }
 {
     if n < 10 {
-        return put_byte(out, at, (48 + n) as u8);
+        return put_byte(out, at, b'0' + n as u8);
     }
     let o = put_decimal(out, at, n / 10);
-    put_byte(out, o, (48 + n % 10) as u8)
+    put_byte(out, o, b'0' + (n % 10) as u8)
 }
 
 // A word, a text, and LF.

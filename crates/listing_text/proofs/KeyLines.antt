@@ -2,10 +2,12 @@
 -- Assumes nothing.
 use Prim.Native.Nat.{ℕ, suc, ◌+◌, ◌-◌, ◌≤◌, ◌<◌}
 use native.Mathlib.Omega.{arith}
-use mathlib.Core.Path.{◌≡◌, sym, ap, ◌∙◌}
-use mathlib.Core.Bool.{true, false}
+use mathlib.Core.Path.{◌≡◌, refl, sym, ap, ◌∙◌}
+use mathlib.Core.Bool.{true, false, ◌&&◌}
 use mathlib.Core.List.{List, [], ◌∷◌, ◌++◌, append_assoc}
 use mathlib.Core.Option.{some}
+use lib.Dec.{eqb}
+use lib.Pointwise.{pointwise}
 use lib.ListN.{length, take, drop, length-append, length-drop, length-take}
 use Rattle.format.specs.Bytes.{bytes, same, LF, EQUALS}
 use Rattle.format.specs.Limits.{max_header}
@@ -17,6 +19,16 @@ use Rattle.read_text.proofs.Places.{KindAt}
 use Rattle.read_lines.specs.Spans.{LineAt, PastAt}
 use Rattle.read_lines.proofs.LineCuts.{rest_of}
 use Rattle.listing_text.specs.Shown.{pair_in, is_key, is_later, key_text, shown_texts, shown_lines, lines_from, Within}
+
+-- ---- texts
+
+-- texts are the same where each byte is
+pub same_is : (a b : List ℕ) → pointwise eqb a b ≡ same a b
+unfolding same
+same_is [] [] = refl
+same_is [] (c ∷ t) = refl
+same_is (b ∷ s) [] = refl
+same_is (b ∷ s) (c ∷ t) = ap (λ r. eqb b c && r) (same_is s t)
 
 -- ---- the pair of a line
 

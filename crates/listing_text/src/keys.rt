@@ -13,7 +13,7 @@ fn is_key(t: &[u8], key: &[u8]) -> bool
     ensures { result ≡ is_key key.now (pair_in t.now) }
 {
     match read_text::lines::kind_of(t) {
-        Kind::Pair(i) => read_text::bytes::is_same(key, &t[..i]),
+        Kind::Pair(i) => key == &t[..i],
         _ => false,
     }
 }
@@ -24,20 +24,14 @@ fn is_later(file: &[u8], key: &[u8], from: usize, count: u32) -> bool
     ensures { result ≡ is_later key.now (lines_from file.now from count) }
 {
     let mut at = from;
-    let mut left = count;
-    while 0 < left {
-        match read_lines::line_at(file, at) {
-            Some(LineEnds { text_end: e, next }) => {
-                if is_key(&file[at..e], key) {
-                    return true;
-                }
-                at = next;
-            }
-            None => {
-                return false;
-            }
+    for _ in 0..count {
+        let Some(LineEnds { text_end, next }) = read_lines::line_at(file, at) else {
+            return false;
+        };
+        if is_key(&file[at..text_end], key) {
+            return true;
         }
-        left -= 1;
+        at = next;
     }
     false
 }
@@ -60,9 +54,10 @@ fn put_item(file: &[u8], out: &mut [u8], at: usize, t: &[u8], next: usize, left:
     match read_text::lines::kind_of(t) {
         Kind::Pair(i) => {
             if is_later(file, &t[..i], next, left) {
-                return at;
+                at
+            } else {
+                put_key(out, at, t, i)
             }
-            put_key(out, at, t, i)
         }
         _ => at,
     }
@@ -75,18 +70,12 @@ pub(crate) fn put_keys(file: &[u8], out: &mut [u8], start: usize, count: u32) ->
 {
     let mut o = start;
     let mut at: usize = 0;
-    let mut left = count;
-    while 0 < left {
-        match read_lines::line_at(file, at) {
-            Some(LineEnds { text_end: e, next }) => {
-                o = put_item(file, out, o, &file[at..e], next, left - 1);
-                at = next;
-            }
-            None => {
-                return o;
-            }
-        }
-        left -= 1;
+    for left in (0..count).rev() {
+        let Some(LineEnds { text_end, next }) = read_lines::line_at(file, at) else {
+            return o;
+        };
+        o = put_item(file, out, o, &file[at..text_end], next, left);
+        at = next;
     }
     o
 }

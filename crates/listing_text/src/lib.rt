@@ -40,19 +40,14 @@ fn print(file: &[u8], out: &mut [u8]) -> usize
     if format::MAX_LISTED < file.len() {
         return put_refusal(out, refusals::LENT_TOO_SHORT);
     }
-    let answer = read_header::read::read_header(file);
-    if answer.refusal.number != 0 {
-        return put_refusal(out, answer.refusal);
+    match read_header::read::reading(file) {
+        Err(refused) => put_refusal(out, refused.into()),
+        Ok(reading) if reading.form == format::DETACHED => put_reading(file, out, reading, 0),
+        Ok(reading) => match data_place::place::locate_data(&reading, file, &[], false) {
+            Err(reason) => put_refusal(out, reason.at_line(0).into()),
+            Ok(located) => put_reading(file, out, reading, located.place.start),
+        },
     }
-    let reading = answer.reading;
-    if reading.form == format::DETACHED {
-        return put_reading(file, out, reading, 0);
-    }
-    let place = data_place::place::locate(reading, file, &file[0..0], false);
-    if place.refusal.number != 0 {
-        return put_refusal(out, place.refusal);
-    }
-    put_reading(file, out, reading, place.start)
 }
 
 // Writes the listing of a file to the front of `out`. Where `out` is too short nothing is written; `MAX_LISTING` bytes are enough for any file.

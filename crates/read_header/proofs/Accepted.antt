@@ -6,7 +6,13 @@ use mathlib.Core.Path.{◌≡◌, refl, sym, ap, ◌∙◌}
 use mathlib.Core.List.{List, [], ◌++◌}
 use mathlib.Core.Option.{none}
 use lib.ListN.{length}
+use Rattle.std.specs.Prelude.{Ok, Err}
+use Rattle.format.specs.declared.Reading.{Reading}
 use Rattle.format.specs.declared.ReadAnswer.{ReadAnswer}
+use Rattle.format.specs.declared.reason.Refused.{Refused}
+use Rattle.format.specs.Reasons.{refusal_of}
+use Rattle.format.specs.Answers.{reading_answered}
+use Rattle.format.proofs.Numbered.{NumberedOutcome, header_numbered}
 use Rattle.format.specs.Lines.{Line}
 use Rattle.format.specs.Pairs.{kind_of, pair_texts, field_texts}
 use Rattle.format.specs.Fields.{Given}
@@ -51,6 +57,30 @@ module _ (file : List ℕ) (read : ReadAnswer) (e : read ≡ read_header_call fi
       go : (o : Outcome) → header file ≡ o → read ≡ read_answer o → Fielded file read.reading.fieldlines
       go (refused r) p q = absurd (z (ap (λ a. a.reading.lines) q))
       go (accepted es gs ls) p q = record { entries = es; fields = gs; after = ls; is = p; many = ap (λ a. a.reading.fieldlines) q }
+
+-- the reading x of an accepted file, by its entries and fields
+pub record Read (file : List ℕ) (x : Reading) : Type 0 where
+  pub entries : List Entry
+  pub fields : List Given
+  pub after : List Line
+  pub is : header file ≡ accepted entries fields after
+  pub reading_is : x ≡ reading_of entries fields
+
+pub was_read : (file : List ℕ) {x : Reading} → reading_answered (Ok x) ≡ read_header_call file → Read file x
+was_read file {x} e = go (header file) refl e (header_numbered file)
+  where
+    go : (o : Outcome) → header file ≡ o → reading_answered (Ok x) ≡ read_answer o → NumberedOutcome o → Read file x
+    go (refused r) p q n = absurd (let f : ⊥ = omega (arith, ap (λ (a : ReadAnswer). a.refusal.number) q) in f)
+    go (accepted es gs ls) p q n = record { entries = es; fields = gs; after = ls; is = p; reading_is = ap (λ (a : ReadAnswer). a.reading) q }
+
+-- or why it is refused
+pub was_not_read : (file : List ℕ) (r : Refused) → reading_answered (Err r) ≡ read_header_call file → header file ≡ refused (refusal_of r)
+unfolding reading_of no_reading
+was_not_read file r e = go (header file) refl e
+  where
+    go : (o : Outcome) → header file ≡ o → reading_answered (Err r) ≡ read_answer o → header file ≡ refused (refusal_of r)
+    go (refused f) p q = p ∙ ap refused (sym (ap (λ (a : ReadAnswer). a.refusal) q))
+    go (accepted es gs ls) p q = absurd (omega (arith, some_line file p, before_few es, ap (λ (a : ReadAnswer). a.reading.lines) q))
 
 -- the lines before the names were judged to be the header's items
 pub header_items : {file : List ℕ} {es : List Entry} {gs : List Given} {r : List Line} (x : IsHeader file es gs r) → Items (before_names x.rest)

@@ -21,7 +21,7 @@ use Rattle.format.specs.Pairs.{LineKind, kind_of, pair_texts, field_texts, escap
 use Rattle.format.specs.Fields.{field_named, Given, given, named}
 use Rattle.format.specs.Descriptors.{from_descriptor, descriptor}
 use Rattle.format.specs.Header.{Item, magic, pair_of, given_of, Entry, entry, line_of, lines_of, header_length, before_names, value_for, value_in, value_of}
-use Rattle.format.specs.Calls.{no_place, found_at, pair_place, value_place, key_place, find_key_in, find_key_call, before_descriptor, given_place, descriptor_place, field_place, find_field_in, find_field_call}
+use Rattle.format.specs.Calls.{no_place, found_at, pair_place, value_place, key_place, find_key_in, find_key_call, before_descriptor, given_place, descriptor_place, field_place, find_field_in, find_field_call, reading_of, read_header_call}
 use Rattle.format.proofs.Lines.{length_lines_le, length_unlines_cons, length_unlines_append, lines_after}
 use Rattle.format.proofs.Marks.{mark_of_kind}
 use Rattle.format.proofs.Pairs.{unescape_of_escape, escaped_pair, named_field, field_in}
@@ -29,15 +29,28 @@ use Rattle.format.proofs.Descriptors.{from_le}
 use Rattle.format.proofs.Header.{header_sound, magic_line}
 use Rattle.format.proofs.Named.{from_names, before_lines, before_first, key_place_before, field_place_before}
 use Rattle.read_text.specs.declared.lines.Kind.TheVariants.{Field, Pair}
-use Rattle.std.specs.Prelude.{Some, None}
+use Rattle.std.specs.Prelude.{Option as Maybe, Some, None, Ok}
+use Rattle.std.specs.Option.{option_or, is_some as is_some_of}
+use Rattle.format.specs.declared.answers.Place.{Place}
+use Rattle.format.specs.Answers.{place_found, reading_answered}
+use Rattle.format.specs.declared.Reading.{Reading}
 use Rattle.read_text.specs.Rows.{row_answer}
 use Rattle.read_text.specs.Meanings.{means_key}
-use Rattle.read_text.proofs.Places.{KindAt}
+use Rattle.read_text.specs.Places.{kind_place}
+use Rattle.read_text.proofs.Places.{KindAt, kind_told}
 use Rattle.read_lines.specs.Spans.{LineAt, PastAt}
 use Rattle.read_header.specs.Accepted.{Fielded, IsItem, Items}
 use Rattle.read_lines.proofs.LineCuts.{rest_of}
-use Rattle.read_header.proofs.Accepted.{header_items, item_pair, item_field}
+use Rattle.read_header.proofs.Accepted.{was_read, header_items, item_pair, item_field}
 use Rattle.read_lookup.specs.Lookup.{Left, latest_of, key_then, key_else, KeyLeft, FieldLeft, is_field, SecondAt}
+
+-- ---- the mark of a line stands within it
+
+pub pair_fits : (t : List ℕ) (j : ℕ) → Pair j ≡ kind_place (kind_of t) → j + 2 ≤ length t
+pair_fits t j e = (kind_told t e).1
+
+pub field_fits : (t : List ℕ) (j : ℕ) → Field j ≡ kind_place (kind_of t) → j + 2 ≤ length t
+field_fits t j e = (kind_told t e).1
 
 -- ---- a key's value, in one line
 
@@ -92,6 +105,18 @@ module _ (k : List ℕ) (at : ℕ) (found : FindAnswer) {t : List ℕ} {i : Item
       go none q = absurd (none-ne-some _ (sym q))
       go (some p) q =
           there p (sym (ap (λ (o : Option (List ℕ × List ℕ)). (or_default ([], []) o).0) q)) (sym (ap (λ (o : Option (List ℕ × List ℕ)). (or_default ([], []) o).1) q))
+
+-- ---- places as answers
+
+-- what was found is found
+pub found_some : (o : Maybe Place) → (place_found o).found ≡ is_some_of o
+found_some (Some p) = refl
+found_some None = refl
+
+-- of two places the latter, if there is one
+pub latest_is : (before here : Maybe Place) → place_found (option_or here before) ≡ latest_of (place_found before) (place_found here)
+latest_is before (Some p) = refl
+latest_is before None = refl
 
 -- ---- a field's descriptor, in one line
 
@@ -286,6 +311,13 @@ module _ {file : List ℕ} (f : ℕ) {at count : ℕ} (w : FieldLeft file f at c
   field_end e = sym (w.holds ∙ field_none f at w.entries (w.many ∙ e))
 
 -- ---- the start: the lines after line 1
+
+-- so many lines stand before the names, as the reading says
+pub before_lines_of : (file : List ℕ) {x : Reading} → reading_answered (Ok x) ≡ read_header_call file → Fielded file x.fieldlines
+unfolding reading_of
+before_lines_of file e =
+    let r = was_read file e in
+    record { entries = r.entries; fields = r.fields; after = r.after; is = r.is; many = ap (λ (y : Reading). y.fieldlines) r.reading_is }
 
 -- the start of line 2, by the line that starts at 0
 module _ (file : List ℕ) where

@@ -28,13 +28,10 @@ use Rattle.format.proofs.Header.{header_sound}
 use Rattle.format.proofs.Found.{field_found}
 use Rattle.format.proofs.Oriented.{axes_few}
 use Rattle.read_header.specs.Accepted.{Fielded}
-use Rattle.read_lookup.specs.declared.axes.AxisPlaces.{AxisPlaces}
-use Rattle.read_lookup.specs.Axes.{axis_places}
-use Rattle.read_axes.specs.declared.codes.Codes.{Codes}
+use Rattle.std.specs.Prelude.{unwrap_or}
 use Rattle.read_axes.specs.declared.strings.Span.{Span}
-use Rattle.read_axes.specs.declared.strings.Strings.{Strings}
-use Rattle.read_axes.specs.Codes.{codes_said, codes_answer}
-use Rattle.read_axes.specs.Strings.{span_of, no_span, strings_answer}
+use Rattle.read_axes.specs.Codes.{codes_said, codes_padded}
+use Rattle.read_axes.specs.Strings.{span_of, no_span, spans_from}
 use Rattle.read_axes.proofs.CodeLaws.{codes_kinds, codes_centrings, code_at}
 use Rattle.read_records.specs.Values.{Asked, LookedUp, codes_in, Coded, Placed, axis_from}
 
@@ -82,13 +79,13 @@ module _ {file : List ℕ} {lines axes : ℕ} (w : Asked file lines axes) (f : �
     unfolding codes_in
     codes_absent h = rw (w.is, absent h)
 
-    codes_by : (x : Codes) (o : Option (List ℕ)) → x ≡ codes_answer o → x.codes ≡ padded (or_default [] o)
-    codes_by x none e = rw e
-    codes_by x (some ns) e = rw e
+    codes_by : (o : Option (List ℕ)) → unwrap_or (codes_padded o) (replicate max_axes 0) ≡ padded (or_default [] o)
+    codes_by none = refl
+    codes_by (some ns) = refl
 
-    pub codes_there : place.found ≡ true → (x : Codes) → x ≡ codes_answer (codes_said k axes part) → Coded k f x.codes (header file)
+    pub codes_there : place.found ≡ true → Coded k f (unwrap_or (codes_padded (codes_said k axes part)) (replicate max_axes 0)) (header file)
     unfolding codes_in
-    codes_there h x e = rw (w.is, (lies h).1) (codes_by x (codes_said k (dimension_of w.fields) part) (rw w.axes_are at e))
+    codes_there h = rw (w.is, (lies h).1, w.axes_are) (codes_by (codes_said k (dimension_of w.fields) part))
 
   -- the place of its descriptor, by the lines of the header
   starts : place.start ≡ (field_place f 0 w.entries).start
@@ -98,34 +95,15 @@ module _ {file : List ℕ} {lines axes : ℕ} (w : Asked file lines axes) (f : �
   unfolding strings_of string_place each
   spans_absent h = rw (w.is, absent h)
 
-  spans_by : (x : Strings) (base : ℕ) (o : Option (List Quoted)) → x ≡ strings_answer base o → x.spans ≡ each (λ i. span_of (string_place base (or_default [] o) i)) 0 max_axes
-  unfolding strings_answer string_place each
-  spans_by x base none e = rw e
-  spans_by x base (some qs) e = rw e
+  spans_by : (base : ℕ) (o : Option (List Quoted))
+      → unwrap_or (spans_from base o) (replicate max_axes no_span) ≡ each (λ i. span_of (string_place base (or_default [] o) i)) 0 max_axes
+  unfolding spans_from string_place each
+  spans_by base none = refl
+  spans_by base (some qs) = refl
 
-  pub spans_there : place.found ≡ true → (x : Strings) → x ≡ strings_answer place.start (strings_said axes part) → Placed f x.spans (header file)
+  pub spans_there : place.found ≡ true → Placed f (unwrap_or (spans_from place.start (strings_said axes part)) (replicate max_axes no_span)) (header file)
   unfolding strings_of
-  spans_there h x e =
-      rw (w.is, (lies h).1, ← starts) (spans_by x place.start (strings_said (dimension_of w.fields) part) (rw w.axes_are at e))
-
--- ---- the four places
-
-module _ (file : List ℕ) (places : AxisPlaces) (e : places ≡ axis_places file) where
-  pub centers_at : places.centers ≡ find_field_call file centers
-  unfolding axis_places
-  centers_at = ap (λ (a : AxisPlaces). a.centers) e
-
-  pub labels_at : places.labels ≡ find_field_call file labels
-  unfolding axis_places
-  labels_at = ap (λ (a : AxisPlaces). a.labels) e
-
-  pub units_at : places.units ≡ find_field_call file units
-  unfolding axis_places
-  units_at = ap (λ (a : AxisPlaces). a.units) e
-
-  pub kinds_at : places.kinds ≡ find_field_call file kinds
-  unfolding axis_places
-  kinds_at = ap (λ (a : AxisPlaces). a.kinds) e
+  spans_there h = rw (w.is, (lies h).1, ← starts, w.axes_are) (spans_by place.start (strings_said (dimension_of w.fields) part))
 
 -- ---- an accepted header
 

@@ -1,6 +1,12 @@
 -- Internal to this crate. What the functions by value are asked, and what they answer.
 use Rattle.std.specs.Prelude.{ℕ, ◌≡◌, Bool, List, [], slice_index, slice_index_or}
+use Rattle.std.specs.Prelude.{Result, Ok, Err}
 use Rattle.format.specs.declared.Axis.{Axis}
+use Rattle.format.specs.declared.Axes.{Axes}
+use Rattle.format.specs.declared.reason.Refused.{Refused}
+use Rattle.format.specs.Refusals.{fine}
+use Rattle.format.specs.Reasons.{refusal_of}
+use Rattle.read_records.specs.declared.values.AxisRecords.{AxisRecords}
 use Rattle.format.specs.declared.FindAnswer.{FindAnswer}
 use Rattle.format.specs.Bytes.{each, or_default}
 use Rattle.format.specs.Limits.{max_axes}
@@ -9,7 +15,7 @@ use Rattle.format.specs.Fields.{Given, descriptor_of}
 use Rattle.format.specs.Descriptors.{meaning, dimension_of}
 use Rattle.format.specs.Header.{Entry, Outcome, refused, accepted, header, field_lines}
 use Rattle.format.specs.Calls.{padded, find_field_call}
-use Rattle.format.specs.AxisRecords.{string_place_of}
+use Rattle.format.specs.AxisRecords.{string_place_of, no_axes}
 use Rattle.read_axes.specs.declared.strings.Span.{Span}
 use Rattle.read_axes.specs.Codes.{codes_said}
 use Rattle.read_axes.specs.Strings.{span_of, no_span}
@@ -56,3 +62,8 @@ axis_from sizes centrings kinds labels units i =
       unitplace = (slice_index_or units i no_span).start;
       unitlength = (slice_index_or units i no_span).length;
     }
+
+-- the answer and the records, by the records or why there are none
+abbrev pub records_answered : Result AxisRecords Refused → Axes
+records_answered (Ok r) = record { answer = record { refusal = fine; count = r.count }; records = r.all }
+records_answered (Err r) = no_axes (refusal_of r)

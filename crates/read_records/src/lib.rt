@@ -6,7 +6,7 @@ ghost use Rattle.format.specs.declared.CountAnswer.{CountAnswer};
 ghost use Rattle.format.specs.AxisRecords.{axes_entry};
 ghost use Rattle.format.specs.Room.{Enough, axes_room};
 
-use format::CountAnswer;
+use format::{Axes, CountAnswer};
 
 pub mod list;
 pub mod values;
@@ -16,11 +16,7 @@ pub fn axes_to_bytes(file: &[u8], list: &mut [u8]) -> CountAnswer
     ensures call { ◌≡◌ {A = CountAnswer × List ℕ} (result, list.new) (axes_entry file.now list.old) }
     ensures enough { axes_room ≤ length list.old → Enough result.refusal }
 {
-    let room = list.len() / lent_axes::RECORD;
-    let x = values::records(file, room);
-    let answer = x.answer;
-    let records = x.records;
-    let n = answer.count as usize;
-    lent_axes::put_axes(list, records, n);
+    let Axes { answer, records } = values::records(file, list.len() / lent_axes::RECORD);
+    lent_axes::put_axes(list, records, answer.count as usize);
     answer
 }

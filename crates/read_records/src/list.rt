@@ -5,29 +5,23 @@ ghost use Rattle.format.specs.declared.CountAnswer.{CountAnswer};
 ghost use Rattle.format.specs.AxisRecords.{axes_call};
 
 use crate::values;
-use format::{Axis, CountAnswer};
+use format::{Axes, Axis, CountAnswer};
 
 // The first n records, stored at the front of the list; those past them stay.
-fn fill(list: &mut [Axis], records: [Axis; format::AXES], n: usize)
+fn fill(list: &mut [Axis], records: &[Axis; format::AXES], n: usize)
     requires room { n ≤ length list.old }
     requires few { n ≤ 16 }
-    ensures { list.new ≡ take n records ++ drop n list.old }
+    ensures { list.new ≡ take n records.now ++ drop n list.old }
 {
-    let mut i: usize = 0;
-    while i < n {
-        list[i] = records[i];
-        i += 1;
-    }
+    list[..n].copy_from_slice(&records[..n]);
 }
 
 // A record for each axis of the file's header.
 pub fn axes(file: &[u8], list: &mut [Axis]) -> CountAnswer
     ensures { ◌≡◌ {A = CountAnswer × List Axis} (result, list.new) (axes_call file.now list.old) }
 {
-    let x = values::records(file, list.len());
-    let records = x.records;
-    let answer = x.answer;
-    fill(list, records, answer.count as usize);
+    let Axes { answer, records } = values::records(file, list.len());
+    fill(list, &records, answer.count as usize);
     answer
 }
 

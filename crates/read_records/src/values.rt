@@ -1,14 +1,16 @@
 // The records by value.
 ghost use Rattle.std.specs.Prelude.{◌≡◌, ℕ};
+ghost use Rattle.format.specs.Answers.{place_found};
 ghost use Rattle.format.specs.Bytes.{each};
 ghost use Rattle.format.specs.Limits.{max_axes};
 ghost use Rattle.format.specs.Header.{header};
 ghost use Rattle.format.specs.Calls.{find_field_call};
 ghost use Rattle.format.specs.AxisRecords.{no_axes, records_call};
-ghost use Rattle.read_records.specs.Values.{LookedUp, Coded, Placed, axis_from};
+ghost use Rattle.read_records.specs.Values.{LookedUp, Coded, Placed, axis_from, records_answered};
 
-use format::{Axes, Axis, CountAnswer, FindAnswer, Refusal};
-use format_values::refusals;
+use format::answers::Place;
+use format::reason::{Reason, Refused};
+use format::{Axes, Axis, CountAnswer, Refusal};
 use read_axes::strings::Span;
 
 const NOWHERE: Span = Span {
@@ -26,47 +28,39 @@ const BLANK: Axis = Axis {
     unitlength: 0,
 };
 
-// Nothing is handed over.
-fn no_axes(refusal: Refusal) -> Axes
-    ensures { result ≡ no_axes refusal }
-{
-    let answer = CountAnswer {
-        refusal: refusal,
-        count: 0,
-    };
-    let records = [BLANK; format::AXES];
-    Axes {
-        answer: answer,
-        records: records,
-    }
+// The records of an accepted header: as many as it has axes, and zeros past them.
+#[derive(Clone, Copy)]
+struct AxisRecords {
+    count: u64,
+    all: [Axis; format::AXES],
 }
 
 // The words for each axis, kinds or else centrings, of a field that was looked up in an accepted header; 0 where the field is not given.
-fn codes_of(file: &[u8], place: FindAnswer, kinds: bool, axes: usize) -> [u32; format::AXES]
-    requires { LookedUp file.now axes place }
-    ensures { (f : ℕ) → place ≡ find_field_call file.now f → Coded kinds f result (header file.now) }
+fn codes_of(file: &[u8], place: Option<Place>, kinds: bool, axes: usize) -> [u32; format::AXES]
+    requires { LookedUp file.now axes (place_found place) }
+    ensures { (f : ℕ) → place_found place ≡ find_field_call file.now f → Coded kinds f result (header file.now) }
 {
-    if !place.found {
+    let Some(place) = place else {
         return [0u32; format::AXES];
-    }
+    };
     let from = place.start as usize;
     let to = from + place.length as usize;
-    let x = read_axes::codes::read_codes(&file[from..to], axes, kinds);
-    x.codes
+    read_axes::codes::codes_in(&file[from..to], axes, kinds).unwrap_or([0u32; format::AXES])
 }
 
 // The places in the file of the strings, one for each axis, of a field that was looked up; 0 where the field is not given.
-fn spans_of(file: &[u8], place: FindAnswer, axes: usize) -> [Span; format::AXES]
-    requires { LookedUp file.now axes place }
-    ensures { (f : ℕ) → place ≡ find_field_call file.now f → Placed f result (header file.now) }
+fn spans_of(file: &[u8], place: Option<Place>, axes: usize) -> [Span; format::AXES]
+    requires { LookedUp file.now axes (place_found place) }
+    ensures { (f : ℕ) → place_found place ≡ find_field_call file.now f → Placed f result (header file.now) }
 {
-    if !place.found {
+    let Some(place) = place else {
         return [NOWHERE; format::AXES];
-    }
+    };
     let from = place.start as usize;
     let to = from + place.length as usize;
-    let x = read_axes::strings::read_strings(&file[from..to], axes, from as u32);
-    x.spans
+    read_axes::strings::strings_in(&file[from..to], axes, from as u32).unwrap_or(
+        [NOWHERE; format::AXES],
+    )
 }
 
 // The records of all axes, by what is said of each; zeros past them.
@@ -80,53 +74,62 @@ fn all_records(
     ensures { result ≡ each (axis_from sizes centrings kinds labels units) 0 max_axes }
 {
     let mut all = [BLANK; format::AXES];
-    let mut i: usize = 0;
-    while i < format::AXES {
-        let label = labels[i];
-        let unit = units[i];
+    for i in 0..format::AXES {
         all[i] = Axis {
             size: sizes[i],
             centring: centrings[i],
             kind: kinds[i],
-            labelplace: label.start,
-            labellength: label.length,
-            unitplace: unit.start,
-            unitlength: unit.length,
+            labelplace: labels[i].start,
+            labellength: labels[i].length,
+            unitplace: units[i].start,
+            unitlength: units[i].length,
         };
-        i += 1;
     }
     all
+}
+
+// The records, for a list that has room for so many.
+fn records_for(file: &[u8], room: usize) -> Result<AxisRecords, Refused>
+    ensures { records_answered result ≡ records_call file.now room }
+{
+    let reading = read_header::read::reading(file)?;
+    let axes = reading.dimension as usize;
+    if room < axes {
+        return Err(Reason::LentTooShort.into());
+    }
+    let places = read_lookup::axes::find_axis_fields(file, reading.fieldlines);
+    let centrings = codes_of(file, places.centers, false, axes);
+    let kinds = codes_of(file, places.kinds, true, axes);
+    let labels = spans_of(file, places.labels, axes);
+    let units = spans_of(file, places.units, axes);
+    Ok(AxisRecords {
+        count: axes as u64,
+        all: all_records(reading.sizes, centrings, kinds, labels, units),
+    })
+}
+
+// Nothing is handed over.
+fn no_axes(refusal: Refusal) -> Axes
+    ensures { result ≡ no_axes refusal }
+{
+    Axes {
+        answer: CountAnswer { refusal, count: 0 },
+        records: [BLANK; format::AXES],
+    }
 }
 
 // The answer and the records, for a list that has room for so many.
 pub fn records(file: &[u8], room: usize) -> Axes
     ensures { result ≡ records_call file.now room }
 {
-    let read = read_header::read::read_header(file);
-    let refusal = read.refusal;
-    let reading = read.reading;
-    // a refused file has no lines
-    if reading.lines == 0 {
-        return no_axes(refusal);
-    }
-    let axes = reading.dimension as usize;
-    if room < axes {
-        return no_axes(refusals::LENT_TOO_SHORT);
-    }
-    let lines = reading.fieldlines;
-    let sizes = reading.sizes;
-    let places = read_lookup::axes::find_axis_fields(file, lines);
-    let centrings = codes_of(file, places.centers, false, axes);
-    let kinds = codes_of(file, places.kinds, true, axes);
-    let labels = spans_of(file, places.labels, axes);
-    let units = spans_of(file, places.units, axes);
-    let all = all_records(sizes, centrings, kinds, labels, units);
-    let answer = CountAnswer {
-        refusal: refusals::FINE,
-        count: axes as u64,
-    };
-    Axes {
-        answer: answer,
-        records: all,
+    match records_for(file, room) {
+        Ok(found) => {
+            let records = found.all;
+            Axes {
+                answer: Ok(found.count).into(),
+                records,
+            }
+        }
+        Err(refused) => no_axes(refused.into()),
     }
 }

@@ -14,7 +14,7 @@ use Rattle.read_records.proofs.axes_to_bytes.Goals as goal
 pub put_axes-requires : goal.put_axes-requires
 put_axes-requires c =
     let a = c.args in
-    let x = c.records-x in
+    let x = c.records in
     let n = ap (λ (y : Axes). y.answer.count) x.ensures in
     let f = few a.file.now (length a.list.now / axis_width) in
     let w = within a.file.now (length a.list.now / axis_width) in
@@ -23,7 +23,7 @@ put_axes-requires c =
 pub returns : goal.returns
 returns c =
     let a = c.args in
-    let x = c.records-x in
+    let x = c.records in
     let e =
     ap (λ (d : List ℕ). (x.result.answer, d)) c.put_axes.ensures
     ∙ ap (λ (y : Axes). (y.answer, over (axes_bytes (take y.answer.count y.records)) a.list.now)) x.ensures

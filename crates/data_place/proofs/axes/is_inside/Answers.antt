@@ -1,5 +1,4 @@
 -- `data_place::axes::is_inside` meets its contract.
-use borrow.Author.Rules.{rules}
 use native.Mathlib.Omega.{arith}
 use mathlib.Core.Path.{sym, ◌∙◌}
 use Rattle.data_place.proofs.Numbers.{inside_lengths, inside_end, inside_on, inside_no}
@@ -10,20 +9,20 @@ returns-then-sizes-coords c =
     let a = c.args in
     sym (inside_lengths a.sizes.now a.coords.now c.if-sizes-coords.true)
 
-pub returns-then-sizes-i : goal.returns-then-sizes-i
-returns-then-sizes-i c =
+pub returns-then-size-coords : goal.returns-then-size-coords
+returns-then-size-coords c =
     let l = c.loop-i in
     let a = c.args in
-    sym (l.invariant.2 ∙ inside_no a.sizes.now a.coords.now l.i (omega arith) (omega arith) c.if-sizes-i.true)
+    sym (l.invariant.1 ∙ inside_no a.sizes.now a.coords.now l.i (omega arith) (omega arith) c.if-size-coords.true)
 
 pub loop-i-preserved : goal.loop-i-preserved
 loop-i-preserved c =
     let l = c.loop-i in
     let a = c.args in
-    (search rules, l.invariant.1, l.invariant.2 ∙ inside_on a.sizes.now a.coords.now l.i (omega arith) (omega arith) c.if-sizes-i.false)
+    (l.invariant.0, l.invariant.1 ∙ inside_on a.sizes.now a.coords.now l.i (omega arith) (omega arith) c.if-size-coords.false)
 
 pub returns : goal.returns
 returns c =
     let l = c.loop-i in
     let a = c.args in
-    sym (l.invariant.2 ∙ inside_end a.sizes.now a.coords.now l.i (omega arith) (omega arith))
+    sym (l.invariant.1 ∙ inside_end a.sizes.now a.coords.now l.i (omega arith) (omega arith))

@@ -1,6 +1,5 @@
 -- `data_place::axes::is_inside` meets its contract.
 -- The loop's invariant: there are as many coordinates as sizes, and they are inside if and only if they are so from i on.
-use Prim.Native.Nat.{◌≤◌, ◌-◌}
 use mathlib.Core.Path.{◌≡◌}
 use lib.ListN.{length, drop}
 use Rattle.format.specs.Axes.{inside}
@@ -8,7 +7,4 @@ use Rattle.data_place.proofs.axes.is_inside.Given as goal
 
 abbrev pub invariant-loop-i : goal.invariant-loop-i
 invariant-loop-i l =
-    (l.i ≤ length l.sizes) × (length l.sizes ≡ length l.coords) × (inside l.sizes l.coords ≡ inside (drop l.i l.sizes) (drop l.i l.coords))
-
-abbrev pub decreases-loop-i : goal.decreases-loop-i
-decreases-loop-i l = length l.sizes - l.i
+    (length l.sizes ≡ length l.coords) × (inside l.sizes l.coords ≡ inside (drop l.i l.sizes) (drop l.i l.coords))

@@ -10,5 +10,5 @@ number-requires c =
 pub returns-then-is_inside : goal.returns-then-is_inside
 returns-then-is_inside c = rw (sym c.is_inside.ensures ∙ c.if-is_inside.true, c.number.ensures)
 
-pub returns : goal.returns
-returns c = rw (sym c.is_inside.ensures ∙ c.if-is_inside.false) c.none.ensures
+pub returns-else-is_inside : goal.returns-else-is_inside
+returns-else-is_inside c = rw (sym c.is_inside.ensures ∙ c.if-is_inside.false, c.into.ensures)

@@ -6,5 +6,5 @@ use lib.ListN.{length, drop}
 use Rattle.format.specs.Data.{skip_lines}
 use Rattle.data_place.proofs.place.skip_lines.Given as goal
 
-abbrev pub invariant-loop-line : goal.invariant-loop-line
-invariant-loop-line l = (l.at ≤ length l.s) × (skip_lines l.n l.s ≡ skip_lines (l.n - l.line) (drop l.at l.s))
+abbrev pub invariant-loop : goal.invariant-loop
+invariant-loop l = (l.at ≤ length l.s) × (skip_lines l.n l.s ≡ skip_lines (l.n - l.counter) (drop l.at l.s))

@@ -9,7 +9,7 @@ returns-then-more c =
     let a = c.args in
     printed_is (printed_then c.put_decimal-e.ensures c.put_bytes.ensures) (size_more a.n a.more c.if-more.true)
 
-pub returns : goal.returns
-returns c =
+pub returns-else-more : goal.returns-else-more
+returns-else-more c =
     let a = c.args in
     printed_more (printed_is c.put_decimal-e.ensures (size_last a.n a.more c.if-more.false)) 21 (omega arith)

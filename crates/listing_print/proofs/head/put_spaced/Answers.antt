@@ -11,18 +11,18 @@ use Rattle.listing_print.proofs.head.put_spaced.Goals as goal
 pub loop-i-init : goal.loop-i-init
 loop-i-init c =
     let a = c.args in
-    (printing_start a.out.now a.at (spaced a.ns.now), omega arith, omega arith)
+    (printing_start a.out.now a.at (spaced a.ns.now), omega arith)
 
 pub loop-i-preserved : goal.loop-i-preserved
 loop-i-preserved c =
     let l = c.loop-i in
     let ns = c.args.ns.now in
     let p = c.put_size-o.ensures in
-    (printing_more l.invariant.0 (spaced (drop (l.i + 1) ns)) (spaced_next ns l.i c.loop-i-test.true) p, omega (arith, p.long), omega arith)
+    (printing_more l.invariant.0 (spaced (drop (l.i + 1) ns)) (spaced_next ns l.i (omega arith)) p, omega (arith, p.long))
 
 pub returns : goal.returns
 unfolding spaced
 returns c =
     let l = c.loop-i in
     let ns = c.args.ns.now in
-    printing_done l.invariant.0 (21 * length ns) (ap spaced (drop_of_length-le ns c.loop-i-test.false)) (omega arith)
+    printing_done l.invariant.0 (21 * length ns) (ap spaced (drop_of_length-le ns (omega arith))) (omega arith)

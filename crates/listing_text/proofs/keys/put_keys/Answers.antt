@@ -15,27 +15,18 @@ loop-left-init c =
     (c.requires.0, printing_start a.out.now a.start (shown_lines (lines_from a.file.now 0 a.count)), omega arith)
 
 pub line_at-requires : goal.line_at-requires
-line_at-requires c = let w = c.loop-left.invariant.0 in (within_starts w c.loop-left-test.true, within_limit w)
-
-pub slice_bounds-put_item-count : goal.slice_bounds-put_item-count
-slice_bounds-put_item-count c = c.in-Some.ensures.from
-
-pub slice_bounds-put_item-start : goal.slice_bounds-put_item-start
-slice_bounds-put_item-start c = c.in-Some.ensures.from
-
-pub slice_bounds-put_item-end : goal.slice_bounds-put_item-end
-slice_bounds-put_item-end c = let w = c.in-Some.ensures in omega (arith, w.to, w.within)
+line_at-requires c = let w = c.loop-left.invariant.0 in (within_starts w (omega arith), within_limit w)
 
 pub put_item-o-requires : goal.put_item-o-requires
 put_item-o-requires c =
     let l = c.loop-left in
     let w = c.in-Some.ensures in
-    (within_next l.invariant.0 c.loop-left-test.true w, simp length-take (omega (arith, l.invariant.2, w.from, w.to, w.short, w.within, c.requires)))
+    (within_next l.invariant.0 (omega arith) w, simp length-take (omega (arith, l.invariant.2, w.from, w.to, w.short, w.within, c.requires)))
 
-pub returns-in-None : goal.returns-in-None
-returns-in-None c =
+pub returns-in_default : goal.returns-in_default
+returns-in_default c =
     let l = c.loop-left in
-    absurd (within_not_past l.invariant.0 c.loop-left-test.true c.in-None.ensures)
+    absurd (within_not_past l.invariant.0 (omega arith) c.in_default.ensures)
 
 pub loop-left-preserved : goal.loop-left-preserved
 loop-left-preserved c =
@@ -45,8 +36,8 @@ loop-left-preserved c =
     let p = c.put_item-o.ensures in
     let ls = lines_from file c.in-Some.field-0.next (l.left - 1) in
     let u = shown_texts (pair_in (take (c.in-Some.field-0.text_end - l.at) (drop l.at file))) ls in (
-      within_next l.invariant.0 c.loop-left-test.true w,
-      printing_more l.invariant.1 {u = u} (shown_lines ls) (shown_next l.invariant.0 c.loop-left-test.true w) p,
+      within_next l.invariant.0 (omega arith) w,
+      printing_more l.invariant.1 {u = u} (shown_lines ls) (shown_next l.invariant.0 (omega arith) w) p,
       omega (arith, l.invariant.2, w.from, w.to, simp length-take at p.long),
     )
 

@@ -6,6 +6,3 @@ use Rattle.listing_text.proofs.keys.put_keys.Given as goal
 
 abbrev pub invariant-loop-left : goal.invariant-loop-left
 invariant-loop-left l = Within l.file l.at l.left × Printing l.initial.out l.start (shown_lines (lines_from l.file 0 l.count)) l.out l.o (shown_lines (lines_from l.file l.at l.left)) × (l.o + 4 * l.left ≤ l.start + l.at + 4 * l.count)
-
-abbrev pub decreases-loop-left : goal.decreases-loop-left
-decreases-loop-left l = l.left

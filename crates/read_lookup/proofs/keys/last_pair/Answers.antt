@@ -1,42 +1,23 @@
 -- `read_lookup::keys::last_pair` meets its contract: what the lines left give, or else what was found before them, is the answer.
+use Prim.Native.Nat.{◌+◌, ◌-◌}
+use mathlib.Core.Path.{◌≡◌, refl, ap, ◌∙◌}
+use Rattle.format.specs.Answers.{place_found}
 use native.Mathlib.Omega.{arith}
-use mathlib.Core.Path.{sym, subst}
-use lib.ListN.{length-take}
-use Rattle.read_lookup.specs.Lookup.{KeyLeft}
-use Rattle.read_lookup.proofs.Finding.{left_starts, left_short, left_not_past, key_next, key_end}
+use Rattle.read_lookup.proofs.Finding.{latest_is, left_starts, left_short, left_not_past, key_next, key_end}
 use Rattle.read_lookup.proofs.keys.last_pair.Goals as goal
 
-pub loop-left-init : goal.loop-left-init
-loop-left-init c =
-    let a = c.args in
-    subst (KeyLeft a.file.now a.key.now a.from a.count) (sym c.absent-none.ensures) c.requires
-
 pub line_at-requires : goal.line_at-requires
-line_at-requires c = let w = c.loop-left.invariant in (left_starts w c.loop-left-test.true, left_short w c.loop-left-test.true)
+line_at-requires c = let w = c.loop.invariant in (left_starts w (omega arith), left_short w (omega arith))
 
-pub slice_bounds-pair_in-count : goal.slice_bounds-pair_in-count
-slice_bounds-pair_in-count c = c.in-Some.ensures.from
+pub returns-in_default : goal.returns-in_default
+returns-in_default c = absurd (left_not_past c.loop.invariant (omega arith) c.in_default.ensures)
 
-pub slice_bounds-pair_in-start : goal.slice_bounds-pair_in-start
-slice_bounds-pair_in-start c = c.in-Some.ensures.from
-
-pub slice_bounds-pair_in-end : goal.slice_bounds-pair_in-end
-slice_bounds-pair_in-end c = let w = c.in-Some.ensures in omega (arith, w.to, w.within)
-
-pub pair_in-here-requires : goal.pair_in-here-requires
-pair_in-here-requires c =
-    let w = c.in-Some.ensures in simp length-take (omega (arith, w.from, w.to, w.short))
-
-pub returns-in-None : goal.returns-in-None
-returns-in-None c =
-    let l = c.loop-left in
-    absurd (left_not_past l.invariant c.loop-left-test.true c.in-None.ensures)
-
-pub loop-left-preserved : goal.loop-left-preserved
-loop-left-preserved c =
-    let l = c.loop-left in
-    key_next _ l.found l.invariant c.loop-left-test.true c.in-Some.ensures _ c.pair_in-here.result c.latest-found.result
-    c.absent-none.ensures c.pair_in-here.ensures c.latest-found.ensures
+pub loop-preserved : goal.loop-preserved
+loop-preserved c =
+    let l = c.loop in
+    let a = c.args in
+    let e : a.count - l.counter - 1 ≡ a.count - (l.counter + 1) = omega arith in
+    rw (← e) (key_next _ _ l.invariant (omega arith) c.in-Some.ensures _ _ _ refl c.pair_in-here.ensures (ap place_found c.or-found.ensures ∙ latest_is l.found c.pair_in-here.result))
 
 pub returns : goal.returns
-returns c = key_end _ c.loop-left.found c.loop-left.invariant (omega arith)
+returns c = key_end _ _ c.loop.invariant (omega arith)

@@ -1,5 +1,4 @@
 -- `values::all_records` meets its contract: the first i records are those of the first i axes.
-use Prim.Native.Nat.{◌-◌, ◌≤◌}
 use mathlib.Core.Path.{◌≡◌}
 use mathlib.Core.List.{◌++◌}
 use lib.ListN.{length, take, drop}
@@ -9,7 +8,4 @@ use Rattle.read_records.specs.Values.{axis_from}
 use Rattle.read_records.proofs.values.all_records.Given as goal
 
 abbrev pub invariant-loop-i : goal.invariant-loop-i
-invariant-loop-i l = (l.all ≡ take l.i (each (axis_from l.sizes l.centrings l.kinds l.labels l.units) 0 max_axes) ++ drop l.i l.initial.all) × (l.i ≤ max_axes) × (length l.initial.all ≡ max_axes)
-
-abbrev pub decreases-loop-i : goal.decreases-loop-i
-decreases-loop-i l = max_axes - l.i
+invariant-loop-i l = (l.all ≡ take l.i (each (axis_from l.sizes l.centrings l.kinds l.labels l.units) 0 max_axes) ++ drop l.i l.initial.all) × (length l.initial.all ≡ max_axes)

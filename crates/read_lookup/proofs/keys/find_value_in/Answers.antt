@@ -1,7 +1,7 @@
--- `read_lookup::keys::find_key_in` meets its contract: the pass over the lines after line 1, up to the names.
+-- `read_lookup::keys::find_value_in` meets its contract: the pass over the lines after line 1, up to the names.
 use Rattle.read_header.proofs.Accepted.{some_byte, some_lines}
 use Rattle.read_lookup.proofs.Finding.{key_start}
-use Rattle.read_lookup.proofs.keys.find_key_in.Goals as goal
+use Rattle.read_lookup.proofs.keys.find_value_in.Goals as goal
 
 pub second_line-requires : goal.second_line-requires
 second_line-requires c = some_byte _ c.requires
