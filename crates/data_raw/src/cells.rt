@@ -71,22 +71,22 @@ fn put_by_sign<C: Cell>(s: &[u8], n: usize, w: usize, signed: bool, big: bool, d
     }
 }
 
-// Samples of more than a byte, with a literal for each width.
-fn put_wide<C: Cell>(s: &[u8], n: usize, w: usize, signed: bool, big: bool, dst: &mut [C])
+// Samples of more than a byte, with a literal for each width. The endian is a parameter of the type, so that no loop tests it.
+fn put_wide<const BIG: bool, C: Cell>(s: &[u8], n: usize, w: usize, signed: bool, dst: &mut [C])
     requires width { Width w }
     requires not_one_byte { w ≢ 1 }
     requires bytes_there { n * w ≤ length s.now }
     requires room { C.place n ≤ length dst.old }
-    ensures { (raw_samples (kind_by signed) w (endian_by big) n s.now).number ≡ 0 → dst.new ≡ over (C.store (raw_samples (kind_by signed) w (endian_by big) n s.now).seen) dst.old }
+    ensures { (raw_samples (kind_by signed) w (endian_by BIG) n s.now).number ≡ 0 → dst.new ≡ over (C.store (raw_samples (kind_by signed) w (endian_by BIG) n s.now).seen) dst.old }
 {
     match w {
-        8 => put(s, n, 8, signed, big, dst),
-        4 => put(s, n, 4, signed, big, dst),
-        _ => put_by_sign(s, n, 2, signed, big, dst),
+        8 => put(s, n, 8, signed, BIG, dst),
+        4 => put(s, n, 4, signed, BIG, dst),
+        _ => put_by_sign(s, n, 2, signed, BIG, dst),
     }
 }
 
-// The samples to the front of dst, with a literal for each endian; a byte has none.
+// The samples to the front of dst, by the endian; a byte has none.
 pub(crate) fn put_all<C: Cell>(s: &[u8], n: usize, w: usize, signed: bool, big: bool, dst: &mut [C])
     requires width { Width w }
     requires bytes_there { n * w ≤ length s.now }
@@ -96,8 +96,8 @@ pub(crate) fn put_all<C: Cell>(s: &[u8], n: usize, w: usize, signed: bool, big: 
     if w == 1 {
         put_by_sign(s, n, 1, signed, big, dst)
     } else if big {
-        put_wide(s, n, w, signed, true, dst)
+        put_wide::<true, C>(s, n, w, signed, dst)
     } else {
-        put_wide(s, n, w, signed, false, dst)
+        put_wide::<false, C>(s, n, w, signed, dst)
     }
 }
