@@ -13,11 +13,13 @@ use Rattle.format.specs.declared.WriteAnswer.{WriteAnswer}
 use Rattle.format.specs.Bytes.{is_some, is_empty}
 use Rattle.format.specs.Limits.{max_header}
 use Rattle.format.specs.Words.{words}
-use Rattle.format.specs.DataFiles.{is_list, has_percent, is_many_form, numbering, DataFile, one_file, numbered_files, listed, axes_said, pattern_said, data_file_said, files_said}
+use Rattle.format.specs.DataFiles.{is_list, has_percent, is_many_form, Pattern, pattern, numbering, one_file, numbered_files, listed, axes_said, pattern_said, data_file_said, files_said}
 use Rattle.format.specs.FileNames.{pattern_name, number_at, name_said}
-use Rattle.read_files.specs.declared.PatternSaid.{PatternSaid}
-use Rattle.read_files.specs.Parts.{Reach}
-use Rattle.read_files.specs.Said.{pattern_at, numbering_at, axes_at, PatternRead}
+use Rattle.std.specs.Prelude.{IsSome, Some, None}
+use Rattle.std.specs.Prelude.{Option as Maybe}
+use Rattle.read_files.specs.declared.NamePattern.{NamePattern}
+use Rattle.read_files.specs.Parts.{part, Reach}
+use Rattle.read_files.specs.Files.{Named, NamedBy}
 use Rattle.data_files.specs.Asked.{stored_name, value_at, NameAsked}
 
 module _ (t : List ℕ) (n : ℕ) (w : NameAsked t n) where
@@ -55,34 +57,37 @@ value_is : (first : ℕ) (falls : Bool) (size count n : ℕ) → number_at (numb
 value_is first true size count n = refl
 value_is first false size count n = refl
 
+-- the pattern, by the places of its parts in the descriptor
+abbrev pub pattern_at : List ℕ → NamePattern → Pattern
+pattern_at t r = pattern (part r.from r.percent t) r.zeros r.width (part r.after r.to t)
+
 -- the n-th file of a pattern that was read: its number is within reach, and its name has it in the pattern
-pub record Numbered (t : List ℕ) (n : ℕ) (r : PatternSaid) : Type 0 where
+pub record Numbered (t : List ℕ) (n : ℕ) (r : NamePattern) : Type 0 where
   pub reach : Reach r.first r.falls r.size n
   pub name : name_said (data_file_said t) [] n ≡ pattern_name (pattern_at t r) (value_at r.first r.falls r.size n)
 
-pub name_numbered : (t : List ℕ) (n : ℕ) → NameAsked t n → is_many_form t ≡ true → (r : PatternSaid) → PatternRead t r → Numbered t n r
-unfolding name_said
-name_numbered t n w e r p = go r.fine refl (said_pattern t n w e ∙ p.said) w.right w.below
-  where
-    read : DataFile
-    read = numbered_files (pattern_at t r) (numbering_at r) (axes_at t)
+module _ (t : List ℕ) (n : ℕ) (w : NameAsked t n) (e : is_many_form t ≡ true) where
+  -- there is a pattern
+  pub pattern_there : (o : Maybe NamePattern) → NamedBy t o → IsSome o
+  pattern_there None p = absurd (false≢true (rw (said_pattern t n w e ∙ p) at w.right))
+  pattern_there (Some r) p = refl
 
-    go : (x : Bool) → r.fine ≡ x → data_file_said t ≡ (if x then some read else none) → is_some (data_file_said t) ≡ true → n < files_said (data_file_said t) 0
-        → Numbered t n r
-    go true f q s b =
-        let c : n < r.last + 1 = rw q at b in
-        record {
-          reach = reach_less r.first r.falls r.size n r.last (omega arith) (p.reach f);
-          name = rw (q, value_is r.first r.falls r.size (r.last + 1) n);
-        }
-    go false f q s b = absurd (false≢true (rw q at s))
+  pub name_numbered : {r : NamePattern} → Named t r → Numbered t n r
+  unfolding name_said
+  name_numbered {r} p =
+      let q : data_file_said t ≡ some (numbered_files (pattern_at t r) (numbering r.first r.falls r.size (r.last + 1)) p.axes) = said_pattern t n w e ∙ p.said in
+      let c : n < r.last + 1 = rw q at w.below in
+      record {
+        reach = reach_less r.first r.falls r.size n r.last (omega arith) p.reach;
+        name = rw (q, value_is r.first r.falls r.size (r.last + 1) n);
+      }
 
 -- what is answered with the number in the pattern, as it was worked out, is answered with the name
-pub numbered_called : (t : List ℕ) (n : ℕ) (r : PatternSaid) → Numbered t n r → (v : ℕ) → v ≡ value_at r.first r.falls r.size n → (out : List ℕ)
+pub numbered_called : (t : List ℕ) (n : ℕ) (r : NamePattern) → Numbered t n r → (v : ℕ) → v ≡ value_at r.first r.falls r.size n → (out : List ℕ)
     → {x : WriteAnswer × List ℕ} → x ≡ stored_name (pattern_name (pattern_at t r) v) out → x ≡ stored_name (name_said (data_file_said t) [] n) out
 numbered_called t n r w v e out q = q ∙ ap (λ (s : List ℕ). stored_name s out) (ap (pattern_name (pattern_at t r)) e ∙ sym w.name)
 
 -- both texts around the number stand in the descriptor
-pub parts_short : (t : List ℕ) (r : PatternSaid) → PatternRead t r → length t ≤ max_header
+pub parts_short : (t : List ℕ) {r : NamePattern} → Named t r → length t ≤ max_header
     → length (take (r.percent - r.from) (drop r.from t)) + length (take (r.to - r.after) (drop r.after t)) ≤ max_header
-parts_short t r p h = simp (length-take, length-drop) (omega (arith, p.before, p.between, p.rest, p.within))
+parts_short t p h = simp (length-take, length-drop) (omega (arith, p.before, p.apart, p.rest, p.within))

@@ -90,18 +90,15 @@ pub(crate) fn put_said(t: &[u8], n: u64, out: &mut [u8]) -> WriteAnswer
     if !read_files::is_many_form(t) {
         return names::put_name(t, out);
     }
-    let p = read_files::pattern_said(t);
+    // it is a right one
+    let p = read_files::pattern_in(t).unwrap();
     let value = number_at(p.first, p.falls, p.size, n);
-    let from = p.from;
-    let percent = p.percent;
-    let after = p.after;
-    let to = p.to;
     put_numbered(
-        &t[from..percent],
+        &t[p.from..p.percent],
         p.zeros,
         p.width,
         value,
-        &t[after..to],
+        &t[p.after..p.to],
         out,
     )
 }
