@@ -41,17 +41,17 @@ pub(crate) fn find_edit(file: &[u8], lines: u32, pair: &Pair) -> Edit
     ensures { (es : List Entry) (gs : List Given) (ls : List Line) → header file.now ≡ accepted es gs ls → Placed pair.now.key.now es (text_length pair.now.key.now pair.now.value.now) result }
 {
     let m = pair.length();
-    // the look-up answers as callers in C have it
-    let found = read_lookup::keys::find_key_in(file, pair.key, lines);
-    if !found.found {
-        return after_first(file, m);
-    }
-    let start = found.start as usize;
-    let from = start - (set_pair::escaped_length(pair.key) + 2);
-    Edit {
-        from,
-        to: start + found.length as usize,
-        front: from + m,
-        more: 0,
+    match read_lookup::keys::find_value_in(file, pair.key, lines) {
+        None => after_first(file, m),
+        Some(value) => {
+            let start = value.start as usize;
+            let from = start - (set_pair::escaped_length(pair.key) + 2);
+            Edit {
+                from,
+                to: start + value.length as usize,
+                front: from + m,
+                more: 0,
+            }
+        }
     }
 }
