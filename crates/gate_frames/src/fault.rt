@@ -1,5 +1,5 @@
 // What is wrong with a case, and why the walk through the input ends early.
-ghost use Rattle.std.specs.Prelude.{◌≡◌};
+ghost use Rattle.std.specs.Prelude.{◌≡◌, ◌↔◌, true, IsOk};
 ghost use Rattle.gate_frames.specs.declared.fault.Fault.TheVariants.{Stopped, Part};
 
 use std::io::{self, ErrorKind};
@@ -45,6 +45,8 @@ impl From<io::Error> for Fault {
 }
 
 // The fault of this part, unless it is right.
-pub fn check<P: Into<Fault> + Drop>(right: bool, part: P) -> Result<(), Fault> {
+pub fn check<P: Into<Fault> + Drop>(right: bool, part: P) -> Result<(), Fault>
+    ensures { IsOk result ↔ (right ≡ true) }
+{
     if right { Ok(()) } else { Err(part.into()) }
 }
