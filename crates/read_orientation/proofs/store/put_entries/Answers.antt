@@ -12,7 +12,7 @@ use Rattle.read_orientation.proofs.store.put_entries.Goals as goal
 
 pub loop-r-init : goal.loop-r-init
 unfolding decimals_bytes
-loop-r-init c = (search rules, search rules, refl)
+loop-r-init c = (search rules, refl)
 
 pub overflow_mul-n : goal.overflow_mul-n
 overflow_mul-n c = omega arith
@@ -31,9 +31,9 @@ loop-r-preserved c =
     let l = c.loop-r in
     let a = c.args in
     let e : 16 * (a.n * a.c + l.r) ≡ 16 * (a.n * a.c) + 16 * l.r = omega arith in
-    (search rules, search rules, column_stored a.list.now l.list (16 * (a.n * a.c)) l.r (get_or a.m a.c []) nought (omega (arith, c.requires.0 a.c c.requires.2)) l.invariant.2 (c.put_decimal.ensures ∙ rw e))
+    (search rules, column_stored a.list.now l.list (16 * (a.n * a.c)) l.r (get_or a.m a.c []) nought (omega (arith, c.requires.0 a.c c.requires.2)) l.invariant.1 (c.put_decimal.ensures ∙ rw e))
 
 pub returns : goal.returns
 returns c =
     let e : c.loop-r.r ≡ c.args.n = omega arith in
-    c.loop-r.invariant.2 ∙ rw e
+    c.loop-r.invariant.1 ∙ rw e

@@ -1,5 +1,5 @@
 -- `store::put_entries` meets its contract. The invariant: the first r entries of the column are stored.
-use Prim.Native.Nat.{◌*◌, ◌-◌, ◌≤◌}
+use Prim.Native.Nat.{◌*◌}
 use mathlib.Core.Path.{◌≡◌}
 use mathlib.Core.List.{[]}
 use lib.ListN.{length, take, get_or}
@@ -8,7 +8,4 @@ use Rattle.format.specs.Boundary.{decimals_bytes}
 use Rattle.read_orientation.proofs.store.put_entries.Given as goal
 
 abbrev pub invariant-loop-r : goal.invariant-loop-r
-invariant-loop-r l = (l.r ≤ l.n) × (length l.list ≡ length l.initial.list) × (l.list ≡ sets l.initial.list (16 * (l.n * l.c)) (decimals_bytes (take l.r (get_or l.m l.c []))))
-
-abbrev pub decreases-loop-r : goal.decreases-loop-r
-decreases-loop-r l = l.n - l.r
+invariant-loop-r l = (length l.list ≡ length l.initial.list) × (l.list ≡ sets l.initial.list (16 * (l.n * l.c)) (decimals_bytes (take l.r (get_or l.m l.c []))))
