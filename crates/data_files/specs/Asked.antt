@@ -1,5 +1,5 @@
 -- Internal to this crate. What the functions below the calls are asked, and what they answer.
-use Rattle.std.specs.Prelude.{ℕ, ◌+◌, ◌-◌, ◌*◌, ◌≤◌, ◌<◌, ◌≡◌, Bool, true, false, Result, Ok, Err, List, [], ◌++◌, nat_lt, nat_le, length, take, drop, slice_index_or, if◌then◌else◌}
+use Rattle.std.specs.Prelude.{ℕ, ◌+◌, ◌-◌, ◌*◌, ◌≤◌, ◌<◌, ◌≡◌, Bool, true, false, Result, Ok, Err, List, [], ◌++◌, nat_lt, nat_le, length, drop, slice_index_or, if◌then◌else◌}
 use Rattle.format.specs.declared.WriteAnswer.{WriteAnswer}
 use Rattle.format.specs.declared.ShareAnswer.{ShareAnswer}
 use Rattle.format.specs.declared.reason.Refused.{Refused}

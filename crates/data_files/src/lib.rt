@@ -76,7 +76,7 @@ pub fn file_name(file: &[u8], n: u64, out: &mut [u8]) -> WriteAnswer
     find_name(file, n, out).into()
 }
 
-// A share as callers in C have it.
+// A share as callers in C have it. No `From`: Rust refuses one between types of other crates.
 fn answer(share: Result<Share, Refused>) -> ShareAnswer
     ensures { result ≡ share_answered share }
 {

@@ -1,11 +1,11 @@
 -- Laws of the calls: what they answer is what the header says, by what is told of the field.
 -- Assumes nothing.
 use Rattle.std.specs.Prelude.{if◌then◌else◌}
-use Prim.Native.Nat.{ℕ, zero, suc, ◌*◌, ◌/◌, ◌≤◌, ◌<◌}
+use Prim.Native.Nat.{ℕ, suc, ◌*◌, ◌/◌, ◌≤◌, ◌<◌}
 use native.Mathlib.Nat.{zero-add}
 use native.Mathlib.Omega.{arith}
 use mathlib.Core.Path.{◌≡◌, refl, sym, ap, ◌∙◌}
-use mathlib.Core.Bool.{Bool, true, false, false≢true}
+use mathlib.Core.Bool.{Bool, true, false}
 use mathlib.Core.List.{List, [], ◌∷◌, map, flat_map}
 use mathlib.Core.Option.{Option, none, some}
 use lib.Dec.{eqb, ltb}
@@ -20,13 +20,12 @@ use Rattle.format.specs.Reasons.{refusal_of}
 use Rattle.std.specs.Prelude.{Ok, Err, Some, None}
 use Rattle.format.specs.declared.CountAnswer.{CountAnswer}
 use Rattle.format.specs.Bytes.{is_some, or_default, over}
-use Rattle.format.specs.Words.{not_empty}
 use Rattle.format.specs.Refusals.{lent_too_short, bad_coordinates, refusal, fine}
 use Rattle.format.specs.Lines.{Line}
 use Rattle.format.specs.Fields.{Given, descriptor_of, field_at, space_origin, space_directions, measurement_frame}
 use Rattle.format.specs.Spaces.{max_space}
 use Rattle.format.specs.Decimals.{marked, no_direction, nought}
-use Rattle.format.specs.Vectors.{Direction, without, along, parts_outside, vector_words, vector_said, direction_said, vectors_said, directions_said}
+use Rattle.format.specs.Vectors.{Direction, without, along, vector_words, vector_said, direction_said, vectors_said, directions_said}
 use Rattle.format.specs.Columns.{eight, column, matrix}
 use Rattle.format.specs.Descriptors.{may_describe, dimension_of, space_size_of}
 use Rattle.format.specs.Header.{Entry, Outcome, refused, accepted, header}
@@ -34,7 +33,7 @@ use Rattle.format.specs.Calls.{no_samples}
 use Rattle.format.specs.Boundary.{decimals_bytes}
 use Rattle.format.specs.Orientation.{first_vector, origin_of, directions_of, frame_of, no_vector, origin_in, origin_call, direction_in, direction_call, frame_in, frame_call, origin_listed, origin_entry, direction_decimals, directions_listed, directions_entry, frame_listed, frame_entry}
 use Rattle.format.proofs.Boundary.{length_decimals}
-use Rattle.format.proofs.Oriented.{header_described, space_few, some_axis}
+use Rattle.format.proofs.Oriented.{header_described, space_few}
 use Rattle.read_vectors.specs.Outside.{part}
 use Rattle.read_vectors.specs.Answers.{frame_said}
 use Rattle.read_vectors.proofs.ListLaws.{length_matrix, frame_of_lem}
@@ -223,8 +222,8 @@ module _ (file list : List ℕ) where
     directions_none q = sym (stored_none fine list) ∙ rw (w.is, absent file space_directions w.fields w.field_is q)
 
     module _ {x : Field} (q : s.field ≡ Some x) where
-      l : Lies file space_directions w.fields x
-      l = lies w.field_is q
+      directions_field : Lies file space_directions w.fields x
+      directions_field = lies w.field_is q
 
       abbrev directions_told : List Decimal
       directions_told = directions_in x.size (vector_words (part x.from x.to file)) s.axes
@@ -234,22 +233,22 @@ module _ (file list : List ℕ) where
       directions_stored =
           let n = space_size_of w.fields in
           let k = dimension_of w.fields in
-          let t = l.descriptor in
+          let t = directions_field.descriptor in
           let ws = vector_words t in
-          let c = there (directions_said k n t) l.described in
+          let c = there (directions_said k n t) directions_field.described in
           let s = said (direction_said n) k ws c.value c.is in
           let g : List ℕ → List Decimal = λ u. take n (direction_parts (direction_said n u)) in
           let all : directions_in n ws k ≡ flat_map (direction_decimals n) c.value =
           joined_flat g ws [] k (omega (arith, s.words)) ∙ ap (flat_map g) (take_all k ws (omega (arith, s.words)))
-          ∙ said_flat (direction_said n) g (direction_decimals n) (λ u b h. direction_taken n u b (l.not_flat refl) (space_few file w.is) h) k ws c.value c.is
+          ∙ said_flat (direction_said n) g (direction_decimals n) (λ u b h. direction_taken n u b (directions_field.not_flat refl) (space_few file w.is) h) k ws c.value c.is
           in
-          rw (l.size_is, w.axes_are, w.is, l.text, l.given, c.is, all)
+          rw (directions_field.size_is, w.axes_are, w.is, directions_field.text, directions_field.given, c.is, all)
 
       directions_many : length directions_told ≡ x.size * s.axes
       directions_many =
           let n = x.size in
           let ws = vector_words (part x.from x.to file) in
-          joined_length (λ i. take n (direction_parts (direction_said n (get_or ws i [])))) n s.axes (λ i h. direction_long n ws l.few i)
+          joined_length (λ i. take n (direction_parts (direction_said n (get_or ws i [])))) n s.axes (λ i h. direction_long n ws directions_field.few i)
 
       pub directions_stores : Stores fine directions_told (x.size * s.axes) list (directions_entry file list)
       directions_stores = record { many = directions_many; is = directions_stored }
@@ -298,8 +297,8 @@ module _ (file list : List ℕ) where
     frame_nothing q = sym (stored_none fine list) ∙ rw (w.is, absent file measurement_frame w.fields w.field_is q)
 
     module _ {x : Field} (q : s.field ≡ Some x) where
-      m : Lies file measurement_frame w.fields x
-      m = lies w.field_is q
+      frame_field : Lies file measurement_frame w.fields x
+      frame_field = lies w.field_is q
 
       abbrev frame_told : List (List Decimal)
       frame_told = frame_said x.size (part x.from x.to file)
@@ -308,9 +307,9 @@ module _ (file list : List ℕ) where
       unfolding frame_of may_describe joined flat_map
       frame_stored =
           let n = space_size_of w.fields in
-          let t = m.descriptor in
+          let t = frame_field.descriptor in
           let ws = vector_words t in
-          let c = there (vectors_said n n t) m.described in
+          let c = there (vectors_said n n t) frame_field.described in
           let s = said (vector_said n) n ws c.value c.is in
           let v : List ℕ → List Decimal = λ u. or_default [] (vector_said n u) in
           let few = space_few file w.is in
@@ -321,12 +320,12 @@ module _ (file list : List ℕ) where
           ∙ flat_columns n v ws
           ∙ said_flat (vector_said n) (λ u. take n (column (v u))) (λ u. u) (λ u b h. vector_taken n u b few h) n ws c.value c.is
           in
-          rw (m.size_is, w.is, m.text, m.given, c.is, all)
+          rw (frame_field.size_is, w.is, frame_field.text, frame_field.given, c.is, all)
 
       frame_many : length (columns_in x.size frame_told x.size) ≡ x.size * x.size
       frame_many =
           let n = x.size in
-          let few = m.few in
+          let few = frame_field.few in
           let long = frame_columns n (part x.from x.to file) frame_told refl in
           joined_length (λ c. take n (get_or frame_told c [])) n n (λ c h. length-take-le n (get_or frame_told c []) (omega (arith, few, long c (omega (arith, h, few)))))
 

@@ -45,7 +45,7 @@ fn no_vector(refusal: Refusal) -> VectorAnswer
     }
 }
 
-// A vector as callers in C have it.
+// A vector as callers in C have it. No `From`: Rust refuses one between types of other crates.
 fn answer(vector: Result<Option<Column>, Refused>) -> VectorAnswer
     ensures { result ≡ vector_answered vector }
 {
@@ -159,6 +159,7 @@ pub fn frame(file: &[u8]) -> [[Decimal; 8]; 8]
 }
 
 // ---- in lent bytes
+// Each call differs in its field, in how many decimals that has and in how they are stored; one function for the three would take all of that, and be no plainer.
 
 // The components of the origin, stored: how many there are.
 fn store_origin(file: &[u8], list: &mut [u8]) -> Result<u64, Refused>

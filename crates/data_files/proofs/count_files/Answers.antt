@@ -1,7 +1,5 @@
 -- `data_files::count_files` meets its contract: the number is the reading's.
-use mathlib.Core.Path.{ap, ◌∙◌}
 use Rattle.std.proofs.lemmas.Result.{err_from_is_err_and}
-use Rattle.format.specs.Answers.{count_answered}
 use Rattle.data_files.proofs.ShareLaws.{not_counted, counted}
 use Rattle.data_files.proofs.count_files.Goals as goal
 

@@ -1,5 +1,4 @@
 -- `data_files::find_name` meets its contract: the reading's refusal, 29, or the name.
-use mathlib.Core.Path.{ap, ◌∙◌}
 use Rattle.std.proofs.lemmas.Result.{err_from_is_err_and}
 use Rattle.data_files.proofs.CallLaws.{name_refused, name_past, name_asked}
 use Rattle.data_files.proofs.find_name.Goals as goal
