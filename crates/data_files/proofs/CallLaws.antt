@@ -9,7 +9,10 @@ use mathlib.Core.List.{List, [], ◌∷◌}
 use mathlib.Core.Option.{Option, none, some}
 use lib.ListN.{length, take, drop, get_or}
 use borrow.Author.Tests.{le-leb, lt-leb, le-ltb}
-use Rattle.format.specs.declared.ReadAnswer.{ReadAnswer}
+use Rattle.std.specs.Prelude.{Ok, Err}
+use Rattle.format.specs.declared.Reading.{Reading}
+use Rattle.format.specs.declared.reason.Refused.{Refused}
+use Rattle.format.specs.Answers.{reading_answered, length_answered}
 use Rattle.format.specs.declared.FindAnswer.{FindAnswer}
 use Rattle.format.specs.declared.WriteAnswer.{WriteAnswer}
 use Rattle.format.specs.Bytes.{is_some}
@@ -20,15 +23,14 @@ use Rattle.format.specs.DataFiles.{is_list, DataFile, one_file, numbered_files, 
 use Rattle.format.specs.Descriptors.{meaning, may_describe, names_follow, file_count_of}
 use Rattle.format.specs.FileNames.{name_said}
 use Rattle.format.specs.Header.{magic, is_file_name, Entry, entry, after_item, accepted, header, before_names, field_lines}
-use Rattle.format.specs.Calls.{reading_of, read_answer, read_header_call, find_field_call}
+use Rattle.format.specs.Calls.{reading_of, read_header_call, find_field_call}
 use Rattle.format.specs.Files.{file_name_of, no_name, file_name_in, file_name_call}
 use Rattle.format.specs.Found.{Finds, FindsField}
 use Rattle.format.proofs.Found.{field_found}
 use Rattle.format.proofs.Header.{Fine, fine_cases, header_sound}
 use Rattle.format.proofs.Oriented.{header_described}
 use Rattle.format.proofs.Named.{name_follows, names_go_on, names_are_lines, before_first, Counts, said_counts}
-use Rattle.read_header.specs.Accepted.{Fielded}
-use Rattle.read_header.proofs.Accepted.{was_refused, was_accepted}
+use Rattle.read_header.proofs.Accepted.{Read, was_read, was_not_read}
 use Rattle.data_files.specs.Asked.{stored_name, Asked, line_text, Ahead, NameAsked}
 use Rattle.data_files.proofs.LineLaws.{header_ahead}
 
@@ -185,35 +187,35 @@ module _ (file : List ℕ) (n : ℕ) (out : List ℕ) where
               }
 
   -- by the reading
-  module _ (a : ReadAnswer) (is : a ≡ read_header_call file) where
-    pub name_refused : a.reading.lines ≡ 0 → ◌≡◌ {A = WriteAnswer × List ℕ} (no_name a.refusal, out) (file_name_call file n out)
-    name_refused z = sym (ap (file_name_in n out) (was_refused file a is z))
+  pub name_refused : (r : Refused) → reading_answered (Err r) ≡ read_header_call file → ◌≡◌ {A = WriteAnswer × List ℕ} (length_answered (Err r), out) (file_name_call file n out)
+  name_refused r e = sym (ap (file_name_in n out) (was_not_read file r e))
 
-    module _ (z : a.reading.lines ≡ 0 → ⊥) where
-      read : Fielded file a.reading.fieldlines
-      read = was_accepted file a is z
+  module _ {x : Reading} (e : reading_answered (Ok x) ≡ read_header_call file) where
+    read : Read file x
+    read = was_read file e
 
-      read_is : a ≡ read_answer (accepted read.entries read.fields read.after)
-      read_is = is ∙ ap read_answer read.is
+    files_are : x.files ≡ file_count_of read.fields
+    unfolding reading_of
+    files_are = ap (λ (x : Reading). x.files) read.reading_is
 
-      files_are : a.reading.files ≡ file_count_of read.fields
-      unfolding reading_of
-      files_are = ap (λ (x : ReadAnswer). x.reading.files) read_is
+    lines_are : x.lines ≡ length read.entries
+    unfolding reading_of
+    lines_are = ap (λ (x : Reading). x.lines) read.reading_is
 
-      lines_are : a.reading.lines ≡ length read.entries
-      unfolding reading_of
-      lines_are = ap (λ (x : ReadAnswer). x.reading.lines) read_is
+    before_are : x.fieldlines ≡ field_lines read.entries
+    unfolding reading_of
+    before_are = ap (λ (x : Reading). x.fieldlines) read.reading_is
 
-      pub name_past : a.reading.files ≤ n → ◌≡◌ {A = WriteAnswer × List ℕ} (no_name (refusal no_such_file), out) (file_name_call file n out)
-      name_past h = rw (read.is, le-leb (file_count_of read.fields) n (rw files_are at h))
+    pub name_past : x.files ≤ n → ◌≡◌ {A = WriteAnswer × List ℕ} (no_name (refusal no_such_file), out) (file_name_call file n out)
+    name_past h = rw (read.is, le-leb (file_count_of read.fields) n (rw files_are at h))
 
-      pub name_asked : n < a.reading.files → Asked file n a.reading.lines a.reading.fieldlines
-      name_asked h = record {
-        entries = read.entries;
-        fields = read.fields;
-        after = read.after;
-        is = read.is;
-        many = lines_are;
-        first = read.many;
-        below = rw files_are at h;
-      }
+    pub name_asked : n < x.files → Asked file n x.lines x.fieldlines
+    name_asked h = record {
+      entries = read.entries;
+      fields = read.fields;
+      after = read.after;
+      is = read.is;
+      many = lines_are;
+      first = before_are;
+      below = rw files_are at h;
+    }

@@ -12,7 +12,7 @@ use Rattle.format.specs.Header.{Entry, lines_of, accepted, header}
 use Rattle.format.proofs.Lines.{length_lines_le, length_unlines_cons}
 use Rattle.format.proofs.Header.{header_sound}
 use Rattle.read_lines.specs.Spans.{LineAt, PastAt}
-use Rattle.data_files.specs.Asked.{line_text, Ahead, TextAt}
+use Rattle.data_files.specs.Asked.{line_text, Ahead}
 
 module _ {file : List ℕ} {at count : ℕ} {t : List ℕ} (w : Ahead file at count t) where
   pub ahead_starts : at < length file
@@ -56,24 +56,20 @@ module _ {file : List ℕ} {at count : ℕ} {t : List ℕ} (w : Ahead file at co
           }
 
   -- the line is reached
-  pub ahead_text : count ≡ 0 → {e next : ℕ} → LineAt file at e next → TextAt file t (record { from = at; to = e })
+  pub ahead_text : count ≡ 0 → {e next : ℕ} → LineAt file at e next → take (e - at) (drop at file) ≡ t
   ahead_text none {e} {next} x = go w.first w.split w.many w.is
     where
       here : Line
       here = line (take (e - at) (drop at file)) x.ending
 
       go : (ls : List Line) → lines (drop at file) ≡ ls ++ w.after → count < length ls → text (get_or ls count (line [] eof)) ≡ t
-          → TextAt file t (record { from = at; to = e })
+          → take (e - at) (drop at file) ≡ t
       go [] s m i = absurd (omega arith)
       go (l ∷ ls) s m i =
           let y : here ∷ lines (drop next file) ≡ l ∷ (ls ++ w.after) = sym x.cut ∙ s in
           let z : l ≡ here = cc in
           let h : text l ≡ t = ap (λ (j : ℕ). text (get_or (l ∷ ls) j (line [] eof))) (sym none) ∙ i in
-          record {
-            ordered = x.from;
-            within = omega (arith, x.to, x.within);
-            bytes = sym (ap text z) ∙ h;
-          }
+          sym (ap text z) ∙ h
 
 -- the lines of an accepted header are ahead of its start
 pub header_ahead : (file : List ℕ) {es : List Entry} {gs : List Given} {r : List Line} → header file ≡ accepted es gs r → (k : ℕ) → k < length es → Ahead file 0 k (line_text file k)

@@ -13,7 +13,7 @@ use Rattle.format.specs.declared.WriteAnswer.{WriteAnswer}
 use Rattle.format.specs.Bytes.{is_some, is_empty}
 use Rattle.format.specs.Limits.{max_header}
 use Rattle.format.specs.Words.{words}
-use Rattle.format.specs.DataFiles.{is_list, has_percent, is_many_form, Pattern, pattern, numbering, one_file, numbered_files, listed, axes_said, pattern_said, data_file_said, files_said}
+use Rattle.format.specs.DataFiles.{is_list, has_percent, is_many_form, Pattern, pattern, numbering, one_file, numbered_files, listed, axes_said, pattern_said, data_file_said}
 use Rattle.format.specs.FileNames.{pattern_name, number_at, name_said}
 use Rattle.std.specs.Prelude.{IsSome, Some, None}
 use Rattle.std.specs.Prelude.{Option as Maybe}

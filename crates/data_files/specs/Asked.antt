@@ -1,10 +1,12 @@
 -- Internal to this crate. What the functions below the calls are asked, and what they answer.
-use Rattle.std.specs.Prelude.{ℕ, ◌+◌, ◌-◌, ◌*◌, ◌≤◌, ◌<◌, ◌≡◌, Bool, true, false, List, [], ◌++◌, nat_lt, nat_le, length, take, drop, slice_index_or, if◌then◌else◌}
+use Rattle.std.specs.Prelude.{ℕ, ◌+◌, ◌-◌, ◌*◌, ◌≤◌, ◌<◌, ◌≡◌, Bool, true, false, Result, Ok, Err, List, [], ◌++◌, nat_lt, nat_le, length, drop, slice_index_or, if◌then◌else◌}
 use Rattle.format.specs.declared.WriteAnswer.{WriteAnswer}
 use Rattle.format.specs.declared.ShareAnswer.{ShareAnswer}
+use Rattle.format.specs.declared.reason.Refused.{Refused}
 use Rattle.format.specs.Bytes.{is_some, over}
 use Rattle.format.specs.Limits.{max_header, max_extent}
 use Rattle.format.specs.Refusals.{lent_too_short, bad_coordinates, refusal, fine}
+use Rattle.format.specs.Reasons.{refusal_of}
 use Rattle.format.specs.Lines.{Line, line, eof, text, lines, unlines}
 use Rattle.format.specs.Fields.{Given}
 use Rattle.format.specs.DataFiles.{is_list, data_file_said, files_said}
@@ -12,7 +14,7 @@ use Rattle.format.specs.Descriptors.{file_count_of}
 use Rattle.format.specs.FileNames.{share, share_file, share_byte}
 use Rattle.format.specs.Header.{Entry, accepted, header, field_lines}
 use Rattle.format.specs.Files.{no_name, no_share}
-use Rattle.data_files.specs.declared.lines.Place.{Place}
+use Rattle.data_files.specs.declared.shares.Share.{Share}
 
 -- ---- names
 
@@ -45,12 +47,6 @@ pub record Ahead (file : List ℕ) (at count : ℕ) (t : List ℕ) : Type 0 wher
   pub many : count < length first
   pub is : text (slice_index_or first count (line [] eof)) ≡ t
 
--- the text t stands there in the file
-pub record TextAt (file t : List ℕ) (p : Place) : Type 0 where
-  pub ordered : p.from ≤ p.to
-  pub within : p.to ≤ length file
-  pub bytes : take (p.to - p.from) (drop p.from file) ≡ t
-
 -- the n-th number from the first on
 abbrev pub value_at : ℕ → Bool → ℕ → ℕ → ℕ
 value_at first false size n = first + n * size
@@ -70,6 +66,11 @@ pub record Shared (samples files bytes : ℕ) : Type 0 where
   pub some_file : 1 ≤ files
   pub some_sample : 1 ≤ share samples files
   pub few : samples * bytes ≤ max_extent
+
+-- a share as callers in C have it
+abbrev pub share_answered : Result Share Refused → ShareAnswer
+share_answered (Ok s) = record { refusal = fine; file = s.file; byte = s.byte }
+share_answered (Err refused) = no_share (refusal_of refused)
 
 -- the place of a sample among so many, in so many files, with samples of so many bytes
 abbrev pub share_in : ℕ → ℕ → ℕ → ℕ → ShareAnswer

@@ -1,14 +1,8 @@
 // The lines of a header by their numbers.
-ghost use Rattle.data_files.specs.Asked.{Ahead, line_text, TextAt};
+ghost use Rattle.std.specs.Prelude.{◌≡◌};
+ghost use Rattle.data_files.specs.Asked.{Ahead, line_text};
 
 use read_lines::LineEnds;
-
-// Where a text stands: from a byte to before another.
-#[derive(Clone, Copy)]
-pub(crate) struct Place {
-    pub from: usize,
-    pub to: usize,
-}
 
 // Where the line after `count` others starts.
 fn start_of(file: &[u8], count: u64) -> usize
@@ -16,34 +10,23 @@ fn start_of(file: &[u8], count: u64) -> usize
     ensures { Ahead file.now result 0 (line_text file.now count) }
 {
     let mut at: usize = 0;
-    let mut left = count;
-    while 0 < left {
-        match read_lines::line_at(file, at) {
-            Some(LineEnds { next, .. }) => {
-                at = next;
-            }
-            None => {
-                return at;
-            }
-        }
-        left -= 1;
+    for _ in 0..count {
+        let Some(LineEnds { next, .. }) = read_lines::line_at(file, at) else {
+            return at;
+        };
+        at = next;
     }
     at
 }
 
-// Where the text of the line after `count` others stands.
-pub(crate) fn text_of(file: &[u8], count: u64) -> Place
+// The text of the line after `count` others.
+pub(crate) fn text_of<'a>(file: &'a [u8], count: u64) -> &'a [u8]
     requires { Ahead file.now 0 count (line_text file.now count) }
-    ensures { TextAt file.now (line_text file.now count) result }
+    ensures { result.now ≡ line_text file.now count }
 {
     let at = start_of(file, count);
     match read_lines::line_at(file, at) {
-        Some(
-            LineEnds {
-                text_end: end,
-                next: _,
-            },
-        ) => Place { from: at, to: end },
-        None => Place { from: at, to: at },
+        Some(LineEnds { text_end, .. }) => &file[at..text_end],
+        None => &file[..0],
     }
 }

@@ -1,35 +1,37 @@
 // The shares of the samples that the files hold, all equal.
 ghost use Rattle.std.specs.Prelude.{◌≡◌};
-ghost use Rattle.format.specs.Files.{no_share};
-ghost use Rattle.data_files.specs.Asked.{Shared, share_in};
+ghost use Rattle.data_files.specs.Asked.{Shared, share_in, share_answered};
 
-use format::{Refusal, ShareAnswer};
-use format_values::refusals;
+use format::reason::{Reason, Refused};
 
-// There is no such sample.
-pub(crate) fn none(refusal: Refusal) -> ShareAnswer
-    ensures { result ≡ no_share refusal }
-{
-    ShareAnswer {
-        refusal: refusal,
-        file: 0,
-        byte: 0,
-    }
+// The file of a sample, and its byte there.
+#[derive(Clone, Copy)]
+pub(crate) struct Share {
+    pub file: u64,
+    pub byte: u64,
 }
 
-// The file of a sample, and its byte there, by how many samples and files there are and how many bytes a sample has.
-pub(crate) fn share_of(samples: u64, files: u64, bytes: u64, sample: u64) -> ShareAnswer
-    requires { Shared samples files bytes }
-    ensures { result ≡ share_in samples files bytes sample }
-{
-    if samples <= sample {
-        return none(refusals::BAD_COORDINATES);
-    }
-    let share = samples / files;
-    let byte = sample % share * bytes;
-    ShareAnswer {
-        refusal: refusals::FINE,
-        file: sample / share,
-        byte: byte,
+// How many samples and files there are, and how many bytes a sample has.
+#[derive(Clone, Copy)]
+pub(crate) struct Shares {
+    pub samples: u64,
+    pub files: u64,
+    pub bytes: u64,
+}
+
+impl Shares {
+    // The share of a sample, or 23 where there is no such sample.
+    pub(crate) fn share_of(self, sample: u64) -> Result<Share, Refused>
+        requires { Shared self.samples self.files self.bytes }
+        ensures { share_answered result ≡ share_in self.samples self.files self.bytes sample }
+    {
+        if self.samples <= sample {
+            return Err(Reason::BadCoordinates.into());
+        }
+        let share = self.samples / self.files;
+        Ok(Share {
+            file: sample / share,
+            byte: sample % share * self.bytes,
+        })
     }
 }

@@ -1,11 +1,11 @@
 -- Laws of the calls: what they answer is what the header says, by what is told of the field.
 -- Assumes nothing.
 use Rattle.std.specs.Prelude.{if◌then◌else◌}
-use Prim.Native.Nat.{ℕ, zero, suc, ◌*◌, ◌/◌, ◌≤◌, ◌<◌}
+use Prim.Native.Nat.{ℕ, suc, ◌*◌, ◌/◌, ◌≤◌, ◌<◌}
 use native.Mathlib.Nat.{zero-add}
 use native.Mathlib.Omega.{arith}
 use mathlib.Core.Path.{◌≡◌, refl, sym, ap, ◌∙◌}
-use mathlib.Core.Bool.{Bool, true, false, false≢true}
+use mathlib.Core.Bool.{Bool, true, false}
 use mathlib.Core.List.{List, [], ◌∷◌, map, flat_map}
 use mathlib.Core.Option.{Option, none, some}
 use lib.Dec.{eqb, ltb}
@@ -15,15 +15,17 @@ use borrow.Author.Tests.{lt-ltb, le-ltb, eqb-true, eqb-false}
 use Rattle.format.specs.declared.Decimal.{Decimal}
 use Rattle.format.specs.declared.Refusal.{Refusal}
 use Rattle.format.specs.declared.VectorAnswer.{VectorAnswer}
+use Rattle.format.specs.declared.reason.Refused.{Refused}
+use Rattle.format.specs.Reasons.{refusal_of}
+use Rattle.std.specs.Prelude.{Ok, Err, Some, None}
 use Rattle.format.specs.declared.CountAnswer.{CountAnswer}
 use Rattle.format.specs.Bytes.{is_some, or_default, over}
-use Rattle.format.specs.Words.{not_empty}
 use Rattle.format.specs.Refusals.{lent_too_short, bad_coordinates, refusal, fine}
 use Rattle.format.specs.Lines.{Line}
 use Rattle.format.specs.Fields.{Given, descriptor_of, field_at, space_origin, space_directions, measurement_frame}
 use Rattle.format.specs.Spaces.{max_space}
 use Rattle.format.specs.Decimals.{marked, no_direction, nought}
-use Rattle.format.specs.Vectors.{Direction, without, along, parts_outside, vector_words, vector_said, direction_said, vectors_said, directions_said}
+use Rattle.format.specs.Vectors.{Direction, without, along, vector_words, vector_said, direction_said, vectors_said, directions_said}
 use Rattle.format.specs.Columns.{eight, column, matrix}
 use Rattle.format.specs.Descriptors.{may_describe, dimension_of, space_size_of}
 use Rattle.format.specs.Header.{Entry, Outcome, refused, accepted, header}
@@ -31,46 +33,19 @@ use Rattle.format.specs.Calls.{no_samples}
 use Rattle.format.specs.Boundary.{decimals_bytes}
 use Rattle.format.specs.Orientation.{first_vector, origin_of, directions_of, frame_of, no_vector, origin_in, origin_call, direction_in, direction_call, frame_in, frame_call, origin_listed, origin_entry, direction_decimals, directions_listed, directions_entry, frame_listed, frame_entry}
 use Rattle.format.proofs.Boundary.{length_decimals}
-use Rattle.format.proofs.Oriented.{header_described, space_few, some_axis}
+use Rattle.format.proofs.Oriented.{header_described, space_few}
 use Rattle.read_vectors.specs.Outside.{part}
-use Rattle.read_vectors.specs.Answers.{vector_answer, direction_answer, frame_said}
+use Rattle.read_vectors.specs.Answers.{frame_said}
 use Rattle.read_vectors.proofs.ListLaws.{length_matrix, frame_of_lem}
+use Rattle.read_orientation.specs.declared.Column.{Column}
 use Rattle.read_orientation.specs.declared.place.Field.{Field}
-use Rattle.read_orientation.specs.Told.{no_field, Lies, ToldBy, Told, Bounded, direction_told, joined, directions_in, columns_in, Columns}
+use Rattle.read_orientation.specs.declared.place.Said.{Said}
+use Rattle.read_orientation.specs.Told.{Lies, Says, direction_parts, direction_told, vector_answered, joined, directions_in, columns_in, Columns}
 use Rattle.read_orientation.proofs.SaidLaws.{there, said, said_flat, length_eight, take_eight, vector_length, vector_taken, direction_taken, direction_told_lem}
+use Rattle.read_orientation.proofs.PlaceLaws.{lies, absent}
 use Rattle.read_orientation.proofs.StoreLaws.{joined_flat, joined_length}
 
--- ---- what is told of a field, by cases
-
-module _ (file : List ℕ) (f : ℕ) (x : Field) (P : Outcome → Type 0)
-    (at_refused : (r : Refusal) → x ≡ no_field r 0 → P (refused r))
-    (at_none : (es : List Entry) (gs : List Given) (ls : List Line) → header file ≡ accepted es gs ls → descriptor_of f gs ≡ none → x ≡ no_field fine (dimension_of gs) → P (accepted es gs ls))
-    (at_some : (es : List Entry) (gs : List Given) (ls : List Line) → header file ≡ accepted es gs ls → (t : List ℕ) → descriptor_of f gs ≡ some t → Lies file f gs t x → P (accepted es gs ls)) where
-  told_cases : Told file f (header file) x → P (header file)
-  told_cases w = go (header file) refl w
-    where
-      by : {es : List Entry} {gs : List Given} {ls : List Line} → header file ≡ accepted es gs ls → (o : Option (List ℕ)) → descriptor_of f gs ≡ o → ToldBy file f gs o x → P (accepted es gs ls)
-      by {es} {gs} {ls} e none q w = at_none es gs ls e q w
-      by {es} {gs} {ls} e (some t) q w = at_some es gs ls e t q w
-
-      go : (o : Outcome) → header file ≡ o → Told file f o x → P o
-      go (refused r) e w = at_refused r w
-      go (accepted es gs ls) e w = by e (descriptor_of f gs) refl w
-
--- no text has no words
-no_words : vector_words [] ≡ []
-unfolding vector_words parts_outside not_empty
-no_words = refl
-
 -- ---- the origin
-
-no_vector_lem : (n : ℕ) → vector_said n [] ≡ none
-unfolding vector_said
-no_vector_lem n = refl
-
-abbrev origin_told : List ℕ → Field → VectorAnswer
-origin_told file x =
-    record { refusal = x.refusal; given = x.given; count = x.size; parts = (vector_answer (vector_said x.size (get_or (vector_words (part x.from x.to file)) 0 []))).parts }
 
 -- the only vector
 module _ (n : ℕ) (t : List ℕ) (h : is_some (vectors_said 1 n t) ≡ true) where
@@ -87,13 +62,21 @@ module _ (n : ℕ) (t : List ℕ) (h : is_some (vectors_said 1 n t) ≡ true) wh
   first_length : length (first_vector (vectors_said 1 n t)) ≡ n
   first_length = vector_length n (get_or (vector_words t) 0 []) (first_vector (vectors_said 1 n t)) first_is
 
-pub origin_told_lem : (file : List ℕ) (x : Field) → Told file space_origin (header file) x → origin_told file x ≡ origin_call file
-unfolding origin_of may_describe
-origin_told_lem file x =
-    told_cases file space_origin x (λ o. origin_told file x ≡ origin_in o) (λ r q. rw (q, no_words, no_vector_lem 0)) (λ es gs ls e d q. rw (q, d, no_words, no_vector_lem 0))
-    (λ es gs ls e t d w.
-    let n = space_size_of gs in
-    rw (w.text, w.size_is, w.not_refused, w.there, d, first_is n t w.described, first_length n t w.described))
+module _ (file : List ℕ) where
+  pub origin_refused : (r : Refused) → header file ≡ refused (refusal_of r) → vector_answered (Err r) ≡ origin_call file
+  origin_refused r e = sym (ap origin_in e)
+
+  module _ {s : Said} (w : Says file space_origin s) where
+    pub origin_none : s.field ≡ None → vector_answered (Ok None) ≡ origin_call file
+    origin_none q = rw (w.is, absent file space_origin w.fields w.field_is q)
+
+    pub origin_given : {x : Field} → s.field ≡ Some x → {ds : List Decimal} → ds ≡ column (or_default [] (vector_said x.size (get_or (vector_words (part x.from x.to file)) 0 [])))
+        → vector_answered (Ok (Some (record { count = x.size; parts = ds }))) ≡ origin_call file
+    unfolding origin_of may_describe
+    origin_given {x} q e =
+        let l = lies w.field_is q in
+        let n = space_size_of w.fields in
+        rw (e, l.size_is, w.is, l.text, l.given, first_is n l.descriptor l.described, first_length n l.descriptor l.described)
 
 -- it has at most eight components, and these are the first of the answer
 module _ (file : List ℕ) {es : List Entry} {gs : List Given} {ls : List Line} (e : header file ≡ accepted es gs ls) where
@@ -107,50 +90,47 @@ module _ (file : List ℕ) {es : List Entry} {gs : List Given} {ls : List Line} 
 
 -- ---- a direction
 
-module _ (file : List ℕ) (x : Field) (w : Told file space_directions (header file) x) (axis : ℕ) where
-  pub direction_refused : x.axes ≡ 0 → no_vector x.refusal ≡ direction_call file axis
-  direction_refused z =
-      told_cases file space_directions x (λ o. no_vector x.refusal ≡ direction_in axis o) (λ r q. rw q)
-      (λ es gs ls e d q. absurd (omega (arith, some_axis file e, ap (λ (y : Field). y.axes) q)))
-      (λ es gs ls e t d l. absurd (omega (arith, some_axis file e, l.axes_are))) w
+module _ (file : List ℕ) (axis : ℕ) where
+  pub direction_refused : (r : Refused) → header file ≡ refused (refusal_of r) → vector_answered (Err r) ≡ direction_call file axis
+  direction_refused r e = sym (ap (direction_in axis) e)
 
-  module _ (some_axes : x.axes ≡ 0 → ⊥) where
-    pub direction_outside : x.axes ≤ axis → no_vector (refusal bad_coordinates) ≡ direction_call file axis
-    direction_outside h =
-        told_cases file space_directions x (λ o. no_vector (refusal bad_coordinates) ≡ direction_in axis o) (λ r q. absurd (some_axes (ap (λ (y : Field). y.axes) q)))
-        (λ es gs ls e d q. rw (le-ltb axis (dimension_of gs) (omega (arith, ap (λ (y : Field). y.axes) q))))
-        (λ es gs ls e t d l. rw (le-ltb axis (dimension_of gs) (omega (arith, l.axes_are)))) w
+  module _ {s : Said} (w : Says file space_directions s) where
+    pub direction_outside : s.axes ≤ axis → no_vector (refusal bad_coordinates) ≡ direction_call file axis
+    direction_outside h = rw (w.is, le-ltb axis (dimension_of w.fields) (omega (arith, h, w.axes_are)))
 
-    pub direction_none : axis < x.axes → x.given ≡ false → no_vector x.refusal ≡ direction_call file axis
-    direction_none h z =
-        told_cases file space_directions x (λ o. no_vector x.refusal ≡ direction_in axis o) (λ r q. absurd (some_axes (ap (λ (y : Field). y.axes) q)))
-        (λ es gs ls e d q. rw (lt-ltb axis (dimension_of gs) (omega (arith, ap (λ (y : Field). y.axes) q)), d, q))
-        (λ es gs ls e t d l. absurd (false≢true (sym z ∙ l.there))) w
+    pub direction_none : axis < s.axes → s.field ≡ None → vector_answered (Ok None) ≡ direction_call file axis
+    direction_none h q = rw (w.is, lt-ltb axis (dimension_of w.fields) (omega (arith, h, w.axes_are)), absent file space_directions w.fields w.field_is q)
 
-    pub direction_given : axis < x.axes → x.given ≡ true → direction_told x.size (get_or (vector_words (part x.from x.to file)) axis []) ≡ direction_call file axis
+    pub direction_given : axis < s.axes → {x : Field} → s.field ≡ Some x → {v : Column} → v ≡ direction_told x.size (get_or (vector_words (part x.from x.to file)) axis [])
+        → vector_answered (Ok (Some v)) ≡ direction_call file axis
     unfolding directions_of may_describe
-    direction_given h z =
-        told_cases file space_directions x (λ o. direction_told x.size (get_or (vector_words (part x.from x.to file)) axis []) ≡ direction_in axis o)
-        (λ r q. absurd (some_axes (ap (λ (y : Field). y.axes) q)))
-        (λ es gs ls e d q. absurd (false≢true (sym (ap (λ (y : Field). y.given) q) ∙ z)))
-        (λ es gs ls e t d l.
-        let n = space_size_of gs in
-        let k = dimension_of gs in
-        let a : axis < k = omega (arith, l.axes_are) in
-        let c = there (directions_said k n t) l.described in
-        let s = said (direction_said n) k (vector_words t) c.value c.is in
-        rw (l.text, l.size_is, lt-ltb axis k a, d, c.is) (direction_told_lem n (get_or (vector_words t) axis []) (get_or c.value axis without) (s.each axis without a))) w
+    direction_given h {x} q e =
+        let l = lies w.field_is q in
+        let n = space_size_of w.fields in
+        let k = dimension_of w.fields in
+        let a : axis < k = omega (arith, h, w.axes_are) in
+        let c = there (directions_said k n l.descriptor) l.described in
+        let s = said (direction_said n) k (vector_words l.descriptor) c.value c.is in
+        rw (e, l.size_is, w.is, l.text, lt-ltb axis k a, l.given, c.is) (direction_told_lem n (get_or (vector_words l.descriptor) axis []) (get_or c.value axis without) (s.each axis without a))
 
 -- ---- the frame
 
-pub frame_told_lem : (file : List ℕ) (x : Field) → Told file measurement_frame (header file) x → frame_said x.size (part x.from x.to file) ≡ frame_call file
-unfolding frame_of may_describe
-frame_told_lem file x =
-    told_cases file measurement_frame x (λ o. frame_said x.size (part x.from x.to file) ≡ frame_in o) (λ r q. rw (q, no_words)) (λ es gs ls e d q. rw (q, d, no_words))
-    (λ es gs ls e t d w.
-    let n = space_size_of gs in
-    let c = there (vectors_said n n t) w.described in
-    rw (w.text, w.size_is, d, c.is) (frame_of_lem n n t c.value c.is))
+module _ (file : List ℕ) where
+  pub frame_refused : (r : Refused) → header file ≡ refused (refusal_of r) → matrix [] ≡ frame_call file
+  frame_refused r e = sym (ap frame_in e)
+
+  module _ {s : Said} (w : Says file measurement_frame s) where
+    pub frame_none : s.field ≡ None → matrix [] ≡ frame_call file
+    unfolding frame_of
+    frame_none q = rw (w.is, absent file measurement_frame w.fields w.field_is q)
+
+    pub frame_given : {x : Field} → s.field ≡ Some x → frame_said x.size (part x.from x.to file) ≡ frame_call file
+    unfolding frame_of may_describe
+    frame_given {x} q =
+        let l = lies w.field_is q in
+        let n = space_size_of w.fields in
+        let c = there (vectors_said n n l.descriptor) l.described in
+        rw (l.size_is, w.is, l.text, l.given, c.is) (frame_of_lem n n l.descriptor c.value c.is)
 
 -- ---- in lent bytes
 
@@ -211,6 +191,10 @@ module _ (file list : List ℕ) where
     parts : (v.count ≤ 8) × (length v.parts ≡ 8) × (stored v.refusal (take v.count v.parts) list ≡ origin_entry file list)
     parts = rw e (origin_parts (header file) refl)
 
+    -- no component, nothing stored
+    pub origin_nothing : v.count ≡ 0 → ◌≡◌ {A = CountAnswer × List ℕ} (no_samples v.refusal, list) (origin_entry file list)
+    origin_nothing z = sym (stored_none v.refusal list) ∙ (ap (λ (n : ℕ). stored v.refusal (take n v.parts) list) (sym z) ∙ parts.2)
+
     pub origin_fits : v.count ≤ 8
     origin_fits = parts.0
 
@@ -219,52 +203,55 @@ module _ (file list : List ℕ) where
 
 -- ---- directions in lent bytes
 
--- nothing is joined where each part is empty
-joined_nothing : (f : ℕ → List Decimal) → ((i : ℕ) → f i ≡ []) → (k : ℕ) → joined f k ≡ []
-unfolding joined
-joined_nothing f h zero = refl
-joined_nothing f h (suc k) = rw (joined_nothing f h k, h k)
-
-direction_eight : (o : Option Direction) → length (direction_answer o).parts ≡ 8
+direction_eight : (o : Option Direction) → length (direction_parts o) ≡ 8
 direction_eight none = length_eight nought []
 direction_eight (some without) = length_eight nought (marked no_direction ∷ [])
 direction_eight (some (along ds)) = length_eight nought ds
 
 -- n decimals for each word
-pub direction_long : (n : ℕ) (ws : List (List ℕ)) → n ≤ 8 → (i : ℕ) → length (take n (direction_answer (direction_said n (get_or ws i []))).parts) ≡ n
-direction_long n ws h i = length-take-le n (direction_answer (direction_said n (get_or ws i []))).parts (omega (arith, direction_eight (direction_said n (get_or ws i []))))
+pub direction_long : (n : ℕ) (ws : List (List ℕ)) → n ≤ 8 → (i : ℕ) → length (take n (direction_parts (direction_said n (get_or ws i [])))) ≡ n
+direction_long n ws h i = length-take-le n (direction_parts (direction_said n (get_or ws i []))) (omega (arith, direction_eight (direction_said n (get_or ws i []))))
 
-module _ (file list : List ℕ) (x : Field) (w : Told file space_directions (header file) x) where
-  abbrev directions_told : List Decimal
-  directions_told = directions_in x.size (vector_words (part x.from x.to file)) x.axes
+module _ (file list : List ℕ) where
+  pub directions_refused : (r : Refused) → header file ≡ refused (refusal_of r) → ◌≡◌ {A = CountAnswer × List ℕ} (no_samples (refusal_of r), list) (directions_entry file list)
+  directions_refused r e = sym (ap (directions_listed list) e)
 
-  directions_stored : stored x.refusal directions_told list ≡ directions_entry file list
-  unfolding directions_of may_describe joined flat_map field_at
-  directions_stored =
-      told_cases file space_directions x (λ o. stored x.refusal directions_told list ≡ directions_listed list o) (λ r q. rw q (stored_none r list))
-      (λ es gs ls e d q. rw (q, d, joined_nothing (λ i. []) (λ i. refl) (dimension_of gs)))
-      (λ es gs ls e t d l.
-      let n = space_size_of gs in
-      let k = dimension_of gs in
-      let ws = vector_words t in
-      let c = there (directions_said k n t) l.described in
-      let s = said (direction_said n) k ws c.value c.is in
-      let g : List ℕ → List Decimal = λ u. take n (direction_answer (direction_said n u)).parts in
-      let all : directions_in n ws k ≡ flat_map (direction_decimals n) c.value =
-      joined_flat g ws [] k (omega (arith, s.words)) ∙ ap (flat_map g) (take_all k ws (omega (arith, s.words)))
-      ∙ said_flat (direction_said n) g (direction_decimals n) (λ u b h. direction_taken n u b (l.not_flat refl) (space_few file e) h) k ws c.value c.is
-      in
-      rw (l.text, l.size_is, l.axes_are, l.not_refused, d, c.is, all)) w
+  module _ {s : Said} (w : Says file space_directions s) where
+    pub directions_none : s.field ≡ None → ◌≡◌ {A = CountAnswer × List ℕ} (no_samples fine, list) (directions_entry file list)
+    unfolding directions_of flat_map
+    directions_none q = sym (stored_none fine list) ∙ rw (w.is, absent file space_directions w.fields w.field_is q)
 
-  module _ (b : Bounded file x) where
-    directions_many : length directions_told ≡ x.size * x.axes
-    directions_many =
-        let n = x.size in
-        let ws = vector_words (part x.from x.to file) in
-        joined_length (λ i. take n (direction_answer (direction_said n (get_or ws i []))).parts) n x.axes (λ i l. direction_long n ws b.few i)
+    module _ {x : Field} (q : s.field ≡ Some x) where
+      directions_field : Lies file space_directions w.fields x
+      directions_field = lies w.field_is q
 
-    pub directions_stores : Stores x.refusal directions_told (x.size * x.axes) list (directions_entry file list)
-    directions_stores = record { many = directions_many; is = directions_stored }
+      abbrev directions_told : List Decimal
+      directions_told = directions_in x.size (vector_words (part x.from x.to file)) s.axes
+
+      directions_stored : stored fine directions_told list ≡ directions_entry file list
+      unfolding directions_of may_describe joined flat_map field_at
+      directions_stored =
+          let n = space_size_of w.fields in
+          let k = dimension_of w.fields in
+          let t = directions_field.descriptor in
+          let ws = vector_words t in
+          let c = there (directions_said k n t) directions_field.described in
+          let s = said (direction_said n) k ws c.value c.is in
+          let g : List ℕ → List Decimal = λ u. take n (direction_parts (direction_said n u)) in
+          let all : directions_in n ws k ≡ flat_map (direction_decimals n) c.value =
+          joined_flat g ws [] k (omega (arith, s.words)) ∙ ap (flat_map g) (take_all k ws (omega (arith, s.words)))
+          ∙ said_flat (direction_said n) g (direction_decimals n) (λ u b h. direction_taken n u b (directions_field.not_flat refl) (space_few file w.is) h) k ws c.value c.is
+          in
+          rw (directions_field.size_is, w.axes_are, w.is, directions_field.text, directions_field.given, c.is, all)
+
+      directions_many : length directions_told ≡ x.size * s.axes
+      directions_many =
+          let n = x.size in
+          let ws = vector_words (part x.from x.to file) in
+          joined_length (λ i. take n (direction_parts (direction_said n (get_or ws i [])))) n s.axes (λ i h. direction_long n ws directions_field.few i)
+
+      pub directions_stores : Stores fine directions_told (x.size * s.axes) list (directions_entry file list)
+      directions_stores = record { many = directions_many; is = directions_stored }
 
 -- ---- the frame in lent bytes
 
@@ -300,38 +287,47 @@ unfolding flat_map
 flat_columns n v [] = refl
 flat_columns n v (w ∷ ws) = rw (flat_columns n v ws)
 
-module _ (file list : List ℕ) (x : Field) (w : Told file measurement_frame (header file) x) where
-  abbrev frame_told : List (List Decimal)
-  frame_told = frame_said x.size (part x.from x.to file)
+module _ (file list : List ℕ) where
+  pub frame_not_stored : (r : Refused) → header file ≡ refused (refusal_of r) → ◌≡◌ {A = CountAnswer × List ℕ} (no_samples (refusal_of r), list) (frame_entry file list)
+  frame_not_stored r e = sym (ap (frame_listed list) e)
 
-  frame_stored : stored x.refusal (columns_in x.size frame_told x.size) list ≡ frame_entry file list
-  unfolding frame_of may_describe joined flat_map
-  frame_stored =
-      told_cases file measurement_frame x (λ o. stored x.refusal (columns_in x.size frame_told x.size) list ≡ frame_listed list o) (λ r q. rw q (stored_none r list))
-      (λ es gs ls e d q. rw (q, d))
-      (λ es gs ls e t d l.
-      let n = space_size_of gs in
-      let ws = vector_words t in
-      let c = there (vectors_said n n t) l.described in
-      let s = said (vector_said n) n ws c.value c.is in
-      let v : List ℕ → List Decimal = λ u. or_default [] (vector_said n u) in
-      let few = space_few file e in
-      let long : length (map column (map v ws)) ≡ n = length-map (map v ws) column ∙ length-map ws v ∙ s.words in
-      let all : columns_in n (frame_said n t) n ≡ flat_map (λ u. u) c.value =
-      joined_flat (take n) (frame_said n t) [] n (omega (arith, length_matrix (map v ws)))
-      ∙ ap (flat_map (take n)) (take_eight (column []) (map column (map v ws)) n long few)
-      ∙ flat_columns n v ws
-      ∙ said_flat (vector_said n) (λ u. take n (column (v u))) (λ u. u) (λ u b h. vector_taken n u b few h) n ws c.value c.is
-      in
-      rw (l.text, l.size_is, l.not_refused, d, c.is, all)) w
+  module _ {s : Said} (w : Says file measurement_frame s) where
+    pub frame_nothing : s.field ≡ None → ◌≡◌ {A = CountAnswer × List ℕ} (no_samples fine, list) (frame_entry file list)
+    unfolding frame_of flat_map
+    frame_nothing q = sym (stored_none fine list) ∙ rw (w.is, absent file measurement_frame w.fields w.field_is q)
 
-  module _ (b : Bounded file x) where
-    frame_many : length (columns_in x.size frame_told x.size) ≡ x.size * x.size
-    frame_many =
-        let n = x.size in
-        let few = b.few in
-        let long = frame_columns n (part x.from x.to file) frame_told refl in
-        joined_length (λ c. take n (get_or frame_told c [])) n n (λ c l. length-take-le n (get_or frame_told c []) (omega (arith, few, long c (omega (arith, l, few)))))
+    module _ {x : Field} (q : s.field ≡ Some x) where
+      frame_field : Lies file measurement_frame w.fields x
+      frame_field = lies w.field_is q
 
-    pub frame_stores : Stores x.refusal (columns_in x.size frame_told x.size) (x.size * x.size) list (frame_entry file list)
-    frame_stores = record { many = frame_many; is = frame_stored }
+      abbrev frame_told : List (List Decimal)
+      frame_told = frame_said x.size (part x.from x.to file)
+
+      frame_stored : stored fine (columns_in x.size frame_told x.size) list ≡ frame_entry file list
+      unfolding frame_of may_describe joined flat_map
+      frame_stored =
+          let n = space_size_of w.fields in
+          let t = frame_field.descriptor in
+          let ws = vector_words t in
+          let c = there (vectors_said n n t) frame_field.described in
+          let s = said (vector_said n) n ws c.value c.is in
+          let v : List ℕ → List Decimal = λ u. or_default [] (vector_said n u) in
+          let few = space_few file w.is in
+          let long : length (map column (map v ws)) ≡ n = length-map (map v ws) column ∙ length-map ws v ∙ s.words in
+          let all : columns_in n (frame_said n t) n ≡ flat_map (λ u. u) c.value =
+          joined_flat (take n) (frame_said n t) [] n (omega (arith, length_matrix (map v ws)))
+          ∙ ap (flat_map (take n)) (take_eight (column []) (map column (map v ws)) n long few)
+          ∙ flat_columns n v ws
+          ∙ said_flat (vector_said n) (λ u. take n (column (v u))) (λ u. u) (λ u b h. vector_taken n u b few h) n ws c.value c.is
+          in
+          rw (frame_field.size_is, w.is, frame_field.text, frame_field.given, c.is, all)
+
+      frame_many : length (columns_in x.size frame_told x.size) ≡ x.size * x.size
+      frame_many =
+          let n = x.size in
+          let few = frame_field.few in
+          let long = frame_columns n (part x.from x.to file) frame_told refl in
+          joined_length (λ c. take n (get_or frame_told c [])) n n (λ c h. length-take-le n (get_or frame_told c []) (omega (arith, few, long c (omega (arith, h, few)))))
+
+      pub frame_stores : Stores fine (columns_in x.size frame_told x.size) (x.size * x.size) list (frame_entry file list)
+      frame_stores = record { many = frame_many; is = frame_stored }

@@ -18,8 +18,10 @@ use Rattle.format.specs.Decimals.{marked, no_direction, nought}
 use Rattle.format.specs.Vectors.{Direction, without, along, along_said, cons_said, all_said, said_by, enclosed, comma_parts, component_in, components_in, vector_said, direction_said}
 use Rattle.format.specs.Columns.{eight, column}
 use Rattle.format.specs.Orientation.{direction_decimals, direction_given}
-use Rattle.read_vectors.specs.Answers.{direction_answer}
-use Rattle.read_orientation.specs.Told.{direction_told}
+use Rattle.std.specs.Prelude.{Some}
+use Rattle.read_vectors.specs.Answers.{direction_column}
+use Rattle.std.specs.Option.{unwrap_or}
+use Rattle.read_orientation.specs.Told.{direction_parts, direction_told, vector_found}
 
 module _ {A : Type 0} where
   -- what is there
@@ -104,6 +106,12 @@ take_replicate z (suc k) (suc n) h = rw (take_replicate z k n (omega arith))
 
 -- ---- a vector and a direction
 
+-- a column of zeros for no direction
+pub parts_or : (o : Option Direction) → unwrap_or (direction_column o) (column []) ≡ direction_parts o
+parts_or none = refl
+parts_or (some without) = refl
+parts_or (some (along ds)) = refl
+
 -- a vector has as many components as were asked for
 pub vector_length : (n : ℕ) (w : List ℕ) (ds : List Decimal) → vector_said n w ≡ some ds → length ds ≡ n
 unfolding vector_said
@@ -134,11 +142,11 @@ module _ (n : ℕ) (w : List ℕ) (P : Direction → Type 0) (bare : alike w (by
       go false p none q e = absurd (none-ne-some _ e)
       go false p (some ds) q e = rw (← some-injective (along ds) d e) (full p ds (rw (p, q)) (vector_length n w ds q))
 
-pub direction_taken : (n : ℕ) (w : List ℕ) (d : Direction) → 1 ≤ n → n ≤ 8 → direction_said n w ≡ some d → take n (direction_answer (direction_said n w)).parts ≡ direction_decimals n d
+pub direction_taken : (n : ℕ) (w : List ℕ) (d : Direction) → 1 ≤ n → n ≤ 8 → direction_said n w ≡ some d → take n (direction_parts (direction_said n w)) ≡ direction_decimals n d
 direction_taken n w d l h =
-    direction_cases n w (λ d. take n (direction_answer (direction_said n w)).parts ≡ direction_decimals n d) (λ p e. rw e (without_taken n l h))
+    direction_cases n w (λ d. take n (direction_parts (direction_said n w)) ≡ direction_decimals n d) (λ p e. rw e (without_taken n l h))
     (λ p ds e q. rw e (take_eight nought ds n q h)) d
 
-pub direction_told_lem : (n : ℕ) (w : List ℕ) (d : Direction) → direction_said n w ≡ some d → direction_told n w ≡ direction_given d
+pub direction_told_lem : (n : ℕ) (w : List ℕ) (d : Direction) → direction_said n w ≡ some d → vector_found (Some (direction_told n w)) ≡ direction_given d
 direction_told_lem n w d =
-    direction_cases n w (λ d. direction_told n w ≡ direction_given d) (λ p e. rw (p, e)) (λ p ds e q. rw (p, e, q)) d
+    direction_cases n w (λ d. vector_found (Some (direction_told n w)) ≡ direction_given d) (λ p e. rw (p, e)) (λ p ds e q. rw (p, e, q)) d

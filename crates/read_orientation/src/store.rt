@@ -1,5 +1,5 @@
 // Vectors in lent bytes, one after the other, 16 bytes a component.
-ghost use Rattle.std.specs.Prelude.{◌≡◌, [], ◌+◌, ◌*◌, ◌≤◌, ◌<◌, length, take, slice_index_or};
+ghost use Rattle.std.specs.Prelude.{◌≡◌, ◌*◌, ◌≤◌, length};
 ghost use Rattle.std.proofs.lemmas.List.Edits.{sets};
 ghost use Rattle.format.specs.Limits.{max_header};
 ghost use Rattle.format.specs.Vectors.{vector_words};
@@ -16,25 +16,11 @@ pub(crate) fn put_directions(list: &mut [u8], t: &[u8], axes: usize, n: usize)
     requires { (length t.now ≤ max_header) × (n ≤ 8) × (16 * (n * axes) ≤ length list.old) }
     ensures { list.new ≡ sets list.old 0 (decimals_bytes (directions_in n (vector_words t.now) axes)) }
 {
-    let mut i: usize = 0;
-    while i < axes {
-        let v = read_vectors::list::direction_at(t, i, n);
-        let parts = v.parts;
+    for i in 0..axes {
+        let parts = read_vectors::list::nth_direction(t, i, n).unwrap_or(
+            read_vectors::vector::blank_column(),
+        );
         lent_decimals::put_column(list, DECIMAL * (n * i), parts, n);
-        i += 1;
-    }
-}
-
-// The first n entries of column c, at the place of that column.
-fn put_entries(list: &mut [u8], m: [[Decimal; 8]; 8], c: usize, n: usize)
-    requires { Columns m × (n ≤ 8) × (c < 8) × (16 * (n * c) + 16 * n ≤ length list.old) }
-    ensures { list.new ≡ sets list.old (16 * (n * c)) (decimals_bytes (take n (slice_index_or m c []))) }
-{
-    let mut r: usize = 0;
-    while r < n {
-        let x = m[c][r];
-        lent_decimals::put_decimal(list, DECIMAL * (n * c + r), x);
-        r += 1;
     }
 }
 
@@ -43,9 +29,8 @@ pub(crate) fn put_columns(list: &mut [u8], m: [[Decimal; 8]; 8], n: usize)
     requires { Columns m × (n ≤ 8) × (16 * (n * n) ≤ length list.old) }
     ensures { list.new ≡ sets list.old 0 (decimals_bytes (columns_in n m n)) }
 {
-    let mut c: usize = 0;
-    while c < n {
-        put_entries(list, m, c, n);
-        c += 1;
+    for c in 0..n {
+        let column = m[c];
+        lent_decimals::put_column(list, DECIMAL * (n * c), column, n);
     }
 }

@@ -2,4 +2,4 @@
 use Rattle.read_orientation.proofs.no_vector.Goals as goal
 
 pub returns : goal.returns
-returns c = rw c.blank_column-parts.ensures
+returns c = rw c.blank_column.ensures

@@ -1,13 +1,13 @@
 -- `data_files::names::put_name` meets its contract: 22, or the name at the front.
 use native.Mathlib.Omega.{arith}
-use mathlib.Core.Path.{refl, ◌∙◌}
+use mathlib.Core.Path.{refl}
 use Rattle.data_files.proofs.NameLaws.{name_short, name_stored}
 use Rattle.data_files.proofs.names.put_name.Goals as goal
 
 pub returns-then-out-length : goal.returns-then-out-length
 returns-then-out-length c =
     let a = c.args in
-    (λ i. (c.nameless.ensures i, a.out.now)) ∙ name_short a.name.now a.out.now (omega (arith, c.if-out-length.true))
+    rw c.into.ensures (name_short a.name.now a.out.now (omega (arith, c.if-out-length.true)))
 
 pub returns : goal.returns
 returns c =

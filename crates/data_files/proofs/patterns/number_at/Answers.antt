@@ -14,11 +14,11 @@ overflow_sub-result c = let a = c.args in subst (λ (x : Bool). Reach a.first x 
 pub returns-then-falls : goal.returns-then-falls
 returns-then-falls c = rw c.if-falls.true
 
-pub overflow_mul-result-2 : goal.overflow_mul-result-2
-overflow_mul-result-2 c = let a = c.args in omega (arith, subst (λ (x : Bool). Reach a.first x a.size a.n) c.if-falls.false c.requires)
+pub overflow_mul-result-else-falls : goal.overflow_mul-result-else-falls
+overflow_mul-result-else-falls c = let a = c.args in omega (arith, subst (λ (x : Bool). Reach a.first x a.size a.n) c.if-falls.false c.requires)
 
 pub overflow_add-result : goal.overflow_add-result
 overflow_add-result c = let a = c.args in omega (arith, subst (λ (x : Bool). Reach a.first x a.size a.n) c.if-falls.false c.requires)
 
-pub returns : goal.returns
-returns c = rw c.if-falls.false
+pub returns-else-falls : goal.returns-else-falls
+returns-else-falls c = rw c.if-falls.false

@@ -1,6 +1,5 @@
 -- `data_files::patterns::put_numbered` meets its contract: 22, or four runs that are the name.
 use native.Mathlib.Omega.{arith}
-use mathlib.Core.Path.{◌∙◌}
 use Rattle.format.specs.DataFiles.{pattern}
 use Rattle.format.specs.FileNames.{pattern_name}
 use Rattle.data_files.proofs.NameLaws.{name_short, name_stored, numbered_length, numbered_stored}
@@ -13,7 +12,7 @@ returns-then-out-length c =
     let d = c.decimal_length-digits in
     let name = pattern_name (pattern a.before.now a.zeros a.width a.after.now) a.value in
     let n = numbered_length a.before.now a.zeros a.width a.after.now a.value d.result p.result d.ensures.digits p.ensures in
-    (λ i. (c.nameless.ensures i, a.out.now)) ∙ name_short name a.out.now (omega (arith, n, c.if-out-length.true))
+    rw c.into.ensures (name_short name a.out.now (omega (arith, n, c.if-out-length.true)))
 
 pub returns : goal.returns
 returns c =

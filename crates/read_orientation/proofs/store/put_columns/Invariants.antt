@@ -1,5 +1,4 @@
 -- `store::put_columns` meets its contract. The invariant: the first c columns are stored.
-use Prim.Native.Nat.{◌-◌, ◌≤◌}
 use mathlib.Core.Path.{◌≡◌}
 use lib.ListN.{length}
 use lib.Seq.{sets}
@@ -8,7 +7,4 @@ use Rattle.read_orientation.specs.Told.{columns_in}
 use Rattle.read_orientation.proofs.store.put_columns.Given as goal
 
 abbrev pub invariant-loop-c : goal.invariant-loop-c
-invariant-loop-c l = (l.c ≤ l.n) × (length l.list ≡ length l.initial.list) × (l.list ≡ sets l.initial.list 0 (decimals_bytes (columns_in l.n l.m l.c)))
-
-abbrev pub decreases-loop-c : goal.decreases-loop-c
-decreases-loop-c l = l.n - l.c
+invariant-loop-c l = (length l.list ≡ length l.initial.list) × (l.list ≡ sets l.initial.list 0 (decimals_bytes (columns_in l.n l.m l.c)))
