@@ -51,14 +51,14 @@ fn put_low<const W: usize, S: Source>(
     samples: &[S],
     endian: Endian,
 ) -> usize
-    requires width { W ≤ 8 }
-    requires room { at + length (S.samples samples.now) * W ≤ length out.old }
+    requires { at + length (S.samples samples.now) * W ≤ length out.old }
     ensures place { result ≡ at + length (S.samples samples.now) * W }
     ensures stored { out.new ≡ sets out.old at (flat_map (low_bytes W (endian_code endian)) (S.samples samples.now)) }
 {
+    let number = endian.code() as u64;
     let mut o = at;
     for i in 0..S::count(samples) {
-        o = write_parts::bytes::put_word::<W>(out, o, S::bits_at(samples, i), endian);
+        o = write_parts::bytes::put_word(out, o, S::bits_at(samples, i), W, number);
     }
     o
 }

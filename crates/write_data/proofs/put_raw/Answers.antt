@@ -6,8 +6,8 @@ use Rattle.lent_numbers.proofs.WidthLaws.{width_eight}
 use Rattle.write_checks.proofs.Refuse.{type_wide}
 use Rattle.write_data.proofs.put_raw.Goals as goal
 
-pub put_low-requires-in_default-clause-room : goal.put_low-requires-in_default-clause-room
-put_low-requires-in_default-clause-room g c =
+pub put_low-requires-in_default : goal.put_low-requires-in_default
+put_low-requires-in_default g c =
     let t = type_code c.args.coding.sample_type in
     let e : sample_bytes t ≡ 8 = width_eight (sample_bytes t) (λ q. absurd (omega (arith, q, c.bytes.ensures))) (λ q. absurd (omega (arith, q, c.bytes.ensures))) (λ q. absurd (omega (arith, q, c.bytes.ensures))) (type_wide c.args.coding.sample_type) in
     rw e at c.requires
