@@ -148,7 +148,7 @@ module _ (version : ℕ) (sizes : List ℕ) (t e endian : ℕ) where
 pub on_same : {T : Type 0} (f : ℕ → List ℕ → ℕ → ℕ → ℕ → T) (asked : Asked) (array : Array) → IsOf asked array → on_array f array ≡ on_asked f asked
 on_same f asked array r = rw (r.version, r.sizes, r.sample_type, r.encoding, r.endian) refl
 
--- ---- what is known of an array that a header can describe
+-- ---- what is known of sizes that a header can describe
 
 module _ (version : ℕ) (sizes : List ℕ) (t e endian : ℕ) (ok : writable version sizes t e endian ≡ true) where
   pub axes_few : (1 ≤ length sizes) × (length sizes ≤ 16)
@@ -158,32 +158,32 @@ module _ (version : ℕ) (sizes : List ℕ) (t e endian : ℕ) (ok : writable ve
       let few = and_left (between 1 16 (length sizes)) (not (is_in 0 sizes)) sized in
       (leb-true 1 (length sizes) (and_left (leb 1 (length sizes)) (leb (length sizes) 16) few), leb-true (length sizes) 16 (and_right (leb 1 (length sizes)) (leb (length sizes) 16) few))
 
--- ---- the early refusals of such an array, from what the code knows where it returns each
+-- ---- the early refusals, from what the code knows where it returns each
 
-module _ (version : ℕ) (sizes : List ℕ) (t e endian : ℕ) (zs : List ℤ) (ok : writable version sizes t e endian ≡ true) {n m w x : ℕ}
+module _ (version : ℕ) (sizes : List ℕ) (t e endian : ℕ) (zs : List ℤ) {n m w x : ℕ}
     (en : n ≡ capped (product sizes)) (em : m ≡ length zs) (ew : w ≡ sample_bytes t) (ex : x ≡ capped (n * w)) where
   size : x ≡ capped (extent sizes t)
   size = ex ∙ ap (λ (k : ℕ). capped (k * w)) en ∙ ap (λ (k : ℕ). capped (capped (product sizes) * k)) ew ∙ ap capped (mul_comm (capped (product sizes)) (sample_bytes t)) ∙ times_capped (sample_bytes t) (product sizes) ∙ ap capped (mul_comm (sample_bytes t) (product sizes))
 
-  pub early_extent : max_extent < x → extent_too_large ≡ early_refusal version sizes t e endian zs
+  pub early_extent : writable version sizes t e endian ≡ true → max_extent < x → extent_too_large ≡ early_refusal version sizes t e endian zs
   unfolding early_refusal
-  early_extent h = rw (ok, lt-ltb max_extent (extent sizes t) (omega (arith, size)))
+  early_extent ok h = rw (ok, lt-ltb max_extent (extent sizes t) (omega (arith, size)))
 
   module _ (small : x ≤ max_extent) where
     within : extent sizes t ≤ max_extent
     within = omega (arith, size)
 
-    pub early_float : is_floating (number_kind t) ≡ true → float_samples ≡ early_refusal version sizes t e endian zs
+    pub early_float : writable version sizes t e endian ≡ true → is_floating (number_kind t) ≡ true → float_samples ≡ early_refusal version sizes t e endian zs
     unfolding early_refusal
-    early_float h = rw (ok, le-ltb max_extent (extent sizes t) within, h)
+    early_float ok h = rw (ok, le-ltb max_extent (extent sizes t) within, h)
 
     module _ (integer : is_floating (number_kind t) ≡ false) where
       exact : n ≡ product sizes
       exact = omega (arith, en, within, le-mul_of_pos_right (product sizes) (type_bytes t))
 
-      pub early_count : (m ≡ n → ⊥) → wrong_count ≡ early_refusal version sizes t e endian zs
+      pub early_count : writable version sizes t e endian ≡ true → (m ≡ n → ⊥) → wrong_count ≡ early_refusal version sizes t e endian zs
       unfolding early_refusal
-      early_count h =
+      early_count ok h =
           rw (ok, le-ltb max_extent (extent sizes t) within, integer, ne_eqb (length zs) (product sizes) (λ q. h (em ∙ q ∙ sym exact)))
 
       module _ (count : m ≡ n) {low high : ℕ} (el : low ≡ lowest (number_kind t) (sample_bytes t)) (eh : high ≡ highest (number_kind t) (sample_bytes t))
@@ -191,15 +191,15 @@ module _ (version : ℕ) (sizes : List ℕ) (t e endian : ℕ) (zs : List ℤ) (
         all_is : all_in_type (number_kind t) (sample_bytes t) zs ≡ fine
         all_is = sym (ef ∙ ap (λ (k : ℕ). all_in_range k high zs) el ∙ ap (λ (k : ℕ). all_in_range (lowest (number_kind t) (sample_bytes t)) k zs) eh ∙ all_in_range_lem (number_kind t) (sample_bytes t) zs)
 
-        tests : early_refusal version sizes t e endian zs ≡ (if not fine then bad_sample else 0)
+        tests : writable version sizes t e endian ≡ true → early_refusal version sizes t e endian zs ≡ (if not fine then bad_sample else 0)
         unfolding early_refusal
-        tests = rw (ok, le-ltb max_extent (extent sizes t) within, integer, eq-eqb (length zs) (product sizes) (sym em ∙ count ∙ exact), all_is)
+        tests ok = rw (ok, le-ltb max_extent (extent sizes t) within, integer, eq-eqb (length zs) (product sizes) (sym em ∙ count ∙ exact), all_is)
 
-        pub early_sample : fine ≡ false → bad_sample ≡ early_refusal version sizes t e endian zs
-        early_sample h = sym (tests ∙ ap (λ (b : Bool). if not b then bad_sample else 0) h)
+        pub early_sample : writable version sizes t e endian ≡ true → fine ≡ false → bad_sample ≡ early_refusal version sizes t e endian zs
+        early_sample ok h = sym (tests ok ∙ ap (λ (b : Bool). if not b then bad_sample else 0) h)
 
-        pub early_fine : fine ≡ true → 0 ≡ early_refusal version sizes t e endian zs
-        early_fine h = sym (tests ∙ ap (λ (b : Bool). if not b then bad_sample else 0) h)
+        pub early_fine : writable version sizes t e endian ≡ true → fine ≡ true → 0 ≡ early_refusal version sizes t e endian zs
+        early_fine ok h = sym (tests ok ∙ ap (λ (b : Bool). if not b then bad_sample else 0) h)
 
         pub ready : fine ≡ true → Ready t zs
         ready h = record {

@@ -12,16 +12,16 @@ abbrev pub on_asked : {T : Type 0} → (ℕ → List ℕ → ℕ → ℕ → ℕ
 on_asked f asked = f asked.version asked.sizes.now asked.sampletype asked.encoding asked.endian
 
 abbrev pub on_array : {T : Type 0} → (ℕ → List ℕ → ℕ → ℕ → ℕ → T) → Array → T
-on_array f array = f array.version array.sizes.now (type_code array.sample_type) (encoding_code array.encoding) (endian_code array.endian)
+on_array f array = f array.version array.sizes.now (type_code array.coding.sample_type) (encoding_code array.coding.encoding) (endian_code array.coding.endian)
 
 -- the array is the one that is asked for
 pub record IsOf (asked : Asked) (array : Array) : Type 0 where
   pub version : array.version ≡ asked.version
   pub sizes : array.sizes.now ≡ asked.sizes.now
-  pub sample_type : type_code array.sample_type ≡ asked.sampletype
-  pub encoding : encoding_code array.encoding ≡ asked.encoding
-  pub endian : endian_code array.endian ≡ asked.endian
+  pub sample_type : type_code array.coding.sample_type ≡ asked.sampletype
+  pub encoding : encoding_code array.coding.encoding ≡ asked.encoding
+  pub endian : endian_code array.coding.endian ≡ asked.endian
 
--- an array, where a header can describe it
+-- an array, where a header can describe it, and only there
 abbrev pub checked_as : Asked → Result Array Reason → Type 0
-checked_as asked r = MatchResult r (IsOf asked) (λ reason. (reason ≡ BadDescriptor) × (on_asked writable asked ≡ false))
+checked_as asked r = MatchResult r (λ array. IsOf asked array × (on_asked writable asked ≡ true)) (λ reason. (reason ≡ BadDescriptor) × (on_asked writable asked ≡ false))

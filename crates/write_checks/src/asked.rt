@@ -1,9 +1,7 @@
 // What a call to a writer says of its array: the numbers that it is given, and what they are once they are checked.
-ghost use Rattle.std.specs.Prelude.{◌≡◌, ◌&&◌, true, not, length};
+ghost use Rattle.std.specs.Prelude.{◌≡◌, ◌≤◌, ◌&&◌, not, length};
 ghost use Rattle.format.specs.Bytes.{between, is_in};
-ghost use Rattle.format.specs.Codes.{type_code, encoding_code, endian_code};
 ghost use Rattle.format.specs.Limits.{max_version, max_axes};
-ghost use Rattle.format.specs.Writer.{writable};
 
 use format::codes::{Encoding, Endian, SampleType};
 use format::reason::Reason;
@@ -30,15 +28,22 @@ impl Asked<'_> {
     }
 }
 
-// An array that a header can describe.
+// What the data of an array is by: the type of its samples, and how they are written.
+#[derive(Clone, Copy)]
+pub struct Coding {
+    pub sample_type: SampleType,
+    pub encoding: Encoding,
+    pub endian: Endian,
+}
+
+// An array with 1 to 16 axes.
 #[derive(Clone, Copy)]
 pub struct Array<'a> {
     pub version: u64,
     pub sizes: &'a [u64],
-    pub sample_type: SampleType,
-    pub encoding: Encoding,
-    pub endian: Endian,
-    ghost fine: { writable version sizes.now (type_code sample_type) (encoding_code encoding) (endian_code endian) ≡ true },
+    pub coding: Coding,
+    ghost axes_from: { 1 ≤ length sizes.now },
+    ghost axes_to: { length sizes.now ≤ 16 },
 }
 
 impl<'a> TryFrom<Asked<'a>> for Array<'a> {
@@ -65,9 +70,11 @@ impl<'a> TryFrom<Asked<'a>> for Array<'a> {
         Ok(Array {
             version: asked.version,
             sizes: asked.sizes,
-            sample_type,
-            encoding,
-            endian,
+            coding: Coding {
+                sample_type,
+                encoding,
+                endian,
+            },
         })
     }
 }

@@ -1,8 +1,9 @@
 // What the writer refuses of samples, and of a file by its length.
-ghost use Rattle.std.specs.Prelude.{◌≡◌, ℕ, ◌+◌, ◌<◌, ◌≤◌, nat_le, IfOk};
+ghost use Rattle.std.specs.Prelude.{◌≡◌, ℕ, ◌+◌, ◌<◌, ◌≤◌, true, nat_le, IfOk};
 ghost use Rattle.format.specs.Codes.{type_code};
 ghost use Rattle.format.specs.Reasons.{refusal_number};
 ghost use Rattle.format.specs.Samples.{to_signed};
+ghost use Rattle.format.specs.Writer.{writable};
 ghost use Rattle.write_checks.specs.Checked.{on_array};
 ghost use Rattle.write_checks.specs.Refused.{in_range, all_in_range, WholeRange, early_refusal, late_refusal, Ready};
 
@@ -34,22 +35,22 @@ fn all_in_range<S: Source>(samples: &[S], low: u64, high: u64) -> bool
 
 // Whether these samples can be written as this array: what is refused before the file's length is known.
 pub fn check_samples<S: Source>(array: &Array, samples: &[S]) -> Result<(), Reason>
-    ensures is { refusal_number result ≡ on_array early_refusal array.now (S.samples samples.now) }
-    ensures ready { IfOk result (λ _. Ready (type_code array.now.sample_type) (S.samples samples.now)) }
+    ensures is { on_array writable array.now ≡ true → refusal_number result ≡ on_array early_refusal array.now (S.samples samples.now) }
+    ensures ready { IfOk result (λ _. Ready (type_code array.now.coding.sample_type) (S.samples samples.now)) }
 {
     let n = products::product(array.sizes);
     let count = S::count(samples) as u64;
-    let width = array.sample_type.bytes();
+    let width = array.coding.sample_type.bytes();
     if format::MAX_EXTENT < products::times(n, width) {
         return Err(Reason::ExtentTooLarge);
     }
-    if array.sample_type.is_floating() {
+    if array.coding.sample_type.is_floating() {
         return Err(Reason::FloatSamples);
     }
     if count != n {
         return Err(Reason::WrongCount);
     }
-    let signed = array.sample_type.is_signed();
+    let signed = array.coding.sample_type.is_signed();
     let low = types::lowest(signed, width);
     let high = types::highest(signed, width);
     if !all_in_range(samples, low, high) {

@@ -5,8 +5,8 @@ use mathlib.Core.List.{List, [], ◌++◌, flat_map}
 use Prim.Native.Nat.{ℕ, ◌+◌, ◌≤◌, ◌<◌}
 use native.Mathlib.Numerals.{add-one}
 use native.Mathlib.Omega.{arith}
-use lib.ListN.{length, get_or, take, drop, length-append, length-take, drop_of_length-le, take-append-drop}
-use lib.Seq.{slice, slice-cons, length-take-le, drop-cons, drop-append-le}
+use lib.ListN.{length, get_or, take, drop, length-append, drop_of_length-le, take-append-drop}
+use lib.Seq.{slice, length-take-le, drop-cons, drop-append-le}
 use Rattle.format.proofs.Boundary.{flat_append}
 
 -- the elements of zs from i on
@@ -23,17 +23,6 @@ module _ {A : Type 0} (f : A → List ℕ) (zs : List A) (i : ℕ) where
   pub flat_over : length zs ≤ i → flat_map f (drop i zs) ≡ []
   unfolding flat_map
   flat_over h = ap (flat_map f) (drop_of_length-le zs h)
-
--- the elements from i up to `to`
-module _ {A : Type 0} (f : A → List ℕ) (zs : List A) (i to : ℕ) where
-  pub part_next : (z : A) → i < to → to ≤ length zs → flat_map f (slice i to zs) ≡ f (get_or zs i z) ++ flat_map f (slice (i + 1) to zs)
-  unfolding flat_map
-  part_next z h l = rw (add-one i, slice-cons i to zs z h l)
-
-  -- none is left
-  pub part_over : to ≤ i → flat_map f (slice i to zs) ≡ []
-  unfolding flat_map
-  part_over h = ap (flat_map f) (drop_of_length-le (take to zs) {i = i} (omega (arith, length-take to zs)))
 
 -- the elements up to e, and those after them
 pub flat_parts : {A : Type 0} (f : A → List ℕ) (zs : List A) (i e : ℕ) → i ≤ e → e ≤ length zs → flat_map f (drop i zs) ≡ flat_map f (slice i e zs) ++ flat_map f (drop e zs)

@@ -15,7 +15,7 @@ ghost use Rattle.write_data.specs.Data.{low_bytes, raw_of, data_of, RawIsLow};
 
 use format::codes::{Encoding, Endian};
 use format::reason::Reason;
-use write_checks::asked::Array;
+use write_checks::asked::Coding;
 use write_checks::check;
 use write_checks::source::Source;
 
@@ -51,26 +51,26 @@ fn put_low<const W: usize, S: Source>(
     samples: &[S],
     endian: Endian,
 ) -> usize
-    requires width { W ≤ 8 }
-    requires room { at + length (S.samples samples.now) * W ≤ length out.old }
+    requires { at + length (S.samples samples.now) * W ≤ length out.old }
     ensures place { result ≡ at + length (S.samples samples.now) * W }
     ensures stored { out.new ≡ sets out.old at (flat_map (low_bytes W (endian_code endian)) (S.samples samples.now)) }
 {
+    let number = endian.code() as u64;
     let mut o = at;
     for i in 0..S::count(samples) {
-        o = write_parts::bytes::put_word::<W>(out, o, S::bits_at(samples, i), endian);
+        o = write_parts::bytes::put_word(out, o, S::bits_at(samples, i), W, number);
     }
     o
 }
 
-// The low bytes of each sample, as many as the type of the array has.
-fn put_raw<S: Source>(out: &mut [u8], at: usize, array: &Array, samples: &[S]) -> usize
-    requires { at + length (S.samples samples.now) * sample_bytes (type_code array.now.sample_type) ≤ length out.old }
-    ensures place { result ≡ at + length (S.samples samples.now) * sample_bytes (type_code array.now.sample_type) }
-    ensures stored { out.new ≡ sets out.old at (raw_of array.now (S.samples samples.now)) }
+// The low bytes of each sample, as many as their type has.
+fn put_raw<S: Source>(out: &mut [u8], at: usize, coding: Coding, samples: &[S]) -> usize
+    requires { at + length (S.samples samples.now) * sample_bytes (type_code coding.sample_type) ≤ length out.old }
+    ensures place { result ≡ at + length (S.samples samples.now) * sample_bytes (type_code coding.sample_type) }
+    ensures stored { out.new ≡ sets out.old at (raw_of coding (S.samples samples.now)) }
 {
-    let endian = array.endian;
-    match array.sample_type.bytes() {
+    let endian = coding.endian;
+    match coding.sample_type.bytes() {
         1 => put_low::<1, S>(out, at, samples, endian),
         2 => put_low::<2, S>(out, at, samples, endian),
         4 => put_low::<4, S>(out, at, samples, endian),
@@ -82,10 +82,10 @@ fn put_raw<S: Source>(out: &mut [u8], at: usize, array: &Array, samples: &[S]) -
 const PART: usize = 256;
 
 // The samples in hex: their bytes are made in a buffer, a part of the samples at a time.
-fn put_hex<S: Source>(out: &mut [u8], at: usize, array: &Array, samples: &[S]) -> usize
-    requires { at + length (S.samples samples.now) * (2 * sample_bytes (type_code array.now.sample_type)) ≤ length out.old }
-    ensures place { result ≡ at + length (S.samples samples.now) * (2 * sample_bytes (type_code array.now.sample_type)) }
-    ensures stored { out.new ≡ sets out.old at (hex_text (raw_of array.now (S.samples samples.now))) }
+fn put_hex<S: Source>(out: &mut [u8], at: usize, coding: Coding, samples: &[S]) -> usize
+    requires { at + length (S.samples samples.now) * (2 * sample_bytes (type_code coding.sample_type)) ≤ length out.old }
+    ensures place { result ≡ at + length (S.samples samples.now) * (2 * sample_bytes (type_code coding.sample_type)) }
+    ensures stored { out.new ≡ sets out.old at (hex_text (raw_of coding (S.samples samples.now))) }
 {
     let n = S::count(samples);
     let mut part = [0u8; 8 * PART];
@@ -94,7 +94,7 @@ fn put_hex<S: Source>(out: &mut [u8], at: usize, array: &Array, samples: &[S]) -
     // A `while`, since a turn takes as many samples as a part has; of lent bytes `chunks` would count the bytes.
     while i < n {
         let to = i + PART.min(n - i);
-        let used = put_raw(&mut part, 0, array, S::part(samples, i, to));
+        let used = put_raw(&mut part, 0, coding, S::part(samples, i, to));
         o = write_parts::bytes::put_hex_bytes(out, o, &part[..used]);
         i = to;
     }
@@ -102,13 +102,13 @@ fn put_hex<S: Source>(out: &mut [u8], at: usize, array: &Array, samples: &[S]) -
 }
 
 // How many bytes the data takes.
-fn data_length<S: Source>(array: &Array, samples: &[S]) -> usize
-    requires { (length (S.samples samples.now) ≤ max_extent) × (length (S.samples samples.now) * sample_bytes (type_code array.now.sample_type) ≤ max_extent) }
-    ensures length_of_data { result ≡ length (data_of array.now (S.samples samples.now)) }
+fn data_length<S: Source>(coding: Coding, samples: &[S]) -> usize
+    requires { (length (S.samples samples.now) ≤ max_extent) × (length (S.samples samples.now) * sample_bytes (type_code coding.sample_type) ≤ max_extent) }
+    ensures length_of_data { result ≡ length (data_of coding (S.samples samples.now)) }
     ensures long { result ≤ sample_room * max_extent }
 {
-    let size = S::count(samples) * array.sample_type.bytes() as usize;
-    match array.encoding {
+    let size = S::count(samples) * coding.sample_type.bytes() as usize;
+    match coding.encoding {
         Encoding::Raw => size,
         Encoding::Text => text_length(samples),
         Encoding::Hex => 2 * size + 1,
@@ -129,33 +129,33 @@ fn any_text_fits(start: usize, n: usize, encoding: Encoding, room: usize) -> boo
 // Whether a file whose data starts at `start` can be written. The length of text is worked out only where its lines might not fit.
 pub fn check_file<S: Source>(
     start: usize,
-    array: &Array,
+    coding: Coding,
     samples: &[S],
     room: usize,
 ) -> Result<(), Reason>
-    requires bounded { (start ≤ header_room) × (length (S.samples samples.now) ≤ max_extent) × (length (S.samples samples.now) * sample_bytes (type_code array.now.sample_type) ≤ max_extent) }
+    requires bounded { (start ≤ header_room) × (length (S.samples samples.now) ≤ max_extent) × (length (S.samples samples.now) * sample_bytes (type_code coding.sample_type) ≤ max_extent) }
     requires text_bounded { length (text_data (S.samples samples.now)) ≤ sample_room * length (S.samples samples.now) }
-    ensures { refusal_number result ≡ late_refusal (start + length (data_of array.now (S.samples samples.now))) room }
+    ensures { refusal_number result ≡ late_refusal (start + length (data_of coding (S.samples samples.now))) room }
 {
-    if any_text_fits(start, S::count(samples), array.encoding, room) {
+    if any_text_fits(start, S::count(samples), coding.encoding, room) {
         Ok(())
     } else {
-        check::check_room(start + data_length(array, samples), room)
+        check::check_room(start + data_length(coding, samples), room)
     }
 }
 
-// The data. The samples are those of the array's type: the low bytes of each are its bytes.
-pub fn put_data<S: Source>(out: &mut [u8], at: usize, array: &Array, samples: &[S]) -> usize
-    requires raw_bytes { RawIsLow array.now (S.samples samples.now) }
-    requires room { at + length (data_of array.now (S.samples samples.now)) ≤ length out.old }
-    ensures place { result ≡ at + length (data_of array.now (S.samples samples.now)) }
-    ensures stored { out.new ≡ sets out.old at (data_of array.now (S.samples samples.now)) }
+// The data. The samples are those of the type: the low bytes of each are its bytes.
+pub fn put_data<S: Source>(out: &mut [u8], at: usize, coding: Coding, samples: &[S]) -> usize
+    requires raw_bytes { RawIsLow coding (S.samples samples.now) }
+    requires room { at + length (data_of coding (S.samples samples.now)) ≤ length out.old }
+    ensures place { result ≡ at + length (data_of coding (S.samples samples.now)) }
+    ensures stored { out.new ≡ sets out.old at (data_of coding (S.samples samples.now)) }
 {
-    match array.encoding {
-        Encoding::Raw => put_raw(out, at, array, samples),
+    match coding.encoding {
+        Encoding::Raw => put_raw(out, at, coding, samples),
         Encoding::Text => put_text(out, at, samples),
         Encoding::Hex => {
-            let end = put_hex(out, at, array, samples);
+            let end = put_hex(out, at, coding, samples);
             out[end] = b'\n';
             end + 1
         }

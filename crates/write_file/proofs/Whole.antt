@@ -116,13 +116,13 @@ module _ (version : ℕ) (sizes : List ℕ) (t e endian : ℕ) (zs : List ℤ) w
 
 module _ (asked : Asked) (array : Array) (same : IsOf asked array) (zs : List ℤ) (out : List ℕ) where
   abbrev t : ℕ
-  t = type_code array.sample_type
+  t = type_code array.coding.sample_type
 
   abbrev e : ℕ
-  e = encoding_code array.encoding
+  e = encoding_code array.coding.encoding
 
   abbrev endian : ℕ
-  endian = endian_code array.endian
+  endian = endian_code array.coding.endian
 
   asked_is : on_array write_call array zs out ≡ on_asked write_call asked zs out
   asked_is = ap (λ f. f zs out) (on_same write_call asked array same)
@@ -133,15 +133,15 @@ module _ (asked : Asked) (array : Array) (same : IsOf asked array) (zs : List �
 
   module _ (fine : 0 ≡ on_array early_refusal array zs) (start : ℕ) (es : start ≡ length (on_array header_bytes array)) where
     -- a call whose file is refused by its length
-    pub file_refused : (reason : Reason) → reason_number reason ≡ late_refusal (start + length (data_of array zs)) (length out) → (answer_of (reason_number reason) 0, out) ≡ on_asked write_call asked zs out
+    pub file_refused : (reason : Reason) → reason_number reason ≡ late_refusal (start + length (data_of array.coding zs)) (length out) → (answer_of (reason_number reason) 0, out) ≡ on_asked write_call asked zs out
     file_refused reason q = sym (late_call array.version array.sizes.now t e endian zs out 0 fine refl start (sample_bytes t) es refl (reason_number reason) q (reason_some reason)) ∙ asked_is
 
-    module _ (short : 0 ≡ late_refusal (start + length (data_of array zs)) (length out)) where
-      pub file_fits : start + length (data_of array zs) ≤ length out
+    module _ (short : 0 ≡ late_refusal (start + length (data_of array.coding zs)) (length out)) where
+      pub file_fits : start + length (data_of array.coding zs) ≤ length out
       file_fits = fits array.version array.sizes.now t e endian zs out 0 fine refl start (sample_bytes t) es refl 0 short refl
 
       -- a call that is not refused: d is the buffer with the header, d' with the data too
-      pub file_stored : (front d d' : List ℕ) (m : ℕ) → front ≡ on_array header_bytes array → d ≡ sets out 0 front → d' ≡ sets d start (data_of array zs) → m ≡ start + length (data_of array zs)
+      pub file_stored : (front d d' : List ℕ) (m : ℕ) → front ≡ on_array header_bytes array → d ≡ sets out 0 front → d' ≡ sets d start (data_of array.coding zs) → m ≡ start + length (data_of array.coding zs)
           → (answer_of 0 m, d') ≡ on_asked write_call asked zs out
       file_stored front d d' m ef ed ed' em = full_call array.version array.sizes.now t e endian zs out 0 fine refl start (sample_bytes t) es refl 0 short refl front d d' m ef ed ed' em ∙ asked_is
 

@@ -12,7 +12,7 @@ ghost use Rattle.write_file.specs.Stored.{value_line, after_space};
 ghost use Rattle.write_file.specs.Arrays.{endian_text_of, top_of, rest_of};
 
 use format::codes::{Encoding, SampleType};
-use write_checks::asked::Array;
+use write_checks::asked::{Array, Coding};
 use write_parts::names;
 
 // A name with its mark, a value, and LF.
@@ -67,14 +67,14 @@ fn needs_endian(sample_type: SampleType, encoding: Encoding) -> bool
 }
 
 // The line of the endian, where it is needed.
-fn put_endian(out: &mut [u8], at: usize, array: &Array) -> usize
+fn put_endian(out: &mut [u8], at: usize, coding: Coding) -> usize
     requires { at + 15 ≤ length out.old }
-    ensures place { result ≡ at + length (endian_text_of array.now) }
-    ensures stored { out.new ≡ sets out.old at (endian_text_of array.now) }
+    ensures place { result ≡ at + length (endian_text_of coding) }
+    ensures stored { out.new ≡ sets out.old at (endian_text_of coding) }
     ensures long { result ≤ at + 15 }
 {
-    if needs_endian(array.sample_type, array.encoding) {
-        put_line(out, at, b"endian: ", names::endian_name(array.endian))
+    if needs_endian(coding.sample_type, coding.encoding) {
+        put_line(out, at, b"endian: ", names::endian_name(coding.endian))
     } else {
         at
     }
@@ -101,7 +101,12 @@ fn put_top(out: &mut [u8], array: &Array) -> usize
     ensures long { result ≤ 73 }
 {
     let a = put_number(out, 0, b"NRRD000", array.version);
-    let b = put_line(out, a, b"type: ", names::type_name(array.sample_type));
+    let b = put_line(
+        out,
+        a,
+        b"type: ",
+        names::type_name(array.coding.sample_type),
+    );
     put_number(out, b, b"dimension: ", array.sizes.len() as u64)
 }
 
@@ -113,8 +118,13 @@ fn put_rest(out: &mut [u8], at: usize, array: &Array) -> usize
     ensures long { result ≤ at + 37 + 21 * length array.now.sizes.now }
 {
     let a = put_sizes(out, at, array.sizes);
-    let b = put_line(out, a, b"encoding: ", names::encoding_name(array.encoding));
-    let e = put_endian(out, b, array);
+    let b = put_line(
+        out,
+        a,
+        b"encoding: ",
+        names::encoding_name(array.coding.encoding),
+    );
+    let e = put_endian(out, b, array.coding);
     out[e] = b'\n';
     e + 1
 }

@@ -25,9 +25,9 @@ fn write_samples<S: Source>(asked: Asked, samples: &[S], out: &mut [u8]) -> Resu
     check::check_samples(&array, samples)?;
     let mut head = [0u8; format::HEADER_ROOM];
     let start = head::put_header(&mut head, &array);
-    write_data::check_file(start, &array, samples, out.len())?;
+    write_data::check_file(start, array.coding, samples, out.len())?;
     write_parts::bytes::put_bytes(out, 0, &head[..start]);
-    Ok(write_data::put_data(out, start, &array, samples) as u64)
+    Ok(write_data::put_data(out, start, array.coding, samples) as u64)
 }
 
 // Writes samples that are numbers as an attached file to the front of `out`; a refused call leaves `out` as it was. `HEADER_ROOM` bytes, and

@@ -6,6 +6,8 @@ ghost use Rattle.write_header.specs.Headers.{space_of, size_of, origin_of, direc
 
 use crate::checks::{self, Header, has};
 
+// These five stay apart: a line's text is of its own type and has its own bound, and a closure that stores it would be as long as the line is here.
+
 // The line of the space.
 fn put_space_line(text: &mut [u8], at: usize, header: &Header) -> usize
     requires { at + 36 ≤ length text.old }

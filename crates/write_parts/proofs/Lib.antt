@@ -4,4 +4,3 @@ pub mod Words
 pub mod Digits
 pub mod Signs
 pub mod HexLaws
-pub mod TypeNames

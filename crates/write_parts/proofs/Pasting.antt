@@ -16,3 +16,9 @@ paste_sets d s at n h l =
 pub put_sets : {A : Type 0} (d xs s : List A) (at n : ℕ) → at + n ≤ length d → n ≡ length s → xs ≡ s → put_mid at (at + n - at) d xs ≡ sets d at s
 put_sets d xs s at n h l e =
     put_mid-paste at (at + n - at) d xs s n e (omega arith) l ∙ paste_sets d s at n h (omega (arith, l)) ∙ ap (sets d at) (take_all n s (omega (arith, l)))
+
+-- the same by where the part ends
+pub put_sets_to : {A : Type 0} (d xs s : List A) (at to : ℕ) → at ≤ to → to ≤ length d → to - at ≡ length s → xs ≡ s → put_mid at (to - at) d xs ≡ sets d at s
+put_sets_to d xs s at to h l n e =
+    let q : at + (to - at) ≡ to = omega (arith, h) in
+    ap (λ k. put_mid at (k - at) d xs) (sym q) ∙ put_sets d xs s at (to - at) (omega (arith, q, l)) n e

@@ -1,6 +1,9 @@
 -- Laws of std's bytes of a number in the words of the format.
 -- Assumes nothing.
-use Rattle.std.proofs.Common.{◌≡◌, ℕ, zero, suc, ◌+◌, ◌-◌, ◌*◌, ◌/◌, ◌%◌, ◌^◌, ◌≤◌, List, [], ◌∷◌, ◌++◌, length, take, drop, reverse, refl, ap, sym, ◌∙◌, arith, take_all}
+use Rattle.std.proofs.Common.{◌≡◌, ℕ, zero, suc, ◌+◌, ◌-◌, ◌*◌, ◌/◌, ◌%◌, ◌^◌, ◌≤◌, ◌<◌, Bool, true, false, leb, leb-true, leb-false, List, [], ◌∷◌, ◌++◌, length, take, drop, reverse, replicate, refl, ap, sym, ◌∙◌, arith, take_all, mul_comm}
+use mathlib.Core.List.{append-nil, reverse-cons}
+use lib.ListN.{replicate-append-replicate}
+use Prim.Native.Nat.{min}
 use Rattle.std.proofs.lemmas.List.{reverse-append}
 use native.Mathlib.Nat.{pow-suc, div-one, div-div-eq-div-mul, zero-add}
 use Rattle.std.specs.Int.{byte_at, bytes_low_first, bytes_high_first}
@@ -50,3 +53,44 @@ pub high_bytes_part : (w n : ℕ) → w ≤ 8 → take (8 - (8 - w)) (drop (8 - 
 high_bytes_part w n h =
     let l : length (reverse (to_bytes w n)) ≤ 8 - (8 - w) = omega (arith, h, length-reverse (to_bytes w n), length_to_bytes w n) in
     ap (take (8 - (8 - w))) (high_bytes_drop w n h) ∙ take_all (8 - (8 - w)) (reverse (to_bytes w n)) l
+
+-- ---- more bytes than a number of 64 bits has: those past the eighth are 0
+
+zeros : (k : ℕ) → to_bytes k 0 ≡ replicate k 0
+unfolding to_bytes
+zeros zero = refl
+zeros (suc k) = ap (λ l. 0 ∷ l) (zeros k)
+
+turned : (k : ℕ) → reverse {A = ℕ} (replicate k 0) ≡ replicate k 0
+turned zero = refl
+turned (suc k) =
+    let e : k + 1 ≡ suc k = omega arith in
+    reverse-cons 0 (replicate k 0) ∙ ap (λ l. l ++ replicate 1 0) (turned k) ∙ replicate-append-replicate k 1 0 ∙ ap (λ m. replicate m 0) e
+
+bytes_append : (w k x : ℕ) → to_bytes (w + k) x ≡ to_bytes w x ++ to_bytes k (x / 256 ^ w)
+unfolding to_bytes
+bytes_append zero k x = let e : 0 + k ≡ k = omega arith in ap (λ m. to_bytes m x) e ∙ sym (ap (to_bytes k) (div-one x))
+bytes_append (suc w) k x =
+    let e : suc w + k ≡ suc (w + k) = omega arith in
+    let q : x / 256 / 256 ^ w ≡ x / 256 ^ suc w = div-div-eq-div-mul x 256 (256 ^ w) ∙ ap (λ m. x / m) (mul_comm 256 (256 ^ w) ∙ sym (pow-suc 256 w)) in
+    ap (λ m. to_bytes m x) e ∙ ap (λ l. x % 256 ∷ l) (bytes_append w k (x / 256) ∙ ap (λ m. to_bytes w (x / 256) ++ to_bytes k m) q)
+
+module _ (w n x : ℕ) (en : n ≡ min w 8) (small : x < 18446744073709551616) where
+  pub low_wide : to_bytes w x ≡ to_bytes n x ++ replicate (w - n) 0
+  low_wide = go (leb w 8) refl
+    where
+      go : (t : Bool) → leb w 8 ≡ t → to_bytes w x ≡ to_bytes n x ++ replicate (w - n) 0
+      go true q =
+          let h : w ≤ 8 = leb-true w 8 q in
+          let e : n ≡ w = omega (arith, en, h) in
+          let z : w - n ≡ 0 = omega (arith, e) in
+          sym (ap (λ m. to_bytes n x ++ replicate m 0) z ∙ append-nil (to_bytes n x) ∙ ap (λ m. to_bytes m x) e)
+      go false q =
+          let h : 8 < w = leb-false w 8 q in
+          let e : n ≡ 8 = omega (arith, en, h) in
+          let k : w ≡ n + (w - n) = omega (arith, e, h) in
+          let z : x / 256 ^ n ≡ 0 = rw e (omega (arith, small)) in
+          ap (λ m. to_bytes m x) k ∙ bytes_append n (w - n) x ∙ ap (λ m. to_bytes n x ++ to_bytes (w - n) m) z ∙ ap (λ l. to_bytes n x ++ l) (zeros (w - n))
+
+  pub high_wide : reverse (to_bytes w x) ≡ replicate (w - n) 0 ++ reverse (to_bytes n x)
+  high_wide = ap reverse low_wide ∙ reverse-append (to_bytes n x) (replicate (w - n) 0) ∙ ap (λ l. l ++ reverse (to_bytes n x)) (turned (w - n))

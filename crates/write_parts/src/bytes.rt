@@ -1,11 +1,10 @@
 // Bytes, the bytes of a sample, and bytes in hex.
 ghost use Rattle.std.specs.Prelude.{◌≡◌, ◌+◌, ◌*◌, ◌≤◌, ◌<◌, length};
 ghost use Rattle.std.proofs.lemmas.List.Edits.{sets};
-ghost use Rattle.format.specs.Codes.{endian_code};
 ghost use Rattle.format.specs.Samples.{to_bytes, ordered};
 ghost use Rattle.format.specs.Writer.{hex_letter, hex_text};
 
-use format::codes::Endian;
+use format::wide;
 
 // The bytes s.
 pub fn put_bytes(out: &mut [u8], at: usize, s: &[u8]) -> usize
@@ -18,16 +17,22 @@ pub fn put_bytes(out: &mut [u8], at: usize, s: &[u8]) -> usize
     end
 }
 
-// The low W bytes of x.
-pub fn put_word<const W: usize>(out: &mut [u8], at: usize, x: u64, endian: Endian) -> usize
-    requires width { W ≤ 8 }
-    requires room { at + W ≤ length out.old }
-    ensures place { result ≡ at + W }
-    ensures stored { out.new ≡ sets out.old at (ordered (endian_code endian) (to_bytes W x)) }
+// The low w bytes of x: those past its 8 are 0. Where w is a constant, the compiler leaves out what it does not need.
+pub fn put_word(out: &mut [u8], at: usize, x: u64, w: usize, endian: u64) -> usize
+    requires { at + w ≤ length out.old }
+    ensures place { result ≡ at + w }
+    ensures stored { out.new ≡ sets out.old at (ordered endian (to_bytes w x)) }
 {
-    match endian {
-        Endian::Little => put_bytes(out, at, &x.to_le_bytes()[..W]),
-        Endian::Big => put_bytes(out, at, &x.to_be_bytes()[8 - W..]),
+    let n = w.min(8);
+    let end = at + w;
+    if endian == wide::BIG {
+        let from = end - n;
+        out[at..from].fill(0);
+        put_bytes(out, from, &x.to_be_bytes()[8 - n..])
+    } else {
+        let to = put_bytes(out, at, &x.to_le_bytes()[..n]);
+        out[to..end].fill(0);
+        end
     }
 }
 

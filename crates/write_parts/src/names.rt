@@ -46,10 +46,3 @@ pub fn endian_name(endian: Endian) -> &'static [u8]
         Endian::Big => b"big",
     }
 }
-
-// The same names as tables, for listing_print: those of the types, 6 bytes each, and how many of these a name has; those of the encodings, 3 each.
-pub const NAMES: [u8; 60] = *b"int8  uint8 int16 uint16int32 uint32int64 uint64float double";
-
-pub const LENGTHS: [usize; 10] = [4, 5, 5, 6, 5, 6, 5, 6, 5, 6];
-
-pub const ENCODINGS: [u8; 9] = *b"rawtxthex";

@@ -9,7 +9,7 @@ use Rattle.write_data.proofs.check_file.Goals as goal
 
 pub returns-then-any_text_fits : goal.returns-then-any_text_fits
 returns-then-any_text_fits g c =
-    let a = c.args.array.now in
+    let a = c.args.coding in
     let zs = g.S.Source.samples c.args.samples.now in
     let p = c.any_text_fits.ensures c.if-any_text_fits.true in
     let q = p.1 ∙ ap (λ (k : ℕ). late_refusal (c.args.start + 22 * k) c.args.room) c.count.ensures in

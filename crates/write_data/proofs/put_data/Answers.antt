@@ -12,13 +12,13 @@ use Rattle.write_data.proofs.put_data.Goals as goal
 
 pub put_raw-requires : goal.put_raw-requires
 put_raw-requires g c =
-    let a = c.args.array.now in
+    let a = c.args.coding in
     let zs = g.S.Source.samples c.args.samples.now in
     omega (arith, raw_is_long 0 (sample_bytes (type_code a.sample_type)) (endian_code a.endian) zs refl, rw c.in-Raw.is at c.requires.room)
 
 pub returns-in-Raw : goal.returns-in-Raw
 returns-in-Raw g c =
-    let a = c.args.array.now in
+    let a = c.args.coding in
     let zs = g.S.Source.samples c.args.samples.now in
     let p = c.put_raw.ensures in
     let w = sample_bytes (type_code a.sample_type) in
@@ -27,13 +27,13 @@ returns-in-Raw g c =
 
 pub put_text-requires : goal.put_text-requires
 put_text-requires g c =
-    let a = c.args.array.now in
+    let a = c.args.coding in
     let zs = g.S.Source.samples c.args.samples.now in
     omega (arith, ap length (text_is 1 (sample_bytes (type_code a.sample_type)) (endian_code a.endian) zs refl), rw c.in-Text.is at c.requires.room)
 
 pub returns-in-Text : goal.returns-in-Text
 returns-in-Text g c =
-    let a = c.args.array.now in
+    let a = c.args.coding in
     let zs = g.S.Source.samples c.args.samples.now in
     let p = c.put_text.ensures in
     let e = text_is 1 (sample_bytes (type_code a.sample_type)) (endian_code a.endian) zs refl in
@@ -41,26 +41,26 @@ returns-in-Text g c =
 
 pub put_hex-end-requires : goal.put_hex-end-requires
 put_hex-end-requires g c =
-    let a = c.args.array.now in
+    let a = c.args.coding in
     let zs = g.S.Source.samples c.args.samples.now in
     omega (arith, hex_long (sample_bytes (type_code a.sample_type)) (endian_code a.endian) zs, rw c.in-Hex.is at c.requires.room)
 
 pub bounds-out-end : goal.bounds-out-end
 bounds-out-end g c =
-    let a = c.args.array.now in
+    let a = c.args.coding in
     let zs = g.S.Source.samples c.args.samples.now in
     let p = c.put_hex-end in
     omega (arith, hex_long (sample_bytes (type_code a.sample_type)) (endian_code a.endian) zs, rw c.in-Hex.is at c.requires.room, p.ensures.place, p.auto.out)
 
 pub overflow_add-result : goal.overflow_add-result
 overflow_add-result g c =
-    let a = c.args.array.now in
+    let a = c.args.coding in
     let zs = g.S.Source.samples c.args.samples.now in
     omega (arith, hex_long (sample_bytes (type_code a.sample_type)) (endian_code a.endian) zs, rw c.in-Hex.is at c.requires.room, c.put_hex-end.ensures.place)
 
 pub returns-in-Hex : goal.returns-in-Hex
 returns-in-Hex g c =
-    let a = c.args.array.now in
+    let a = c.args.coding in
     let zs = g.S.Source.samples c.args.samples.now in
     let w = sample_bytes (type_code a.sample_type) in
     let endian = endian_code a.endian in

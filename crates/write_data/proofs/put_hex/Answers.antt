@@ -16,30 +16,30 @@ use Rattle.write_data.proofs.put_hex.Goals as goal
 
 pub loop-i-init : goal.loop-i-init
 loop-i-init g c =
-    let run = hex_text (raw_of c.args.array.now (g.S.Source.samples c.args.samples.now)) in
+    let run = hex_text (raw_of c.args.coding (g.S.Source.samples c.args.samples.now)) in
     (putting_none run c.args.out.now c.args.at run refl, omega arith, refl)
 
 pub put_raw-used-requires : goal.put_raw-used-requires
 put_raw-used-requires g c =
-    let t = c.args.array.now.sample_type in
+    let t = c.args.coding.sample_type in
     let l = c.loop-i in
     rw c.part.ensures (omega (arith, l.invariant.2, part_room l.i c.min.result c.count-n.result (g.S.Source.samples c.args.samples.now) c.min.ensures c.count-n.ensures l.invariant.1 (sample_bytes (type_code t)) (width_le _ (type_wide t))))
 
 pub slice_bounds-part-end : goal.slice_bounds-part-end
 slice_bounds-part-end g c =
-    let t = c.args.array.now.sample_type in
+    let t = c.args.coding.sample_type in
     let l = c.loop-i in
     omega (arith, c.type_inv.part, rw c.part.ensures at c.put_raw-used.ensures.place, part_room l.i c.min.result c.count-n.result (g.S.Source.samples c.args.samples.now) c.min.ensures c.count-n.ensures l.invariant.1 (sample_bytes (type_code t)) (width_le _ (type_wide t)))
 
 pub slice_bounds-put_hex_bytes-end : goal.slice_bounds-put_hex_bytes-end
 slice_bounds-put_hex_bytes-end g c =
-    let t = c.args.array.now.sample_type in
+    let t = c.args.coding.sample_type in
     let l = c.loop-i in
     omega (arith, length-take c.put_raw-used.result c.put_raw-used.new.out, c.put_raw-used.auto.out, l.invariant.2, rw c.part.ensures at c.put_raw-used.ensures.place, part_room l.i c.min.result c.count-n.result (g.S.Source.samples c.args.samples.now) c.min.ensures c.count-n.ensures l.invariant.1 (sample_bytes (type_code t)) (width_le _ (type_wide t)))
 
 pub put_hex_bytes-o-requires : goal.put_hex_bytes-o-requires
 put_hex_bytes-o-requires g c =
-    let a = c.args.array.now in
+    let a = c.args.coding in
     let zs = g.S.Source.samples c.args.samples.now in
     let l = c.loop-i in
     let to = l.i + c.min.result in
@@ -58,7 +58,7 @@ loop-i-smaller g c = omega (arith, c.min.ensures, c.loop-i-test.true)
 
 pub loop-i-preserved : goal.loop-i-preserved
 loop-i-preserved g c =
-    let a = c.args.array.now in
+    let a = c.args.coding in
     let zs = g.S.Source.samples c.args.samples.now in
     let l = c.loop-i in
     let to = l.i + c.min.result in
@@ -82,7 +82,7 @@ shape_of-out g c = c.loop-i.invariant.0.long
 pub returns : goal.returns
 unfolding hex_text
 returns g c =
-    let a = c.args.array.now in
+    let a = c.args.coding in
     let zs = g.S.Source.samples c.args.samples.now in
     let w = sample_bytes (type_code a.sample_type) in
     let endian = endian_code a.endian in

@@ -6,7 +6,7 @@ use Rattle.write_data.specs.Data.{raw_of}
 use Rattle.write_data.proofs.put_hex.Given as goal
 
 abbrev pub invariant-loop-i : goal.invariant-loop-i
-invariant-loop-i g l = let zs = g.S.Source.samples l.samples in Putting (hex_text (raw_of l.array zs)) l.initial.out l.at l.out l.o (hex_text (raw_of l.array (drop l.i zs))) × (l.i ≤ length zs) × (2048 ≡ length l.part)
+invariant-loop-i g l = let zs = g.S.Source.samples l.samples in Putting (hex_text (raw_of l.coding zs)) l.initial.out l.at l.out l.o (hex_text (raw_of l.coding (drop l.i zs))) × (l.i ≤ length zs) × (2048 ≡ length l.part)
 
 abbrev pub decreases-loop-i : goal.decreases-loop-i
 decreases-loop-i g l = l.n - l.i

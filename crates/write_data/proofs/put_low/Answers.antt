@@ -15,8 +15,8 @@ loop-i-init g c =
     let run = flat_map (low_bytes g.row.W (endian_code a.endian)) (g.S.Source.samples a.samples.now) in
     putting_none run a.out.now a.at run refl
 
-pub put_word-o-requires-clause-room : goal.put_word-o-requires-clause-room
-put_word-o-requires-clause-room g c =
+pub put_word-o-requires : goal.put_word-o-requires
+put_word-o-requires g c =
     let a = c.args in
     let zs = g.S.Source.samples a.samples.now in
     let endian = endian_code a.endian in
@@ -24,7 +24,7 @@ put_word-o-requires-clause-room g c =
     let l = c.loop-i in
     let z = get_or zs l.i (pos 0) in
     let h : l.i < length zs = omega (arith, c.count-i-end.ensures, c.loop-i-test.true) in
-    omega (arith, l.invariant.long, c.requires.room, putting_room l.invariant (f z) (flat_map f (drop (l.i + 1) zs)) (flat_next f zs l.i (pos 0) h), low_size g.row.W endian z, low_length g.row.W endian zs)
+    omega (arith, l.invariant.long, c.requires, putting_room l.invariant (f z) (flat_map f (drop (l.i + 1) zs)) (flat_next f zs l.i (pos 0) h), low_size g.row.W endian z, low_length g.row.W endian zs)
 
 pub loop-i-preserved : goal.loop-i-preserved
 loop-i-preserved g c =
@@ -37,7 +37,7 @@ loop-i-preserved g c =
     let p = c.put_word-o in
     let x = c.bits_at in
     putting_more l.invariant (f z) (flat_map f (drop (l.i + 1) zs)) (flat_next f zs l.i (pos 0) (omega (arith, c.count-i-end.ensures, c.loop-i-test.true))) _ _
-    (p.ensures.stored ∙ ap (sets l.out l.o) (bits_low x.result x.type_inv g.row.W endian z x.ensures)) (omega (arith, p.ensures.place, low_size g.row.W endian z))
+    (rw c.code-number.ensures at p.ensures.stored ∙ ap (sets l.out l.o) (bits_low x.result x.type_inv g.row.W endian z x.ensures)) (omega (arith, p.ensures.place, low_size g.row.W endian z))
 
 pub shape_of-out : goal.shape_of-out
 shape_of-out g c = c.loop-i.invariant.long

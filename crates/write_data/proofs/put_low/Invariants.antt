@@ -7,4 +7,4 @@ use Rattle.write_data.specs.Data.{low_bytes}
 use Rattle.write_data.proofs.put_low.Given as goal
 
 abbrev pub invariant-loop-i : goal.invariant-loop-i
-invariant-loop-i g l = let zs = g.S.Source.samples l.samples in let f = low_bytes g.row.W (endian_code l.endian) in Putting (flat_map f zs) l.initial.out l.at l.out l.o (flat_map f (drop l.i zs))
+invariant-loop-i g l = let zs = g.S.Source.samples l.samples in let f = low_bytes g.row.W (endian_code l.fn.endian) in Putting (flat_map f zs) l.initial.out l.at l.out l.o (flat_map f (drop l.i zs))

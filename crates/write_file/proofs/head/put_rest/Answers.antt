@@ -28,8 +28,8 @@ returns c =
     let b = c.put_line-b.result in
     let r = c.put_endian-e in
     let u = value_line (bytes "sizes:") (flat_map after_space a.sizes.now) in
-    let v = value_line (bytes "encoding: ") (name_at encodings (encoding_code a.encoding)) in
-    let x = endian_text_of a in (record {
+    let v = value_line (bytes "encoding: ") (name_at encodings (encoding_code a.coding.encoding)) in
+    let x = endian_text_of a.coding in (record {
       place = omega (arith, p.ensures.place, q.place, r.ensures.place, four_length d u v x at p.result b p.ensures.place q.place);
       stored = ap (λ (s : List ℕ). set s r.result 10) (r.ensures.stored ∙ ap (λ (s : List ℕ). sets s b x) (q.stored ∙ ap (λ (s : List ℕ). sets s p.result v) p.ensures.stored))
           ∙ four_stored d u v x at p.result b p.ensures.place q.place r.result r.ensures.place;

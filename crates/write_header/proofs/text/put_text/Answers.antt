@@ -10,7 +10,7 @@ use Rattle.write_header.proofs.text.put_text.Goals as goal
 pub overflow_sub-n : goal.overflow_sub-n
 overflow_sub-n c =
     let a = c.args.header.now.array in
-    omega (arith, c.put_header-n.ensures.place, header_long a.version a.sizes.now (type_code a.sample_type) (encoding_code a.encoding) (endian_code a.endian))
+    omega (arith, c.put_header-n.ensures.place, header_long a.version a.sizes.now (type_code a.coding.sample_type) (encoding_code a.coding.encoding) (endian_code a.coding.endian))
 
 pub put_lines-e-requires : goal.put_lines-e-requires
 put_lines-e-requires c =
@@ -22,9 +22,9 @@ returns c =
     let d = c.args.text.now in
     let a = c.args.header.now.array in
     let g = c.args.header.now.given.now in
-    let t = type_code a.sample_type in
-    let e = encoding_code a.encoding in
-    let endian = endian_code a.endian in
+    let t = type_code a.coding.sample_type in
+    let e = encoding_code a.coding.encoding in
+    let endian = endian_code a.coding.endian in
     let h = c.put_header-n.ensures in
     let l = c.put_lines-e.ensures in
     let put = text_put d (front_bytes a.version a.sizes.now t e endian) (lines_of g) (header_front a.version a.sizes.now t e endian) h.place h.stored (l.place, l.stored) in

@@ -1,6 +1,6 @@
 -- `Array::try_from` of `write_checks::asked` meets its contract. Assumes nothing.
 use Rattle.std.proofs.Common.{refl, ◌∙◌, sym}
-use Rattle.write_checks.proofs.Refuse.{no_type, no_encoding, no_endian, sized_is, type_few, encoding_few, endian_few}
+use Rattle.write_checks.proofs.Refuse.{no_type, no_encoding, no_endian, sized_is, axes_few, type_few, encoding_few, endian_few}
 use Rattle.write_checks.proofs.asked.ArrayTryFromAsked.try_from.Goals as goal
 
 pub returns-in_default : goal.returns-in_default
@@ -28,4 +28,13 @@ pub invariant_of-result : goal.invariant_of-result
 invariant_of-result c =
     let a = c.args.asked in
     let e = sized_is a.version a.sizes.now _ _ _ (type_few c.in-Ok.sample_type) (encoding_few c.in-Ok-try_from.encoding) (endian_few c.in-Ok-try_from-2.endian) in
-    record { fine = e ∙ sym c.is_sized.ensures ∙ c.if-not-is_sized.false }
+    let few = axes_few _ _ _ _ _ (e ∙ sym c.is_sized.ensures ∙ c.if-not-is_sized.false) in
+    record { axes_from = few.0; axes_to = few.1 }
+
+pub returns : goal.returns
+returns c =
+    let a = c.args.asked in
+    let e = sized_is a.version a.sizes.now _ _ _ (type_few c.in-Ok.sample_type) (encoding_few c.in-Ok-try_from.encoding) (endian_few c.in-Ok-try_from-2.endian) in (
+      record { version = refl; sizes = refl; sample_type = c.in-Ok.ensures; encoding = c.in-Ok-try_from.ensures; endian = c.in-Ok-try_from-2.ensures },
+      rw (c.in-Ok.ensures, c.in-Ok-try_from.ensures, c.in-Ok-try_from-2.ensures) at e ∙ sym c.is_sized.ensures ∙ c.if-not-is_sized.false,
+    )
