@@ -1,10 +1,13 @@
 -- Laws of the refusals: the tests of the numbers, the capped product, and the samples in range.
 -- Assumes nothing.
-use Rattle.std.specs.Prelude.{if◌then◌else◌}
+use Rattle.std.specs.Prelude.{if◌then◌else◌, Result, Ok, Err}
+use Rattle.std.specs.Result.{IsErr, IsErrAnd}
 use Rattle.std.proofs.Common.{◌≡◌, ℕ, ◌+◌, ◌*◌, ◌<◌, ◌≤◌, Bool, true, false, not, ◌&&◌, ◌||◌, eqb, ltb, leb, leb-true, zero, suc, List, [], ◌∷◌, length, get_or, drop, ℤ, pos, negsuc, sym, refl, ap, ◌∙◌, mul_comm, le-mul_of_pos_right, add-one, arith, drop_of_length-le, drop-cons, le-ltb, lt-ltb, eq-eqb, ne_eqb, le-leb}
-use mathlib.Core.Bool.{and_assoc, and-true, and-false}
+use mathlib.Core.Bool.{and_assoc, and-true, and-false, false≢true}
 use lib.Dec.{lit<}
 use Rattle.format.specs.Codes.{type_code, encoding_code, endian_code}
+use Rattle.format.specs.Reasons.{reason_number, refusal_number}
+use Rattle.format.specs.declared.reason.Reason.{Reason}
 use Rattle.format.specs.declared.codes.Encoding.{Encoding}
 use Rattle.format.specs.declared.codes.Encoding.TheVariants.{Raw, Text, Hex}
 use Rattle.format.specs.declared.codes.Endian.{Endian}
@@ -143,6 +146,11 @@ module _ (version : ℕ) (sizes : List ℕ) (t e endian : ℕ) where
   pub early_descriptor : (zs : List ℤ) → writable version sizes t e endian ≡ false → early_refusal version sizes t e endian zs ≡ bad_descriptor
   unfolding early_refusal
   early_descriptor zs h = rw h
+
+-- the number of a reason that `?` hands on as it is
+pub number_is : {T : Type 0} (r : Result T Reason) (reason : Reason) → IsErr r × IsErrAnd r (λ x. x ≡ reason) → refusal_number r ≡ reason_number reason
+number_is (Ok n) reason h = absurd (false≢true h.0)
+number_is (Err x) reason h = ap reason_number h.1
 
 -- the array that comes of what is asked for has its numbers
 pub on_same : {T : Type 0} (f : ℕ → List ℕ → ℕ → ℕ → ℕ → T) (asked : Asked) (array : Array) → IsOf asked array → on_array f array ≡ on_asked f asked

@@ -4,10 +4,10 @@ ghost use Rattle.format.specs.Codes.{type_code};
 ghost use Rattle.format.specs.Reasons.{refusal_number};
 ghost use Rattle.format.specs.Samples.{to_signed};
 ghost use Rattle.format.specs.Writer.{writable};
-ghost use Rattle.write_checks.specs.Checked.{on_array};
+ghost use Rattle.write_checks.specs.Checked.{on_array, on_asked, IsOf};
 ghost use Rattle.write_checks.specs.Refused.{in_range, all_in_range, WholeRange, early_refusal, late_refusal, Ready};
 
-use crate::asked::Array;
+use crate::asked::{Array, Asked};
 use crate::source::Source;
 use format::reason::Reason;
 use format_values::{products, types};
@@ -57,6 +57,17 @@ pub fn check_samples<S: Source>(array: &Array, samples: &[S]) -> Result<(), Reas
         return Err(Reason::BadSample);
     }
     Ok(())
+}
+
+// What is asked for as an array, where these samples can be written as it: else the first refusal that both meet before the file's length is known.
+pub fn check_asked<'a, S: Source>(asked: Asked<'a>, samples: &[S]) -> Result<Array<'a>, Reason>
+    ensures refusal { refusal_number result ≡ on_asked early_refusal asked.entry (S.samples samples.now) }
+    ensures array { IfOk result (λ array. IsOf asked.entry array) }
+    ensures ready { IfOk result (λ array. Ready (type_code array.coding.sample_type) (S.samples samples.now)) }
+{
+    let array = Array::try_from(asked)?;
+    check_samples(&array, samples)?;
+    Ok(array)
 }
 
 // Whether a file of `total` bytes can be written to a buffer of `room` bytes.

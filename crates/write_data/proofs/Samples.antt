@@ -149,13 +149,9 @@ module _ (encoding w endian : ℕ) (zs : List ℤ) where
       ap length (hex_is n m) ∙ length-append (hex_text (raw_data w endian zs)) (LF ∷ [])
       ∙ omega (arith, hex_length (raw_data w endian zs), raw_size w endian zs)
 
--- the same of the number for hex
-module _ (w endian : ℕ) (zs : List ℤ) where
-  pub hex_of : data_bytes 2 w endian zs ≡ hex_text (raw_data w endian zs) ++ LF ∷ []
-  hex_of = hex_is 2 w endian zs (λ e. absurd (omega (arith, e))) (λ e. absurd (omega (arith, e)))
-
-  pub hex_long : length (data_bytes 2 w endian zs) ≡ length zs * (2 * w) + 1
-  hex_long = hex_is_long 2 w endian zs (λ e. absurd (omega (arith, e))) (λ e. absurd (omega (arith, e))) ∙ ap (λ (k : ℕ). k + 1) (sym (twice (length zs) w))
+-- the same as the loop counts it
+pub hex_long : (encoding w endian : ℕ) (zs : List ℤ) → (encoding ≡ 0 → ⊥) → (encoding ≡ 1 → ⊥) → length (data_bytes encoding w endian zs) ≡ length zs * (2 * w) + 1
+hex_long encoding w endian zs n m = hex_is_long encoding w endian zs n m ∙ ap (λ (k : ℕ). k + 1) (sym (twice (length zs) w))
 
 -- ---- a part of the samples: the next 256 of them, or as many as are left
 

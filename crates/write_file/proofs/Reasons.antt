@@ -6,17 +6,12 @@ use Rattle.std.specs.Result.{IsErr, IsErrAnd}
 use mathlib.Core.Bool.{false≢true}
 use Rattle.format.specs.declared.reason.Reason.{Reason}
 use Rattle.format.specs.declared.reason.Refused.{Refused}
-use Rattle.format.specs.Reasons.{reason_number, refusal_number, without_line}
+use Rattle.format.specs.Reasons.{reason_number, without_line}
 use Rattle.format.specs.Answers.{length_answered}
 use Rattle.write_file.specs.Stored.{answer_of}
 
 pub reason_some : (r : Reason) → reason_number r ≡ 0 → ⊥
 reason_some r e = grind arith
-
--- the number of a reason that `?` hands on as it is
-pub number_is : {T : Type 0} (r : Result T Reason) (reason : Reason) → IsErr r × IsErrAnd r (λ x. x ≡ reason) → refusal_number r ≡ reason_number reason
-number_is (Ok n) reason h = absurd (false≢true h.0)
-number_is (Err x) reason h = ap reason_number h.1
 
 -- the answer where it hands on a reason as what is refused
 pub answer_is : (r : Result ℕ Refused) (reason : Reason) → IsErr r × IsErrAnd r (λ refused. refused ≡ without_line reason) → length_answered r ≡ answer_of (reason_number reason) 0

@@ -21,14 +21,12 @@ use Rattle.format.specs.Calls.{write_call, write_answer}
 use Rattle.format.proofs.Stores.{sets_then}
 use Rattle.format.specs.Codes.{type_code, encoding_code, endian_code}
 use Rattle.format.specs.declared.reason.Reason.{Reason}
-use Rattle.format.specs.declared.reason.Reason.TheVariants.{BadDescriptor}
 use Rattle.format.specs.Reasons.{reason_number}
 use Rattle.write_checks.specs.declared.asked.Array.{Array}
 use Rattle.write_checks.specs.declared.asked.Asked.{Asked}
 use Rattle.write_checks.specs.Checked.{on_asked, on_array, IsOf}
 use Rattle.write_checks.specs.Refused.{early_refusal, late_refusal}
 use Rattle.write_checks.proofs.Refuse.{early_descriptor, on_same}
-use Rattle.write_data.specs.Data.{data_of}
 use Rattle.write_file.specs.Stored.{answer_of}
 use Rattle.write_file.proofs.Reasons.{reason_some}
 
@@ -114,6 +112,10 @@ module _ (version : ℕ) (sizes : List ℕ) (t e endian : ℕ) (zs : List ℤ) w
 
 -- ---- the call by the array that comes of what is asked for
 
+-- a call that is refused before the file's length is known
+pub asked_refused : (asked : Asked) (zs : List ℤ) (out : List ℕ) (reason : Reason) → reason_number reason ≡ on_asked early_refusal asked zs → (answer_of (reason_number reason) 0, out) ≡ on_asked write_call asked zs out
+asked_refused a zs out reason q = sym (early_call a.version a.sizes.now a.sampletype a.encoding a.endian zs out (reason_number reason) q (reason_some reason))
+
 module _ (asked : Asked) (array : Array) (same : IsOf asked array) (zs : List ℤ) (out : List ℕ) where
   abbrev t : ℕ
   t = type_code array.coding.sample_type
@@ -124,32 +126,29 @@ module _ (asked : Asked) (array : Array) (same : IsOf asked array) (zs : List �
   abbrev endian : ℕ
   endian = endian_code array.coding.endian
 
+  -- the data of its samples
+  abbrev run : List ℕ
+  run = data_bytes e (sample_bytes t) endian zs
+
   asked_is : on_array write_call array zs out ≡ on_asked write_call asked zs out
   asked_is = ap (λ f. f zs out) (on_same write_call asked array same)
 
-  -- a call whose samples are refused
-  pub samples_refused : (reason : Reason) → reason_number reason ≡ on_array early_refusal array zs → (answer_of (reason_number reason) 0, out) ≡ on_asked write_call asked zs out
-  samples_refused reason q = sym (early_call array.version array.sizes.now t e endian zs out (reason_number reason) q (reason_some reason)) ∙ asked_is
+  module _ (fine : 0 ≡ on_asked early_refusal asked zs) (start : ℕ) (es : start ≡ length (on_array header_bytes array)) where
+    fine_array : 0 ≡ on_array early_refusal array zs
+    fine_array = fine ∙ sym (ap (λ f. f zs) (on_same early_refusal asked array same))
 
-  module _ (fine : 0 ≡ on_array early_refusal array zs) (start : ℕ) (es : start ≡ length (on_array header_bytes array)) where
     -- a call whose file is refused by its length
-    pub file_refused : (reason : Reason) → reason_number reason ≡ late_refusal (start + length (data_of array.coding zs)) (length out) → (answer_of (reason_number reason) 0, out) ≡ on_asked write_call asked zs out
-    file_refused reason q = sym (late_call array.version array.sizes.now t e endian zs out 0 fine refl start (sample_bytes t) es refl (reason_number reason) q (reason_some reason)) ∙ asked_is
+    pub file_refused : (reason : Reason) → reason_number reason ≡ late_refusal (start + length run) (length out) → (answer_of (reason_number reason) 0, out) ≡ on_asked write_call asked zs out
+    file_refused reason q = sym (late_call array.version array.sizes.now t e endian zs out 0 fine_array refl start (sample_bytes t) es refl (reason_number reason) q (reason_some reason)) ∙ asked_is
 
-    module _ (short : 0 ≡ late_refusal (start + length (data_of array.coding zs)) (length out)) where
-      pub file_fits : start + length (data_of array.coding zs) ≤ length out
-      file_fits = fits array.version array.sizes.now t e endian zs out 0 fine refl start (sample_bytes t) es refl 0 short refl
+    module _ (short : 0 ≡ late_refusal (start + length run) (length out)) where
+      pub file_fits : start + length run ≤ length out
+      file_fits = fits array.version array.sizes.now t e endian zs out 0 fine_array refl start (sample_bytes t) es refl 0 short refl
 
       -- a call that is not refused: d is the buffer with the header, d' with the data too
-      pub file_stored : (front d d' : List ℕ) (m : ℕ) → front ≡ on_array header_bytes array → d ≡ sets out 0 front → d' ≡ sets d start (data_of array.coding zs) → m ≡ start + length (data_of array.coding zs)
+      pub file_stored : (front d d' : List ℕ) (m : ℕ) → front ≡ on_array header_bytes array → d ≡ sets out 0 front → d' ≡ sets d start run → m ≡ start + length run
           → (answer_of 0 m, d') ≡ on_asked write_call asked zs out
-      file_stored front d d' m ef ed ed' em = full_call array.version array.sizes.now t e endian zs out 0 fine refl start (sample_bytes t) es refl 0 short refl front d d' m ef ed ed' em ∙ asked_is
-
--- a call that asks for what no header can say
-pub asked_refused : (asked : Asked) (zs : List ℤ) (out : List ℕ) (reason : Reason) → (reason ≡ BadDescriptor) × (on_asked writable asked ≡ false) → (answer_of (reason_number reason) 0, out) ≡ on_asked write_call asked zs out
-asked_refused a zs out reason h =
-    let q : bad_descriptor ≡ on_asked early_refusal a zs = sym (early_descriptor a.version a.sizes.now a.sampletype a.encoding a.endian zs h.1) in
-    ap (λ r. (answer_of (reason_number r) 0, out)) h.0 ∙ sym (early_call a.version a.sizes.now a.sampletype a.encoding a.endian zs out bad_descriptor q (λ z. absurd (omega (arith, z))))
+      file_stored front d d' m ef ed ed' em = full_call array.version array.sizes.now t e endian zs out 0 fine_array refl start (sample_bytes t) es refl 0 short refl front d d' m ef ed ed' em ∙ asked_is
 
 -- ---- sizes that are lent as bytes: 17 of them are enough to refuse more than 16
 

@@ -13,7 +13,7 @@ pub mod head;
 
 use format::WriteAnswer;
 use format::reason::Refused;
-use write_checks::asked::{Array, Asked};
+use write_checks::asked::Asked;
 use write_checks::check;
 use write_checks::source::Source;
 
@@ -21,13 +21,15 @@ use write_checks::source::Source;
 fn write_samples<S: Source>(asked: Asked, samples: &[S], out: &mut [u8]) -> Result<u64, Refused>
     ensures { ◌≡◌ {A = WriteAnswer × List ℕ} (length_answered result, out.new) (on_asked write_call asked.entry (S.samples samples.now) out.old) }
 {
-    let array = Array::try_from(asked)?;
-    check::check_samples(&array, samples)?;
+    let array = check::check_asked(asked, samples)?;
     let mut head = [0u8; format::HEADER_ROOM];
     let start = head::put_header(&mut head, &array);
-    write_data::check_file(start, array.coding, samples, out.len())?;
+    let encoding = array.coding.encoding.code() as u64;
+    let width = array.coding.sample_type.bytes() as usize;
+    let endian = array.coding.endian.code() as u64;
+    write_data::check_file(start, samples, encoding, width, out.len())?;
     write_parts::bytes::put_bytes(out, 0, &head[..start]);
-    Ok(write_data::put_data(out, start, array.coding, samples) as u64)
+    Ok(write_data::put_data(out, start, samples, encoding, width, endian) as u64)
 }
 
 // Writes samples that are numbers as an attached file to the front of `out`; a refused call leaves `out` as it was. `HEADER_ROOM` bytes, and
