@@ -29,17 +29,22 @@ pub enum Kind {
 fn find_mark(s: &[u8]) -> Kind
     ensures { result ≡ mark_place (mark s.now) }
 {
-    for i in 1..s.len() {
+    let mut i: usize = 1;
+    // The form asked for here is a loop that yields place and kind by `break`; a `for` loop yields nothing.
+    loop {
+        if s.len() <= i {
+            break Kind::Neither;
+        }
         if s[i - 1] == b':' {
             if s[i] == b' ' {
-                return Kind::Field(i - 1);
+                break Kind::Field(i - 1);
             }
             if s[i] == b'=' {
-                return Kind::Pair(i - 1);
+                break Kind::Pair(i - 1);
             }
         }
+        i += 1;
     }
-    Kind::Neither
 }
 
 // What a line with the text t is, where no names follow the fields before it.
