@@ -15,7 +15,7 @@ use Rattle.std.specs.Prelude.{Result, Ok, Err, MatchResult}
 use Rattle.std.specs.Result.{result_unwrap_or}
 use Rattle.format.specs.declared.codes.NotListed.{NotListed}
 use Rattle.data_samples.specs.declared.data.Data.{Data}
-use Rattle.data_samples.proofs.SamplesSeen.{samples_seen}
+use Rattle.theorem_room.proofs.SamplesSeen.{samples_seen}
 use Rattle.std.proofs.Common.{◌⊎◌, inl, inr}
 use Rattle.format.specs.declared.Reading.{Reading}
 use Rattle.format.specs.declared.ReadAnswer.{ReadAnswer}

@@ -1,10 +1,10 @@
-// Refusals are made here and nowhere else: what is added to a refusal is added here.
+// Refusals by their numbers. `format` makes the others: `reason` of a reason, `answers` where nothing is refused. What is added to a refusal is added there too.
 ghost use Rattle.std.specs.Prelude.{◌≡◌};
 ghost use Rattle.format.specs.Refusals.{at_line, refusal};
 
 use format::Refusal;
 
-// Nothing is refused. Only here is each member spelled: the others name those in which they differ.
+// Nothing is refused. Only this one spells each member here: the others name those in which they differ.
 pub const FINE: Refusal = Refusal { number: 0, line: 0 };
 
 // Refusals whose number is known where they are made; each use proves its own.

@@ -4,7 +4,8 @@ ghost use Rattle.format.specs.Bytes.{space_or_tab};
 ghost use Rattle.format.specs.Vectors.{inside_after};
 ghost use Rattle.read_vectors.specs.Outside.{first_outside, Next, WordAt};
 
-use read_text::numbers::Place;
+// Where a word stands.
+pub use read_text::numbers::Place;
 
 // Whether the byte b ends a word.
 fn is_end(inside: bool, b: u8) -> bool

@@ -17,7 +17,7 @@ use Rattle.format.specs.Bytes.{is_some, or_default, between}
 use Rattle.format.specs.Limits.{max_size}
 use Rattle.format.specs.Refusals.{lent_too_short, refusal, fine}
 use Rattle.format.specs.Samples.{Decoded}
-use Rattle.data_samples.proofs.SamplesSeen.{samples_seen}
+use Rattle.theorem_room.proofs.SamplesSeen.{samples_seen}
 use Rattle.format.specs.Words.{number, within, number_in, numbers_in, words, value_of_number}
 use Rattle.format.specs.Lines.{Line}
 use Rattle.format.specs.Fields.{Given, descriptor_of, sizes}

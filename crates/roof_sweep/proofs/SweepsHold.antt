@@ -41,7 +41,7 @@ use Rattle.roof_steps.proofs.Stamps.{in_list}
 use Rattle.roof_sweep.specs.Sweeps.{utc_offset, offset_said, offset_at, offset_of, attached, uint32, is_sweep, offset_for, row_length, row_count, stamps_in, refused_sweep, sweep_answer, sweep_found, sweep_call, sweep_entry}
 use Rattle.roof_sweep.specs.SweepLaws.{NotRefused, Refused, offset_in, SweepLaws}
 use Rattle.roof_sweep.proofs.RowLaws.{two_axes, offset_sweep, none_refused}
-use Rattle.data_samples.proofs.SamplesSeen.{in_type_at, samples_seen}
+use Rattle.theorem_room.proofs.SamplesSeen.{in_type_at, samples_seen}
 
 -- ---- how the call ends
 
