@@ -6,13 +6,6 @@ ghost use Rattle.write_header.specs.Headers.{given_lent};
 use crate::checks::Given;
 use format::{Decimal, Shape};
 
-// What an array holds before its decimals are read.
-pub(crate) const NOUGHT: Decimal = Decimal {
-    number: 0,
-    power: 0,
-    kind: 0,
-};
-
 // How many bytes it has.
 pub(crate) const WIDTH: usize = 3232;
 
@@ -42,26 +35,22 @@ fn shape_at(s: &[u8]) -> Shape
 }
 
 // N arrays of eight decimals.
-fn columns_at<const N: usize>(s: &[u8], at: usize) -> [[Decimal; 8]; N]
+fn read_columns<const N: usize>(s: &[u8], at: usize, columns: &mut [[Decimal; 8]; N])
     requires { at + 128 * N ≤ length s.now }
-    ensures { result ≡ columns_lent N (drop at s.now) }
+    ensures { columns.new ≡ columns_lent N (drop at s.now) }
 {
-    let mut m = [[NOUGHT; 8]; N];
     for i in 0..N {
-        m[i] = lent_decimals::column_at(s, at + STEP * i);
+        columns[i] = lent_decimals::column_at(s, at + STEP * i);
     }
-    m
 }
 
-// The whole orientation.
-pub(crate) fn given_at(s: &[u8]) -> Given
+// The whole orientation, in place: it is large, and by value the stack would hold it several times.
+pub(crate) fn read_given(s: &[u8], given: &mut Given)
     requires { length s.now ≡ 3232 }
-    ensures { result ≡ given_lent s.now }
+    ensures { given.new ≡ given_lent s.now }
 {
-    Given {
-        shape: shape_at(s),
-        origin: lent_decimals::column_at(s, ORIGIN),
-        directions: columns_at(s, DIRECTIONS),
-        frame: columns_at(s, FRAME),
-    }
+    given.shape = shape_at(s);
+    given.origin = lent_decimals::column_at(s, ORIGIN);
+    read_columns(s, DIRECTIONS, &mut given.directions);
+    read_columns(s, FRAME, &mut given.frame);
 }

@@ -23,6 +23,13 @@ use write_checks::asked::Asked;
 // Enough for any text: none is longer than 7,287 bytes.
 const TEXT_ROOM: usize = 8192;
 
+// What an array holds before its decimals are read.
+const NOUGHT: Decimal = Decimal {
+    number: 0,
+    power: 0,
+    kind: 0,
+};
+
 // The orientation of a call that is given none: the arrays stand for nothing.
 const NOTHING: Given = Given {
     shape: Shape {
@@ -33,9 +40,9 @@ const NOTHING: Given = Given {
         space: 0,
         spacedimension: 0,
     },
-    origin: [lent::NOUGHT; 8],
-    directions: [[lent::NOUGHT; 8]; 16],
-    frame: [[lent::NOUGHT; 8]; 8],
+    origin: [NOUGHT; 8],
+    directions: [[NOUGHT; 8]; 16],
+    frame: [[NOUGHT; 8]; 8],
 };
 
 // The text to the front of `out`, unless its reading refuses it; the answer is its length.
@@ -94,10 +101,12 @@ pub fn write_header(
 fn write_lent(asked: Asked, orientation: &[u8], out: &mut [u8]) -> Result<u64, Refused>
     ensures { ◌≡◌ {A = WriteAnswer × List ℕ} (length_answered result, out.new) (on_asked lent_call asked.entry orientation.now out.old) }
 {
+    let mut given = NOTHING;
     if orientation.is_empty() {
-        write_given(asked, &NOTHING, out)
+        write_given(asked, &given, out)
     } else if orientation.len() == lent::WIDTH {
-        write_given(asked, &lent::given_at(orientation), out)
+        lent::read_given(orientation, &mut given);
+        write_given(asked, &given, out)
     } else {
         Err(Reason::BadDescriptor.into())
     }

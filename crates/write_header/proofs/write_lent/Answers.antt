@@ -14,7 +14,7 @@ pub returns-then-orientation-eq-WIDTH : goal.returns-then-orientation-eq-WIDTH
 returns-then-orientation-eq-WIDTH c =
     let a = c.args.asked in
     let s = c.args.orientation.now in
-    rw c.given_at.ensures at c.write_given-then-orientation-eq-WIDTH.ensures
+    rw c.read_given.ensures at c.write_given-then-orientation-eq-WIDTH.ensures
     ∙ lent_whole a.version a.sizes.now a.sampletype a.encoding a.endian s c.args.out.now (is_some s (sym c.is_empty.ensures ∙ c.if-is_empty.false)) c.if-orientation-eq-WIDTH.true refl refl refl refl
 
 pub returns-else-orientation-eq-WIDTH : goal.returns-else-orientation-eq-WIDTH

@@ -1,7 +1,7 @@
 -- `checks::check` meets its contract: a law of AskedLaws.antt for each return. Assumes nothing.
 use Rattle.std.proofs.Common.{refl, sym, ap, ◌∙◌}
 use Rattle.format.specs.Reasons.{reason_number}
-use Rattle.write_file.proofs.Reasons.{number_is}
+use Rattle.write_checks.proofs.Refuse.{number_is}
 use Rattle.write_header.proofs.AskedLaws.{shaped_known, asked_writable, asked_shaped, asked_version, asked_none}
 use Rattle.write_header.proofs.checks.check.Goals as goal
 
