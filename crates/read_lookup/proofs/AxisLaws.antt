@@ -32,6 +32,15 @@ use Rattle.read_lookup.specs.Lookup.{is_field, SecondAt}
 use Rattle.read_lookup.specs.Axes.{ArePlaces, no_places, axis_row, first_of, given_to, kept_of, kept_places, Gives, Kept, AxesLeft}
 use Rattle.read_lookup.proofs.Finding.{place_in, field_other, field_field, field_turn, field_none, left_next, start_fields}
 
+-- ---- a line that gives none of the four
+
+kept_of_none : (f : ℕ) (before : Maybe Place) → kept_of f before None ≡ before
+kept_of_none f (Some p) = refl
+kept_of_none f None = refl
+
+pub kept_none : (p : AxisPlaces) → kept_places p None ≡ p
+kept_none p = rw (kept_of_none centers p.centers, kept_of_none labels p.labels, kept_of_none units p.units, kept_of_none kinds p.kinds) refl
+
 -- ---- the name's row
 
 row_known : (g : ℕ) (o : Option ℕ) → Some g ≡ row_answer o → (if ltb g centers then None else Some g) ≡ axis_row o

@@ -50,11 +50,15 @@ impl AxisPlaces {
     fn keep(self, given: Option<AxisField>) -> AxisPlaces
         ensures { result ≡ kept_places self given }
     {
-        AxisPlaces {
-            centers: keep(self.centers, given, CENTERS),
-            labels: keep(self.labels, given, LABELS),
-            units: keep(self.units, given, UNITS),
-            kinds: keep(self.kinds, given, KINDS),
+        // most lines give none of the four
+        match given {
+            None => self,
+            Some(_) => AxisPlaces {
+                centers: keep(self.centers, given, CENTERS),
+                labels: keep(self.labels, given, LABELS),
+                units: keep(self.units, given, UNITS),
+                kinds: keep(self.kinds, given, KINDS),
+            },
         }
     }
 }

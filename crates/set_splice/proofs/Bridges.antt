@@ -1,7 +1,8 @@
 -- What std's words for a part of a list that is replaced are in the repository's.
 -- Assumes nothing.
-use Rattle.std.proofs.Common.{◌≡◌, ℕ, ◌+◌, ◌-◌, ◌≤◌, List, ◌++◌, length, take, drop, ap, sym, ◌∙◌, arith, length-take-le, take_all}
-use lib.Seq.{sets, sets-eq, paste}
+use Rattle.std.proofs.Common.{◌≡◌, ℕ, ◌+◌, ◌-◌, ◌≤◌, List, ◌++◌, length, take, drop, ap, sym, ◌∙◌, arith, length-drop, length-take-le, take_all, take-append-drop}
+use mathlib.Core.List.{append_assoc}
+use lib.Seq.{sets, sets-eq, paste, drop-drop}
 use borrow.Rule.Slice.PartMut.{put_mid}
 use Rattle.std.proofs.lemmas.Slice.{put_mid-paste}
 
@@ -18,3 +19,16 @@ module _ {A : Type 0} (d : List A) where
       put_mid-paste at (end - at) d xs s (end - at) e (omega arith) l
       ∙ paste_sets s at (end - at) (omega arith) (omega (arith, n))
       ∙ ap (sets d at) (take_all (end - at) s (omega (arith, n)))
+
+  -- a part of d replaced by itself
+  pub sets_same : (at n : ℕ) → at + n ≤ length d → d ≡ sets d at (take n (drop at d))
+  sets_same at n h =
+      let k : length (take n (drop at d)) ≡ n = length-take-le n (drop at d) (omega (arith, length-drop at d)) in
+      sym (
+      sets-eq (take n (drop at d)) d at (omega (arith, k))
+      ∙ ap (λ m. take at d ++ take n (drop at d) ++ drop (at + m) d) k
+      ∙ ap (λ r. take at d ++ take n (drop at d) ++ r) (sym (drop-drop n at d))
+      ∙ append_assoc (take at d) (take n (drop at d)) (drop n (drop at d))
+      ∙ ap (λ r. take at d ++ r) (take-append-drop n (drop at d))
+      ∙ take-append-drop at d
+      )

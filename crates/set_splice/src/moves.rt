@@ -79,9 +79,10 @@ pub(crate) fn slide(d: &mut [u8], to: usize, from: usize, n: usize)
     requires from { from + n ≤ length d.old }
     ensures { d.new ≡ sets d.old to (take n (drop from d.old)) }
 {
-    if to <= from {
+    // bytes that stay where they are, as behind a value that keeps its length, need no move
+    if to < from {
         slide_down(d, to, from, n)
-    } else {
+    } else if from < to {
         slide_up(d, to, from, n)
     }
 }
