@@ -72,14 +72,19 @@ pub fn first<T>(lent: &mut [T], room: usize) -> &mut [T] {
     &mut lent[..n]
 }
 
-// Whether the bytes are the text and then as they were before the call.
+// Whether the bytes are the text and then as they were before the call. They are compared in place: a copy of what is expected would take
+// as much of the stack again.
 pub fn holds<const N: usize>(lent: &[u8; N], text: &[u8], before: u8) -> bool {
-    let mut expected = [before; N];
-    match expected.get_mut(..text.len()) {
-        Some(front) => {
-            front.copy_from_slice(text);
-            *lent == expected
-        }
+    match lent.get(text.len()..) {
+        Some(rest) => lent.starts_with(text) && is_all(rest, before),
         None => false,
+    }
+}
+
+// Whether each byte is this one: the first is, and each after it is as the one before.
+fn is_all(s: &[u8], byte: u8) -> bool {
+    match s.split_first() {
+        Some((first, rest)) => *first == byte && rest == &s[..rest.len()],
+        None => true,
     }
 }

@@ -3,10 +3,15 @@ use crate::case::{TABLE, VALUE};
 use format::Reading;
 use gate_frames::frame::Frame;
 
-// Whether a reading of the file gives the count and the table.
-pub fn lines_right(file: &[u8], table: &[u32; TABLE], count: usize) -> bool {
-    let mut fresh = [0u32; TABLE];
-    let answer = read_header::read::read(file, &mut fresh);
+// Whether a reading of the file, whose table goes to `fresh`, gives the count and the table.
+pub fn lines_right(
+    file: &[u8],
+    table: &[u32; TABLE],
+    count: usize,
+    fresh: &mut [u32; TABLE],
+) -> bool {
+    fresh.fill(0);
+    let answer = read_header::read::read(file, fresh);
     let n = count.min(TABLE);
     answer.refusal.number == 0 && answer.reading.lines as usize == count && fresh[..n] == table[..n]
 }
@@ -27,10 +32,10 @@ pub fn same_reading(a: &Reading, b: &Reading) -> bool {
     names(a) == names(b) && resized == *b
 }
 
-// Whether the value of the key is the one given.
-fn value_right(file: &[u8], key: &[u8], value: &[u8]) -> bool {
-    let mut out = [0u8; VALUE];
-    let answer = read_lookup::keys::copy_value(file, key, &mut out);
+// Whether the value of the key, which goes to `out`, is the one given.
+fn value_right(file: &[u8], key: &[u8], value: &[u8], out: &mut [u8; VALUE]) -> bool {
+    out.fill(0);
+    let answer = read_lookup::keys::copy_value(file, key, out);
     answer.refusal.number == 0
         && answer.found
         && answer.length == value.len() as u64
@@ -38,11 +43,11 @@ fn value_right(file: &[u8], key: &[u8], value: &[u8]) -> bool {
 }
 
 // Whether the keys of a run have their values.
-pub fn keys_right(file: &[u8], keys: &[u8]) -> bool {
+pub fn keys_right(file: &[u8], keys: &[u8], out: &mut [u8; VALUE]) -> bool {
     let mut frame = Frame::new(keys);
     let mut right = true;
     for _ in 0..frame.number() {
-        right &= value_right(file, frame.run(), frame.run());
+        right &= value_right(file, frame.run(), frame.run(), out);
     }
     right
 }

@@ -84,19 +84,21 @@ pub fn parse(bytes: &[u8]) -> Result<Case<'_>, Stop> {
     Ok(case)
 }
 
-// The buffer of packed bytes.
-pub fn unpack(packed: &[u8]) -> [u8; BUFFER] {
-    let mut buffer = [UNTOUCHED; BUFFER];
+// Makes a buffer of packed bytes. It is made in place, since by value the stack would hold it several times.
+pub fn unpack(buffer: &mut [u8; BUFFER], packed: &[u8]) {
+    buffer.fill(UNTOUCHED);
     let mut frame = Frame::new(packed);
     let mut at = 0;
     for _ in 0..frame.number() {
         let times = frame.number();
         let run = frame.run();
-        for _ in 0..times {
-            at = put(&mut buffer, at, run);
+        // an empty run stores nothing, however often it stands there
+        if !run.is_empty() {
+            for _ in 0..times {
+                at = put(buffer, at, run);
+            }
         }
     }
-    buffer
 }
 
 // Stores bytes from a place on, as many as there is room for; the place after them.

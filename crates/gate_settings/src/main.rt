@@ -11,7 +11,7 @@ mod case;
 mod settings;
 mod show;
 
-use case::{CASE, TABLE, UNSET};
+use case::{BUFFER, CASE, TABLE, UNSET, VALUE};
 use gate_frames::fault::{Fault, check};
 use gate_frames::frame::Frame;
 use gate_frames::{lent, walk};
@@ -34,19 +34,21 @@ impl From<Part> for Fault {
     }
 }
 
-// The table with the entries of a run.
-fn table_of(entries: &[u8]) -> [u32; TABLE] {
-    let mut table = [UNSET; TABLE];
-    lent::store(&mut table, entries);
-    table
+// Makes a table with the entries of a run.
+fn make_table(table: &mut [u32; TABLE], entries: &[u8]) {
+    table.fill(UNSET);
+    lent::store(table, entries);
 }
 
-// A fresh reading is shown where the case has a name.
+// A fresh reading is shown where the case has a name. Buffers and tables are made in place, and one buffer serves for every value that is read:
+// by value the stack would hold each of them several times.
 fn judge(rt: &impl Print, bytes: &[u8]) -> Result<(), Fault> {
     let case = case::parse(bytes)?;
-    let before = case::unpack(case.lent.buffer);
-    let mut buffer = before;
-    let mut table = table_of(case.lent.table);
+    let mut buffer = [0u8; BUFFER];
+    case::unpack(&mut buffer, case.lent.buffer);
+    let mut table = [0u32; TABLE];
+    make_table(&mut table, case.lent.table);
+    let mut value = [0u8; VALUE];
     let (left, right) = match (buffer.get_mut(..case.room), table.get_mut(..case.slots)) {
         (Some(buffer), Some(table)) => settings::run(buffer, table, case.first, case.settings),
         // more is to be lent than there is: nothing is run and nothing is right
@@ -54,19 +56,28 @@ fn judge(rt: &impl Print, bytes: &[u8]) -> Result<(), Fault> {
     };
     let file = Frame::new(&buffer).take(left.used);
     if !case.name.is_empty() {
-        show::show(rt, case.name, file, case.keys)?;
+        show::show(rt, case.name, file, case.keys, &mut value)?;
     }
     check(right, Part::Answers)?;
-    check(buffer == case::unpack(case.left.buffer), Part::Buffer)?;
-    check(table == table_of(case.left.table), Part::Table)?;
+    // what the buffer has to be, and then what it was
+    let mut other = [0u8; BUFFER];
+    case::unpack(&mut other, case.left.buffer);
+    check(buffer == other, Part::Buffer)?;
+    let mut expected = [0u32; TABLE];
+    make_table(&mut expected, case.left.table);
+    check(table == expected, Part::Table)?;
     if case.is_read {
-        let first = Frame::new(&before).take(case.first.used);
+        case::unpack(&mut other, case.lent.buffer);
+        let first = Frame::new(&other).take(case.first.used);
         let old = read_header::read::read_header(first).reading;
         let new = read_header::read::read_header(file).reading;
         let data = after::rest(first, old.length as usize);
-        check(after::lines_right(file, &table, left.count), Part::Lines)?;
+        check(
+            after::lines_right(file, &table, left.count, &mut expected),
+            Part::Lines,
+        )?;
         check(after::same_reading(&old, &new), Part::Reading)?;
-        check(after::keys_right(file, case.keys), Part::Keys)?;
+        check(after::keys_right(file, case.keys, &mut value), Part::Keys)?;
         check(data == after::rest(file, new.length as usize), Part::Rest)?;
     }
     Ok(())
